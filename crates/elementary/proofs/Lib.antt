@@ -1,0 +1,12 @@
+-- What the functions' proofs cite.
+pub mod Literals
+pub mod Floats
+pub mod Ints
+pub mod Powers
+pub mod Turns
+pub mod Nearest
+pub mod Range
+pub mod Digits53
+pub mod Unique
+pub mod Splits
+pub mod Exactness

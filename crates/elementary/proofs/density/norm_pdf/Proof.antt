@@ -1,0 +1,17 @@
+-- `elementary::norm_pdf` meets its contract. Assumes nothing.
+use mathlib.Core.Path.{_≡_}
+use borrow.Author.Needs.{needs}
+use Rattle.elementary.specs.Density.{densityOf}
+use Rattle.elementary.proofs.Literals.{sqrt2pi-is}
+use Rattle.elementary.proofs.density.norm_pdf.Statement.{statement}
+use Rattle.elementary.proofs.density.norm_pdf.Tie as tie
+
+exp-requires : tie.Need-exp-requires
+exp-requires c κs = search needs
+
+returns : tie.Need-returns
+unfolding densityOf
+returns c = rw (← sqrt2pi-is) (cc)
+
+pub norm-pdf-spec : {M : Type 1} → statement M
+norm-pdf-spec = tie.close (tie.spec exp-requires returns)

@@ -1,0 +1,16 @@
+use mathlib.Core.Path.{_≡_, sym}
+use borrow.Author.Needs.{needs}
+use mir.Syntax.{w32}
+use mir.ValLaws.{toZ-ofZ}
+use Rattle.elementary.proofs.Literals.{ln2hi-is, ln2lo-is}
+use Rattle.elementary.proofs.exponential.reduced.Statement.{statement}
+use Rattle.elementary.proofs.exponential.reduced.Tie as tie
+
+int-to-float-n : tie.Need-int-to-float-n
+int-to-float-n c = search needs
+
+returns : tie.Need-returns
+returns c = rw (← ln2hi-is, ← ln2lo-is) (search needs)
+
+pub reduced-spec : {M : Type 1} → statement M
+reduced-spec = tie.close (tie.spec int-to-float-n returns)

@@ -1,0 +1,8 @@
+-- What the contracts of the elementary functions say, in the order of document 01.
+pub mod Constants
+pub mod Simple
+pub mod Exp
+pub mod ExactCases
+pub mod Ln
+pub mod Density
+pub mod Units

@@ -1,0 +1,28 @@
+-- Document 01: "midpoint is (a+b)/2. signum is 1 for +0, -1 for -0, NaN for NaN. max and min pass over a NaN." And the absolute value.
+use mathlib.Core.Bool.{false, cond}
+use lib.Ieee.{Float, nan, inf, fin, neg, lt, isNan}
+use Rattle.ieee.specs.Rounded.{_⊕_, _⊘_}
+use Rattle.ieee.specs.Numbers.{one, two}
+
+abbrev pub midpointOf : Float → Float → Float
+midpointOf a b = (a ⊕ b) ⊘ two
+
+-- the sign alone decides: it is 1 or -1 at an infinity and at a zero too
+abbrev pub signumOf : Float → Float
+signumOf nan = nan
+signumOf (inf s) = cond s (neg one) one
+signumOf (fin s m e) = cond s (neg one) one
+
+-- the larger one; the first of two that are equal, which are the same but where they are zeros of unlike sign
+abbrev pub maxOf : Float → Float → Float
+maxOf a b = cond (isNan a) b (cond (lt a b) b a)
+
+-- the smaller one, and the first of two that are equal
+abbrev pub minOf : Float → Float → Float
+minOf a b = cond (isNan a) b (cond (lt b a) b a)
+
+-- with the sign cleared
+abbrev pub absOf : Float → Float
+absOf nan = nan
+absOf (inf s) = inf false
+absOf (fin s m e) = fin false m e

@@ -1,0 +1,10 @@
+-- What the contracts of `ieee` say, and the words in which every crate above writes its formulas.
+pub mod Rounded
+pub mod Decimal
+pub mod Numbers
+pub mod Same
+pub mod Rows
+pub mod Fused
+pub mod Sqrt
+pub mod Words
+pub mod Terms

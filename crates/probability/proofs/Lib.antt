@@ -1,0 +1,13 @@
+-- What the functions' proofs cite.
+pub mod Literals
+pub mod NonNeg
+pub mod Hart
+pub mod Self
+pub mod Quotient
+pub mod Tails
+pub mod Sizes
+pub mod Powers
+pub mod Reduce
+pub mod Between
+pub mod Once
+pub mod AsWritten

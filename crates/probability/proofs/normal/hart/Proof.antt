@@ -1,0 +1,27 @@
+-- `hart` meets its contract. Assumes nothing.
+use mathlib.Core.Path.{_≡_}
+use borrow.Author.Needs.{needs}
+use Rattle.probability.specs.NormCdf.{stepOf, hartOf}
+use Rattle.probability.proofs.normal.hart.Statement.{statement}
+use Rattle.probability.proofs.normal.hart.Tie as tie
+
+num-dual-requires : tie.Need-num-dual-requires
+num-dual-requires c κs = search needs
+
+den-dual-requires : tie.Need-den-dual-requires
+den-dual-requires c κs = search needs
+
+num-requires : tie.Need-num-requires
+num-requires c κs = search needs
+
+den-requires : tie.Need-den-requires
+den-requires c κs = search needs
+
+returns : tie.Need-returns
+returns c = rw (c .before .before .if1 .taken) (cc)
+
+returns-2 : tie.Need-returns-2
+returns-2 c = rw (c .before .before .if1 .left) (cc)
+
+pub hart-spec : {M : Type 1} → statement M
+hart-spec = tie.close (tie.spec num-dual-requires den-dual-requires num-requires den-requires returns returns-2)

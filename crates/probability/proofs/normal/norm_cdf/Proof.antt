@@ -1,0 +1,36 @@
+use Rattle.ieee.specs.Decimal.{decimal}
+use mathlib.Core.Path.{_≡_, sym, subst}
+use borrow.Author.Needs.{needs}
+use lib.Ieee.{Float, binary64, sub, ofBits}
+use Rattle.ieee.specs.Numbers.{one}
+use Rattle.ieee.specs.Fused.{fusedOf}
+use Rattle.probability.specs.NormCdf.{normBy, normCdfOf, productThenSum}
+use Rattle.probability.specs.Between.{Probability}
+use Rattle.probability.proofs.Between.{norm-within}
+use Rattle.probability.proofs.Once.{exact-sound}
+use Rattle.probability.proofs.normal.norm_cdf.Statement.{statement}
+use Rattle.probability.proofs.normal.norm_cdf.Tie as tie
+
+both : (x r : Float) → r ≡ normCdfOf x → (r ≡ normCdfOf x) × Probability x r
+both x r e = (e, subst (λ (y : Float). Probability x y) (sym e) (norm-within fusedOf exact-sound x))
+
+abs-requires : tie.Need-abs-requires
+abs-requires c κs = search needs
+
+upper-requires : tie.Need-upper-requires
+upper-requires c κs = search needs
+
+returns : tie.Need-returns
+unfolding normBy ofBits decimal
+returns c =
+    let w : sub binary64 one (c .before .upper .result) ≡ normCdfOf (c .before .before .before .args .x) = rw (c .if1 .taken) (cc) in
+    both _ _ w
+
+returns-2 : tie.Need-returns-2
+unfolding normBy ofBits decimal
+returns-2 c =
+    let w : c .before .upper .result ≡ normCdfOf (c .before .before .before .args .x) = rw (c .if1 .left) (cc) in
+    both _ _ w
+
+pub norm-cdf-spec : {M : Type 1} → statement M
+norm-cdf-spec = tie.close (tie.spec abs-requires upper-requires returns returns-2)

@@ -1,0 +1,12 @@
+-- `tail` meets its contract. Assumes nothing.
+use mathlib.Core.Path.{refl}
+use Rattle.elementary.proofs.Literals.{sqrt2pi-is}
+use Rattle.probability.proofs.Literals.{tailStart-is}
+use Rattle.probability.proofs.normal.tail.Statement.{statement}
+use Rattle.probability.proofs.normal.tail.Tie as tie
+
+returns : tie.Need-returns
+returns c = rw (← tailStart-is, ← sqrt2pi-is) refl
+
+pub tail-spec : {M : Type 1} → statement M
+tail-spec = tie.close (tie.spec returns)

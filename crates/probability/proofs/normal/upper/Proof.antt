@@ -1,0 +1,32 @@
+-- `upper` meets its contract. Assumes nothing.
+use mathlib.Core.Path.{_≡_}
+use borrow.Author.Needs.{needs}
+use lib.Ieee.{ofBits}
+use Rattle.probability.specs.NormCdf.{upperOf}
+use Rattle.probability.proofs.Literals.{limit-is, threshold-is}
+use Rattle.probability.proofs.normal.upper.Statement.{statement}
+use Rattle.probability.proofs.normal.upper.Tie as tie
+
+returns : tie.Need-returns
+unfolding upperOf ofBits
+returns c = rw (← limit-is, c .if1 .taken)
+
+exp-requires : tie.Need-exp-requires
+exp-requires c κs = search needs
+
+hart-requires : tie.Need-hart-requires
+hart-requires c κs = search needs
+
+tail-requires : tie.Need-tail-requires
+tail-requires c κs = search needs
+
+returns-2 : tie.Need-returns-2
+unfolding upperOf
+returns-2 c = rw (← limit-is, c .before .before .before .if1 .left, ← threshold-is, c .before .if2 .taken) (cc)
+
+returns-3 : tie.Need-returns-3
+unfolding upperOf
+returns-3 c = rw (← limit-is, c .before .before .before .if1 .left, ← threshold-is, c .before .if2 .left) (cc)
+
+pub upper-spec : {M : Type 1} → statement M
+upper-spec = tie.close (tie.spec returns exp-requires hart-requires tail-requires returns-2 returns-3)

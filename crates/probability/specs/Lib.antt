@@ -1,0 +1,4 @@
+-- What the contracts of the normal functions say.
+pub mod NormCdf
+pub mod Between
+pub mod Limits

@@ -1,0 +1,112 @@
+// norm_cdf.rs: Hart's double-precision algorithm (G. West, Wilmott 2005). The f64 function takes each
+// step of the two polynomials fused; the DualFwd one rounds the product and then the sum, so the two
+// differ in the last bits and neither may stand in for the other.
+ghost use mathlib.Core.Path.{_≡_};
+ghost use Rattle.ieee.specs.Fused.{fusedOf};
+ghost use Rattle.probability.specs.NormCdf.{productThenSum, stepOf, horner, numFirst, numRest, denFirst, denRest, hartOf, tailOf, upperOf, normCdfOf, normCdfDualOf};
+ghost use Rattle.probability.specs.Between.{Probability};
+
+const SQRT_2PI: f64 = 2.5066282746310005;
+
+// Between the rational branch and the tail's continued fraction: 5 × √2.
+const HART_THRESHOLD: f64 = 7.071067811865475;
+
+pub fn norm_cdf(x: f64) -> f64
+    ensures { λ r. ⌜ r ≡ normCdfOf x ⌝ }
+    ensures between { λ r. ⌜ Probability x r ⌝ }
+{
+    let cum = upper(elementary::abs(x), false);
+    if x > 0.0 { 1.0 - cum } else { cum }
+}
+
+pub fn norm_cdf_dual(x: f64) -> f64
+    ensures { λ r. ⌜ r ≡ normCdfDualOf x ⌝ }
+    ensures between { λ r. ⌜ Probability x r ⌝ }
+{
+    let cum = upper(elementary::abs(x), true);
+    if x > 0.0 { 1.0 - cum } else { cum }
+}
+
+// What lies above z, for a z at or above 0.
+fn upper(z: f64, dual: bool) -> f64
+    ensures { λ r. ⌜ r ≡ upperOf (stepOf dual) z ⌝ }
+{
+    if z > 37.0 {
+        return 0.0;
+    }
+    let e = elementary::exp(-z * z * 0.5);
+    if z < HART_THRESHOLD {
+        hart(z, e, dual)
+    } else {
+        tail(z, e)
+    }
+}
+
+// The quotient of Hart's two polynomials.
+fn hart(z: f64, e: f64, dual: bool) -> f64
+    ensures { λ r. ⌜ r ≡ hartOf (stepOf dual) z e ⌝ }
+{
+    if dual {
+        e * num_dual(z) / den_dual(z)
+    } else {
+        e * num(z) / den(z)
+    }
+}
+
+fn num(z: f64) -> f64
+    ensures { λ r. ⌜ r ≡ horner fusedOf z numFirst numRest ⌝ }
+{
+    let a = ieee::fused(3.52624965998911e-2, z, 0.700383064443688);
+    let a = ieee::fused(a, z, 6.37396220353165);
+    let a = ieee::fused(a, z, 33.912866078383);
+    let a = ieee::fused(a, z, 112.079291497871);
+    let a = ieee::fused(a, z, 221.213596169931);
+    ieee::fused(a, z, 220.206867912376)
+}
+
+fn den(z: f64) -> f64
+    ensures { λ r. ⌜ r ≡ horner fusedOf z denFirst denRest ⌝ }
+{
+    let a = ieee::fused(8.83883476483184e-2, z, 1.75566716318264);
+    let a = ieee::fused(a, z, 16.064177579207);
+    let a = ieee::fused(a, z, 86.7807322029461);
+    let a = ieee::fused(a, z, 296.564248779674);
+    let a = ieee::fused(a, z, 637.333633378831);
+    let a = ieee::fused(a, z, 793.826512519948);
+    ieee::fused(a, z, 440.413735824752)
+}
+
+fn num_dual(z: f64) -> f64
+    ensures { λ r. ⌜ r ≡ horner productThenSum z numFirst numRest ⌝ }
+{
+    let a = 3.52624965998911e-2 * z + 0.700383064443688;
+    let a = a * z + 6.37396220353165;
+    let a = a * z + 33.912866078383;
+    let a = a * z + 112.079291497871;
+    let a = a * z + 221.213596169931;
+    a * z + 220.206867912376
+}
+
+fn den_dual(z: f64) -> f64
+    ensures { λ r. ⌜ r ≡ horner productThenSum z denFirst denRest ⌝ }
+{
+    let a = 8.83883476483184e-2 * z + 1.75566716318264;
+    let a = a * z + 16.064177579207;
+    let a = a * z + 86.7807322029461;
+    let a = a * z + 296.564248779674;
+    let a = a * z + 637.333633378831;
+    let a = a * z + 793.826512519948;
+    a * z + 440.413735824752
+}
+
+// The tail: a continued fraction of five steps.
+fn tail(z: f64, e: f64) -> f64
+    ensures { λ r. ⌜ r ≡ tailOf z e ⌝ }
+{
+    let b = z + 0.65;
+    let b = z + 4.0 / b;
+    let b = z + 3.0 / b;
+    let b = z + 2.0 / b;
+    let b = z + 1.0 / b;
+    e / (b * SQRT_2PI)
+}
