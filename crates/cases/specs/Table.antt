@@ -38,6 +38,9 @@ two = fin false 1 (pos 1)
 abbrev three : Float
 three = fin false 3 (pos 0)
 
+abbrev four : Float
+four = fin false 1 (pos 2)
+
 abbrev seven : Float
 seven = fin false 7 (pos 0)
 
@@ -77,6 +80,7 @@ table =
     ∷ record { asked = N-dual minusThirtyEight; given = nought }
     ∷ record { asked = exp nought; given = one }
     ∷ record { asked = ln one; given = nought }
+    ∷ record { asked = sqrt four; given = two }
     ∷ record { asked = sqrt minusNought; given = minusNought }
     ∷ record { asked = fused two three one; given = seven }
     ∷ record { asked = signum minusNought; given = minusOne }

@@ -5,6 +5,7 @@ pub mod Numbers
 pub mod Same
 pub mod Rows
 pub mod Fused
+pub mod WholeRoot
 pub mod Sqrt
 pub mod Words
 pub mod Terms

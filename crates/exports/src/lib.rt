@@ -1,0 +1,79 @@
+// The ground functions for programs in other languages: C names, numbers in, a number out. Each promises
+// what the function that it calls promises.
+ghost use mathlib.Core.Path.{_≡_};
+ghost use lib.Dec.{T};
+ghost use lib.Ieee.Positive.{positive};
+ghost use Rattle.ieee.specs.Fused.{fusedOf};
+ghost use Rattle.ieee.specs.Rows.{Gives};
+ghost use Rattle.ieee.specs.Sqrt.{sqrtOf};
+ghost use Rattle.elementary.specs.Density.{densityOf};
+ghost use Rattle.elementary.specs.ExactCases.{exactCases};
+ghost use Rattle.elementary.specs.Exp.{expOf, expM1Of};
+ghost use Rattle.elementary.specs.Ln.{significandOf, exponentOf, ExactSplit, lnOf};
+ghost use Rattle.probability.specs.Between.{Probability};
+ghost use Rattle.probability.specs.NormCdf.{normCdfOf, normCdfDualOf};
+
+// a * b + c, rounded once.
+#[no_mangle]
+pub extern "C" fn calstwid_fused(a: f64, b: f64, c: f64) -> f64
+    ensures { λ r. ⌜ r ≡ fusedOf a b c ⌝ }
+{
+    ieee::fused(a, b, c)
+}
+
+// √x, rounded once.
+#[no_mangle]
+pub extern "C" fn calstwid_sqrt(x: f64) -> f64
+    ensures { λ r. ⌜ r ≡ sqrtOf x ⌝ }
+{
+    ieee::sqrt(x)
+}
+
+#[no_mangle]
+pub extern "C" fn calstwid_exp(x: f64) -> f64
+    ensures { λ r. ⌜ r ≡ expOf x ⌝ }
+    ensures exact { λ r. ⌜ Gives exactCases x r ⌝ }
+{
+    elementary::exp(x)
+}
+
+#[no_mangle]
+pub extern "C" fn calstwid_exp_m1(y: f64) -> f64
+    ensures { λ r. ⌜ r ≡ expM1Of y ⌝ }
+{
+    elementary::exp_m1(y)
+}
+
+#[no_mangle]
+pub extern "C" fn calstwid_ln(x: f64) -> f64
+    ensures { λ r. ⌜ r ≡ lnOf x ⌝ }
+    ensures split { λ r. ⌜ (T (positive x) → ExactSplit x (significandOf x) (exponentOf x)) ⌝ }
+{
+    elementary::ln(x)
+}
+
+// The density of the normal distribution.
+#[no_mangle]
+pub extern "C" fn calstwid_norm_pdf(d: f64) -> f64
+    ensures { λ r. ⌜ r ≡ densityOf d ⌝ }
+{
+    elementary::norm_pdf(d)
+}
+
+// The normal distribution function with fused steps, as the f64 pricers take it.
+#[no_mangle]
+pub extern "C" fn calstwid_norm_cdf(x: f64) -> f64
+    ensures { λ r. ⌜ r ≡ normCdfOf x ⌝ }
+    ensures between { λ r. ⌜ Probability x r ⌝ }
+{
+    probability::norm_cdf(x)
+}
+
+// The normal distribution function with a product and then a sum, as the DualFwd pricer takes it.
+#[no_mangle]
+pub extern "C" fn calstwid_norm_cdf_dual(x: f64) -> f64
+    ensures { λ r. ⌜ r ≡ normCdfDualOf x ⌝ }
+    ensures between { λ r. ⌜ Probability x r ⌝ }
+{
+    probability::norm_cdf_dual(x)
+}
