@@ -1,0 +1,19 @@
+-- `formulas::a_at` meets its contract. Assumes nothing.
+use mathlib.Core.Path.{_≡_}
+use Rattle.formulas.specs.HullWhite.{aAt}
+use borrow.Author.Needs.{needs}
+use Rattle.formulas.proofs.hullwhite.a_at.Statement.{statement}
+use Rattle.formulas.proofs.hullwhite.a_at.Tie as tie
+
+fused-requires : tie.Need-fused-requires
+fused-requires c κs = search needs
+
+exp-requires : tie.Need-exp-requires
+exp-requires c κs = search needs
+
+returns : tie.Need-returns
+unfolding aAt
+returns c = cc
+
+pub a-at-spec : {M : Type 1} → statement M
+a-at-spec = tie.close (tie.spec fused-requires exp-requires returns)

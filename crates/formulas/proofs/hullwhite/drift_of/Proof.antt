@@ -1,0 +1,19 @@
+-- `formulas::drift_of` meets its contract. Assumes nothing.
+use mathlib.Core.Path.{_≡_}
+use Rattle.formulas.specs.HullWhite.{driftOf}
+use borrow.Author.Needs.{needs}
+use Rattle.formulas.proofs.hullwhite.drift_of.Statement.{statement}
+use Rattle.formulas.proofs.hullwhite.drift_of.Tie as tie
+
+ln-requires : tie.Need-ln-requires
+ln-requires c κs = search needs
+
+fused-requires : tie.Need-fused-requires
+fused-requires c κs = search needs
+
+returns : tie.Need-returns
+unfolding driftOf
+returns c = cc
+
+pub drift-of-spec : {M : Type 1} → statement M
+drift-of-spec = tie.close (tie.spec ln-requires fused-requires returns)

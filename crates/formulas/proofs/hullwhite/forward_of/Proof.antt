@@ -1,0 +1,19 @@
+-- `formulas::forward_of` meets its contract. Assumes nothing.
+use mathlib.Core.Path.{_≡_}
+use Rattle.formulas.specs.HullWhite.{forwardOf}
+use borrow.Author.Needs.{needs}
+use Rattle.formulas.proofs.hullwhite.forward_of.Statement.{statement}
+use Rattle.formulas.proofs.hullwhite.forward_of.Tie as tie
+
+ln-requires : tie.Need-ln-requires
+ln-requires c κs = search needs
+
+day-requires : tie.Need-day-requires
+day-requires c κs = search needs
+
+returns : tie.Need-returns
+unfolding forwardOf
+returns c = cc
+
+pub forward-of-spec : {M : Type 1} → statement M
+forward-of-spec = tie.close (tie.spec ln-requires day-requires returns)

@@ -1,0 +1,16 @@
+-- `formulas::forward_slope_of` meets its contract. Assumes nothing.
+use mathlib.Core.Path.{_≡_}
+use Rattle.formulas.specs.HullWhite.{slopeOf}
+use borrow.Author.Needs.{needs}
+use Rattle.formulas.proofs.hullwhite.forward_slope_of.Statement.{statement}
+use Rattle.formulas.proofs.hullwhite.forward_slope_of.Tie as tie
+
+day-requires : tie.Need-day-requires
+day-requires c κs = search needs
+
+returns : tie.Need-returns
+unfolding slopeOf
+returns c = cc
+
+pub forward-slope-of-spec : {M : Type 1} → statement M
+forward-slope-of-spec = tie.close (tie.spec day-requires returns)

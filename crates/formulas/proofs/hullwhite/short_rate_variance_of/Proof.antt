@@ -1,0 +1,16 @@
+-- `formulas::short_rate_variance_of` meets its contract. Assumes nothing.
+use mathlib.Core.Path.{_≡_}
+use Rattle.formulas.specs.HullWhite.{shortRateVarianceOf}
+use borrow.Author.Needs.{needs}
+use Rattle.formulas.proofs.hullwhite.short_rate_variance_of.Statement.{statement}
+use Rattle.formulas.proofs.hullwhite.short_rate_variance_of.Tie as tie
+
+decay-of-requires : tie.Need-decay-of-requires
+decay-of-requires c κs = search needs
+
+returns : tie.Need-returns
+unfolding shortRateVarianceOf
+returns c = cc
+
+pub short-rate-variance-of-spec : {M : Type 1} → statement M
+short-rate-variance-of-spec = tie.close (tie.spec decay-of-requires returns)

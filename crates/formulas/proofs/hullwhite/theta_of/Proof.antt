@@ -1,0 +1,22 @@
+-- `formulas::theta_of` meets its contract. Assumes nothing.
+use mathlib.Core.Path.{_≡_}
+use Rattle.formulas.specs.HullWhite.{thetaOf}
+use borrow.Author.Needs.{needs}
+use Rattle.formulas.proofs.hullwhite.theta_of.Statement.{statement}
+use Rattle.formulas.proofs.hullwhite.theta_of.Tie as tie
+
+fused-requires : tie.Need-fused-requires
+fused-requires c κs = search needs
+
+decay-of-requires : tie.Need-decay-of-requires
+decay-of-requires c κs = search needs
+
+fused-requires-2 : tie.Need-fused-requires-2
+fused-requires-2 c κs = search needs
+
+returns : tie.Need-returns
+unfolding thetaOf
+returns c = cc
+
+pub theta-of-spec : {M : Type 1} → statement M
+theta-of-spec = tie.close (tie.spec fused-requires decay-of-requires fused-requires-2 returns)

@@ -1,0 +1,16 @@
+-- `formulas::zcb_of` meets its contract. Assumes nothing.
+use mathlib.Core.Path.{_≡_}
+use Rattle.formulas.specs.HullWhite.{zcbOf}
+use borrow.Author.Needs.{needs}
+use Rattle.formulas.proofs.hullwhite.zcb_of.Statement.{statement}
+use Rattle.formulas.proofs.hullwhite.zcb_of.Tie as tie
+
+exp-requires : tie.Need-exp-requires
+exp-requires c κs = search needs
+
+returns : tie.Need-returns
+unfolding zcbOf
+returns c = cc
+
+pub zcb-of-spec : {M : Type 1} → statement M
+zcb-of-spec = tie.close (tie.spec exp-requires returns)

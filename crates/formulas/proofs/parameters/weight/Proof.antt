@@ -1,0 +1,34 @@
+-- `weight` meets its contract. Assumes nothing.
+use mathlib.Core.Path.{_≡_}
+use mathlib.Core.Bool.{true, false}
+use borrow.Author.Needs.{needs}
+use lib.Ieee.{lt, binary64, ofBits}
+use Rattle.elementary.specs.Simple.{absOf}
+use Rattle.formulas.specs.Variance.{weightOf}
+use Rattle.formulas.proofs.Literals.{flat-is}
+use Rattle.formulas.proofs.parameters.weight.Statement.{statement}
+use Rattle.formulas.proofs.parameters.weight.Tie as tie
+
+abs-requires : tie.Need-abs-requires
+abs-requires c κs = search needs
+
+exp-requires : tie.Need-exp-requires
+exp-requires c κs = search needs
+
+exp-m1-requires : tie.Need-exp-m1-requires
+exp-m1-requires c κs = search needs
+
+returns : tie.Need-returns
+unfolding weightOf
+returns c =
+    let q : lt (absOf (c .before .before .args .alpha)) (ofBits binary64 0x3d71_9799_812d_ea11) ≡ true = cc in
+    rw (← flat-is, q)
+
+returns-2 : tie.Need-returns-2
+unfolding weightOf
+returns-2 c =
+    let q : lt (absOf (c .before .before .before .before .args .alpha)) (ofBits binary64 0x3d71_9799_812d_ea11) ≡ false = cc in
+    rw (← flat-is, q) (cc)
+
+pub weight-spec : {M : Type 1} → statement M
+weight-spec = tie.close (tie.spec abs-requires exp-requires exp-m1-requires returns returns-2)

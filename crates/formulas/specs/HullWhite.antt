@@ -1,0 +1,93 @@
+-- hullwhitemodel.rs: the analytic formulas, on factors that are already fetched. t is an option time, T a bond time; p is a factor. Every operation rounds once, in the Rust's order.
+use lib.Ieee.{Float, neg}
+use Rattle.ieee.specs.Rounded.{_⊕_, _⊖_, _⊗_, _⊘_}
+use Rattle.ieee.specs.Decimal.{decimal}
+use Rattle.ieee.specs.Numbers.{half, one, two, four}
+use Rattle.ieee.specs.Fused.{fusedOf}
+use Rattle.ieee.specs.Sqrt.{sqrtOf}
+use Rattle.elementary.specs.Exp.{expOf}
+use Rattle.elementary.specs.Ln.{lnOf}
+use Rattle.probability.specs.NormCdf.{normCdfOf}
+
+-- "h is 1.0/365.0"
+unfoldable pub h : Float
+h = one ⊘ decimal 365 0
+
+-- B(t, T) = (1 - exp(-alpha × (T - t)))/alpha
+unfoldable pub bOf : Float → Float → Float → Float
+bOf alpha t T = (one ⊖ expOf (neg alpha ⊗ (T ⊖ t))) ⊘ alpha
+
+-- 1 - exp(-2 × alpha × t)
+unfoldable pub decayOf : Float → Float → Float
+decayOf alpha t = one ⊖ expOf (neg two ⊗ alpha ⊗ t)
+
+-- the forward rate at a time: -ln(P(t + h)/P(t))/h
+unfoldable pub forwardOf : Float → Float → Float
+forwardOf p pPlus = neg (lnOf (pPlus ⊘ p)) ⊘ h
+
+-- b × f + ln(P(T)/P(t)), fused: of ln A what does not depend on sigma
+unfoldable pub driftOf : Float → Float → Float → Float → Float
+driftOf b forward pt pT = fusedOf b forward (lnOf (pT ⊘ pt))
+
+-- A from its parts: the exponential of the drift less sigma²/(4 × alpha) × decay × b × b, fused, decay being 1 - exp(-2 × alpha × t)
+unfoldable pub aAt : Float → Float → Float → Float → Float → Float
+aAt alpha sigma decay b drift = expOf (fusedOf (sigma ⊗ sigma ⊘ (four ⊗ alpha) ⊗ decay ⊗ b) (neg b) drift)
+
+-- A(t, T)
+abbrev pub aOf : Float → Float → Float → Float → Float → Float → Float → Float
+aOf alpha t sigma b forward pt pT = aAt alpha sigma (decayOf alpha t) b (driftOf b forward pt pT)
+
+-- A × exp(-B × r)
+unfoldable pub zcbOf : Float → Float → Float → Float
+zcbOf a b rate = a ⊗ expOf (neg b ⊗ rate)
+
+-- √((1 - exp(-2 × alpha × t))/(2 × alpha))
+unfoldable pub deviationOf : Float → Float → Float
+deviationOf alpha t = sqrtOf (decayOf alpha t ⊘ (two ⊗ alpha))
+
+-- a bond's volatility from its parts: sigma × B × √((1 - exp(-2 × alpha × t))/(2 × alpha))
+abbrev pub volatilityAt : Float → Float → Float → Float
+volatilityAt sigma b deviation = sigma ⊗ b ⊗ deviation
+
+-- `zcb_price_volatility`
+abbrev pub volatilityOf : Float → Float → Float → Float → Float
+volatilityOf alpha sigma t T = volatilityAt sigma (bOf alpha t T) (deviationOf alpha t)
+
+-- the forward rate's slope, from its values a day apart
+unfoldable pub slopeOf : Float → Float → Float
+slopeOf later earlier = (later ⊖ earlier) ⊘ h
+
+-- theta(t): sigma²/(2 × alpha) × (1 - exp(-2 × alpha × t)) + (alpha × f + slope), both sums fused
+unfoldable pub thetaOf : Float → Float → Float → Float → Float → Float
+thetaOf alpha t sigma forward slope = fusedOf (sigma ⊗ sigma ⊘ (two ⊗ alpha)) (decayOf alpha t) (fusedOf alpha forward slope)
+
+-- sigma² × (1 - exp(-2 × alpha × (T - t)))/(2 × alpha)
+unfoldable pub shortRateVarianceOf : Float → Float → Float → Float → Float
+shortRateVarianceOf alpha t T sigma = sigma ⊗ sigma ⊗ decayOf alpha (T ⊖ t) ⊘ (two ⊗ alpha)
+
+-- d1 = (0.5 × σp × σp + ln(P(T)/(X × P(t))))/σp, the sum fused; d2 = d1 - σp
+unfoldable pub d1Of : Float → Float → Float → Float
+d1Of sigmaP pT strikeValue = fusedOf (half ⊗ sigmaP) sigmaP (lnOf (pT ⊘ strikeValue)) ⊘ sigmaP
+
+-- a bond put: X × P(t) × N(-d2) - P(T) × N(-d1), fused
+unfoldable pub bondPutOf : Float → Float → Float → Float → Float
+bondPutOf sigmaP strike pt pT =
+    let d1 = d1Of sigmaP pT (strike ⊗ pt) in
+    fusedOf (strike ⊗ pt) (normCdfOf (neg (d1 ⊖ sigmaP))) (neg (pT ⊗ normCdfOf (neg d1)))
+
+-- a bond call: P(T) × N(d1) - X × P(t) × N(d2), fused
+unfoldable pub bondCallOf : Float → Float → Float → Float → Float
+bondCallOf sigmaP strike pt pT =
+    let d1 = d1Of sigmaP pT (strike ⊗ pt) in
+    fusedOf pT (normCdfOf d1) (neg (strike ⊗ pt ⊗ normCdfOf (d1 ⊖ sigmaP)))
+
+-- 1 + tau × K, fused
+unfoldable pub growthOf : Float → Float → Float
+growthOf tau strike = fusedOf tau strike one
+
+-- a caplet is (1 + tau × K) times a put on a bond with the strike 1/(1 + tau × K), tau being S - t; a floorlet is that many calls
+unfoldable pub optionletStrikeOf : Float → Float → Float → Float
+optionletStrikeOf strike t S = one ⊘ growthOf (S ⊖ t) strike
+
+unfoldable pub optionletOf : Float → Float → Float → Float → Float
+optionletOf strike t S option = growthOf (S ⊖ t) strike ⊗ option

@@ -1,0 +1,157 @@
+// hullwhitemodel.rs: the analytic formulas of the one-factor model, on factors that are already fetched.
+ghost use mathlib.Core.Path.{_≡_};
+ghost use Rattle.formulas.specs.HullWhite.{h, decayOf, bOf, forwardOf, driftOf, aAt, aOf, zcbOf, deviationOf, volatilityAt, volatilityOf, slopeOf, thetaOf, shortRateVarianceOf, d1Of, bondPutOf, bondCallOf, growthOf, optionletStrikeOf, optionletOf};
+
+// A day, the step of every finite difference.
+pub fn day() -> f64
+    ensures { λ r. ⌜ r ≡ h ⌝ }
+{
+    1.0 / 365.0
+}
+
+// B(t, T).
+pub fn b_of(alpha: f64, t: f64, bond: f64) -> f64
+    ensures { λ r. ⌜ r ≡ bOf alpha t bond ⌝ }
+{
+    (1.0 - elementary::exp(-alpha * (bond - t))) / alpha
+}
+
+// 1 less the decay of twice the mean reversion over a time.
+pub fn decay_of(alpha: f64, t: f64) -> f64
+    ensures { λ r. ⌜ r ≡ decayOf alpha t ⌝ }
+{
+    1.0 - elementary::exp(-2.0 * alpha * t)
+}
+
+// The forward rate over a day, from the factors at its two ends.
+pub fn forward_of(p: f64, p_plus: f64) -> f64
+    ensures { λ r. ⌜ r ≡ forwardOf p «p_plus» ⌝ }
+{
+    -elementary::ln(p_plus / p) / day()
+}
+
+// Of ln A(t, T) what does not depend on sigma, from b = B(t, T), the forward rate at t, and the factors
+// at t and T.
+pub fn drift_of(b: f64, forward: f64, p_t: f64, p_bond: f64) -> f64
+    ensures { λ r. ⌜ r ≡ driftOf b forward «p_t» «p_bond» ⌝ }
+{
+    ieee::fused(b, forward, elementary::ln(p_bond / p_t))
+}
+
+// A(t, T) from its parts, `decay` being that of the option time.
+pub fn a_at(alpha: f64, sigma: f64, decay: f64, b: f64, drift: f64) -> f64
+    ensures { λ r. ⌜ r ≡ aAt alpha sigma decay b drift ⌝ }
+{
+    let spread = sigma * sigma / (4.0 * alpha) * decay * b;
+    elementary::exp(ieee::fused(spread, -b, drift))
+}
+
+// A(t, T).
+pub fn a_of(alpha: f64, t: f64, sigma: f64, b: f64, forward: f64, p_t: f64, p_bond: f64) -> f64
+    ensures { λ r. ⌜ r ≡ aOf alpha t sigma b forward «p_t» «p_bond» ⌝ }
+{
+    let drift = drift_of(b, forward, p_t, p_bond);
+    a_at(alpha, sigma, decay_of(alpha, t), b, drift)
+}
+
+// A bond's price at a short rate.
+pub fn zcb_of(a: f64, b: f64, rate: f64) -> f64
+    ensures { λ r. ⌜ r ≡ zcbOf a b rate ⌝ }
+{
+    a * elementary::exp(-b * rate)
+}
+
+// The deviation of the state at the option time, for a sigma of 1.
+pub fn deviation_of(alpha: f64, t: f64) -> f64
+    ensures { λ r. ⌜ r ≡ deviationOf alpha t ⌝ }
+{
+    ieee::sqrt(decay_of(alpha, t) / (2.0 * alpha))
+}
+
+// The volatility of a bond's price, from its parts.
+pub fn volatility_at(sigma: f64, b: f64, deviation: f64) -> f64
+    ensures { λ r. ⌜ r ≡ volatilityAt sigma b deviation ⌝ }
+{
+    sigma * b * deviation
+}
+
+// The volatility of a bond's price.
+pub fn volatility_of(alpha: f64, sigma: f64, t: f64, bond: f64) -> f64
+    ensures { λ r. ⌜ r ≡ volatilityOf alpha sigma t bond ⌝ }
+{
+    volatility_at(sigma, b_of(alpha, t, bond), deviation_of(alpha, t))
+}
+
+// The slope of the forward rate, from its values a day apart.
+pub fn forward_slope_of(later: f64, earlier: f64) -> f64
+    ensures { λ r. ⌜ r ≡ slopeOf later earlier ⌝ }
+{
+    (later - earlier) / day()
+}
+
+// The drift of the short rate.
+pub fn theta_of(alpha: f64, t: f64, sigma: f64, forward: f64, slope: f64) -> f64
+    ensures { λ r. ⌜ r ≡ thetaOf alpha t sigma forward slope ⌝ }
+{
+    let drift = ieee::fused(alpha, forward, slope);
+    ieee::fused(sigma * sigma / (2.0 * alpha), decay_of(alpha, t), drift)
+}
+
+// The variance of the short rate at a later time.
+pub fn short_rate_variance_of(alpha: f64, t: f64, bond: f64, sigma: f64) -> f64
+    ensures { λ r. ⌜ r ≡ shortRateVarianceOf alpha t bond sigma ⌝ }
+{
+    sigma * sigma * decay_of(alpha, bond - t) / (2.0 * alpha)
+}
+
+fn bond_d1(sigma_p: f64, p_bond: f64, strike_value: f64) -> f64
+    ensures { λ r. ⌜ r ≡ d1Of «sigma_p» «p_bond» «strike_value» ⌝ }
+{
+    ieee::fused(
+        0.5 * sigma_p,
+        sigma_p,
+        elementary::ln(p_bond / strike_value),
+    )
+        / sigma_p
+}
+
+// A put on a bond, from the bond's volatility and the factors at the option's and the bond's time.
+pub fn bond_put_of(sigma_p: f64, strike: f64, p_t: f64, p_bond: f64) -> f64
+    ensures { λ r. ⌜ r ≡ bondPutOf «sigma_p» strike «p_t» «p_bond» ⌝ }
+{
+    let d1 = bond_d1(sigma_p, p_bond, strike * p_t);
+    let d2 = d1 - sigma_p;
+    let taken = p_bond * probability::norm_cdf(-d1);
+    ieee::fused(strike * p_t, probability::norm_cdf(-d2), -taken)
+}
+
+// A call on a bond.
+pub fn bond_call_of(sigma_p: f64, strike: f64, p_t: f64, p_bond: f64) -> f64
+    ensures { λ r. ⌜ r ≡ bondCallOf «sigma_p» strike «p_t» «p_bond» ⌝ }
+{
+    let d1 = bond_d1(sigma_p, p_bond, strike * p_t);
+    let d2 = d1 - sigma_p;
+    let taken = strike * p_t * probability::norm_cdf(d2);
+    ieee::fused(p_bond, probability::norm_cdf(d1), -taken)
+}
+
+// 1 + δ × K over an accrual period.
+fn growth(tau: f64, strike: f64) -> f64
+    ensures { λ r. ⌜ r ≡ growthOf tau strike ⌝ }
+{
+    ieee::fused(tau, strike, 1.0)
+}
+
+// The bond strike of a caplet or a floorlet.
+pub fn optionlet_strike_of(strike: f64, t: f64, end: f64) -> f64
+    ensures { λ r. ⌜ r ≡ optionletStrikeOf strike t end ⌝ }
+{
+    1.0 / growth(end - t, strike)
+}
+
+// A caplet from its bond put, and a floorlet from its bond call.
+pub fn optionlet_of(strike: f64, t: f64, end: f64, option: f64) -> f64
+    ensures { λ r. ⌜ r ≡ optionletOf strike t end option ⌝ }
+{
+    growth(end - t, strike) * option
+}

@@ -1,0 +1,31 @@
+// The formulas of the Hull-White model and of the market's quotes on plain numbers, as the Rust writes
+// them: every operation in its order, fused where it says mul_add. Nothing is refused here.
+mod hullwhite;
+mod parameters;
+mod quotes;
+
+pub use hullwhite::a_at;
+pub use hullwhite::a_of;
+pub use hullwhite::b_of;
+pub use hullwhite::bond_call_of;
+pub use hullwhite::bond_put_of;
+pub use hullwhite::day;
+pub use hullwhite::decay_of;
+pub use hullwhite::deviation_of;
+pub use hullwhite::drift_of;
+pub use hullwhite::forward_of;
+pub use hullwhite::forward_slope_of;
+pub use hullwhite::optionlet_of;
+pub use hullwhite::optionlet_strike_of;
+pub use hullwhite::short_rate_variance_of;
+pub use hullwhite::theta_of;
+pub use hullwhite::volatility_at;
+pub use hullwhite::volatility_of;
+pub use hullwhite::zcb_of;
+pub use parameters::variance_of;
+pub use quotes::annuity_step;
+pub use quotes::bachelier_call_of;
+pub use quotes::black_call_of;
+pub use quotes::black_put_of;
+pub use quotes::d1_of;
+pub use quotes::d2_of;

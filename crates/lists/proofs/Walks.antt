@@ -1,0 +1,125 @@
+-- One turn and the end of a walk along a list: what each definition of specs/ says of the list from place i on.
+use mathlib.Core.Path.{_≡_, refl}
+use mathlib.Core.Bool.{Bool, true, false, cond}
+use mathlib.Core.List.{List, [], _∷_, _++_, append-nil, append-assoc}
+use Prim.Native.Nat.{ℕ, zero, suc, _+_, _≤_, _<_}
+use native.Mathlib.Omega.{arith}
+use native.Mathlib.Nat.{not-suc-le-zero, le-of-suc-le-suc}
+use native.Mathlib.Numerals.{add-one}
+use lib.ListN.{length, getD, drop, take}
+use lib.Seq.{drop-cons, take-suc}
+use lib.Ieee.{Float, nan, le, eq}
+use Rattle.lists.specs.declared.checks.Test.{Test}
+use Rattle.lists.specs.Checks.{passesOf, allOf, stepOf, inOrderFrom, inOrder}
+use Rattle.lists.specs.Lookups.{just, nothing, factorAt, lastAt, volatilityAt, upTo}
+
+-- ---- the list from place i on
+pub next : (xs : List Float) (i : ℕ) → i < length xs → drop i xs ≡ getD xs i nan ∷ drop (i + 1) xs
+next xs i h = rw (add-one, drop-cons xs i nan)
+
+pub done : (xs : List Float) (i : ℕ) → length xs ≤ i → drop i xs ≡ []
+done [] zero h = refl
+done [] (suc i) h = refl
+done (x ∷ xs) zero h = absurd (not-suc-le-zero h)
+done (x ∷ xs) (suc i) h = done xs i (le-of-suc-le-suc h)
+
+-- ---- every number passes, whatever the test
+module _ (test : Test) (xs : List Float) (i : ℕ) where
+  pub all-turn : i < length xs → passesOf test (getD xs i nan) ≡ true → allOf test (drop i xs) ≡ allOf test (drop (i + 1) xs)
+  unfolding allOf
+  all-turn h q = rw (next xs i h, q)
+
+  pub all-stop : i < length xs → passesOf test (getD xs i nan) ≡ false → allOf test (drop i xs) ≡ false
+  unfolding allOf
+  all-stop h q = rw (next xs i h, q)
+
+  pub all-end : length xs ≤ i → allOf test (drop i xs) ≡ true
+  unfolding allOf
+  all-end h = rw (done xs i h)
+
+-- ---- every step passes, in either order
+module _ (strictly : Bool) (before : Float) (xs : List Float) (i : ℕ) where
+  pub order-turn : i < length xs → stepOf strictly before (getD xs i nan) ≡ true → inOrderFrom strictly before (drop i xs) ≡ inOrderFrom strictly (getD xs i nan) (drop (i + 1) xs)
+  unfolding inOrderFrom
+  order-turn h q = rw (next xs i h, q)
+
+  pub order-stop : i < length xs → stepOf strictly before (getD xs i nan) ≡ false → inOrderFrom strictly before (drop i xs) ≡ false
+  unfolding inOrderFrom
+  order-stop h q = rw (next xs i h, q)
+
+  pub order-end : length xs ≤ i → inOrderFrom strictly before (drop i xs) ≡ true
+  unfolding inOrderFrom
+  order-end h = rw (done xs i h)
+
+pub order-none : (strictly : Bool) (xs : List Float) → length xs ≡ 0 → inOrder strictly xs ≡ true
+unfolding inOrder
+order-none strictly [] h = refl
+order-none strictly (x ∷ xs) h = absurd (let z : ⊥ = omega arith in z)
+
+pub order-first : (strictly : Bool) (xs : List Float) → (length xs ≡ 0 → ⊥) → inOrderFrom strictly (getD xs 0 nan) (drop 1 xs) ≡ inOrder strictly xs
+unfolding inOrder
+order-first strictly [] h = absurd (h refl)
+order-first strictly (x ∷ xs) h = refl
+
+-- ---- the front part up to t
+module _ (t : Float) (xs : List Float) (i : ℕ) where
+  pub front-turn : i < length xs → le (getD xs i nan) t ≡ true → take i xs ++ upTo t (drop i xs) ≡ take (i + 1) xs ++ upTo t (drop (i + 1) xs)
+  unfolding upTo
+  front-turn h q = rw (next xs i h, q, add-one, take-suc xs i nan, append-assoc)
+
+  pub front-stop : i < length xs → le (getD xs i nan) t ≡ false → take i xs ++ upTo t (drop i xs) ≡ take i xs
+  unfolding upTo
+  front-stop h q = rw (next xs i h, q, append-nil)
+
+  pub front-end : length xs ≤ i → take i xs ++ upTo t (drop i xs) ≡ take i xs
+  unfolding upTo
+  front-end h = rw (done xs i h, append-nil)
+
+-- ---- the factor at a time
+module _ (xs fs : List Float) (t : Float) (i : ℕ) where
+  pub factor-turn : i < length xs → i < length fs → eq (getD xs i nan) t ≡ false → factorAt (drop i xs) (drop i fs) t ≡ factorAt (drop (i + 1) xs) (drop (i + 1) fs) t
+  unfolding factorAt
+  factor-turn h k q = rw (next xs i h, next fs i k, q)
+
+  pub factor-hit : i < length xs → i < length fs → eq (getD xs i nan) t ≡ true → factorAt (drop i xs) (drop i fs) t ≡ just (getD fs i nan)
+  unfolding factorAt
+  factor-hit h k q = rw (next xs i h, next fs i k, q)
+
+  pub factor-short : i < length xs → length fs ≤ i → factorAt (drop i xs) (drop i fs) t ≡ nothing
+  unfolding factorAt
+  factor-short h k = rw (next xs i h, done fs i k)
+
+  pub factor-end : length xs ≤ i → factorAt (drop i xs) (drop i fs) t ≡ nothing
+  unfolding factorAt
+  factor-end h = rw (done xs i h)
+
+-- ---- the last pillar at or before a time
+module _ (best : Float) (xs ss : List Float) (t : Float) (i : ℕ) where
+  pub last-turn : i < length xs → i < length ss → lastAt best (drop i xs) (drop i ss) t ≡ lastAt (cond (le (getD xs i nan) t) (getD ss i nan) best) (drop (i + 1) xs) (drop (i + 1) ss) t
+  unfolding lastAt
+  last-turn h k = rw (next xs i h, next ss i k)
+
+  pub last-short : i < length xs → length ss ≤ i → lastAt best (drop i xs) (drop i ss) t ≡ best
+  unfolding lastAt
+  last-short h k = rw (next xs i h, done ss i k)
+
+  pub last-end : length xs ≤ i → lastAt best (drop i xs) (drop i ss) t ≡ best
+  unfolding lastAt
+  last-end h = rw (done xs i h)
+
+pub volatility-first : (xs ss : List Float) (t : Float) → (length xs ≡ 0 → ⊥) → (length ss ≡ 0 → ⊥) → volatilityAt xs ss t ≡ just (lastAt (getD ss 0 nan) xs ss t)
+unfolding volatilityAt
+volatility-first [] ss t h k = absurd (h refl)
+volatility-first (x ∷ xs) [] t h k = absurd (k refl)
+volatility-first (x ∷ xs) (s ∷ ss) t h k = refl
+
+pub volatility-none : (xs ss : List Float) (t : Float) → length xs ≡ 0 → volatilityAt xs ss t ≡ nothing
+unfolding volatilityAt
+volatility-none [] ss t h = refl
+volatility-none (x ∷ xs) ss t h = absurd (let z : ⊥ = omega arith in z)
+
+pub volatility-short : (xs ss : List Float) (t : Float) → length ss ≡ 0 → volatilityAt xs ss t ≡ nothing
+unfolding volatilityAt
+volatility-short [] ss t h = refl
+volatility-short (x ∷ xs) [] t h = refl
+volatility-short (x ∷ xs) (s ∷ ss) t h = absurd (let z : ⊥ = omega arith in z)

@@ -1,0 +1,44 @@
+-- The factor at a time, the volatility at a time, and the times up to a time. Formulas cite `factorAt` by its name and its laws alone.
+use mathlib.Core.Bool.{cond}
+use mathlib.Core.List.{List, [], _∷_}
+use lib.Ieee.{Float, eq, le}
+use Rattle.lists.specs.declared.lookups.Found.{Found}
+use Rattle.lists.specs.declared.lookups.Found.the-variants as F
+use Rattle.lists.specs.Refusals.{Outcome, refused}
+
+-- what a list may lack
+pub data Maybe : Type 0 where
+  just : Float → Maybe
+  nothing : Maybe
+
+abbrev pub foundOf : Found → Maybe
+foundOf (F.At x) = just x
+foundOf F.Missing = nothing
+
+-- rule 8: the factor at the time among the curve's times that equals t, "numbers compared, so -0 equals +0"
+unfoldable pub factorAt : List Float → List Float → Float → Maybe
+factorAt [] fs t = nothing
+factorAt (x ∷ xs) [] t = nothing
+factorAt (x ∷ xs) (f ∷ fs) t = cond (eq x t) (just f) (factorAt xs fs t)
+
+-- "A time that the call needs is not among the curve's times": refused by 8, or as the rest says of the factor
+abbrev pub needing : {A : Type 0} → Maybe → (Float → Outcome A) → Outcome A
+needing (just p) rest = rest p
+needing nothing rest = refused 8
+
+-- "the last pillar at or before t, else the first": `best` is the answer so far
+unfoldable pub lastAt : Float → List Float → List Float → Float → Float
+lastAt best [] ss t = best
+lastAt best (x ∷ xs) [] t = best
+lastAt best (x ∷ xs) (s ∷ ss) t = lastAt (cond (le x t) s best) xs ss t
+
+unfoldable pub volatilityAt : List Float → List Float → Float → Maybe
+unfolding lastAt
+volatilityAt [] ss t = nothing
+volatilityAt (x ∷ xs) [] t = nothing
+volatilityAt (x ∷ xs) (s ∷ ss) t = just (lastAt s (x ∷ xs) (s ∷ ss) t)
+
+-- "The pillar times at or before t", from the front
+unfoldable pub upTo : Float → List Float → List Float
+upTo t [] = []
+upTo t (x ∷ xs) = cond (le x t) (x ∷ upTo t xs) []
