@@ -1,0 +1,47 @@
+-- `models::B` meets its contract: turned down by its rules, or the formula. Assumes nothing.
+use mathlib.Core.Path.{ap, _∙_}
+use borrow.Author.Needs.{needs}
+use Rattle.lists.specs.Refusals.{finishing}
+use Rattle.models.specs.Curves.{bOutcome}
+use Rattle.models.proofs.Refusing.{turned-down, passed}
+use Rattle.models.proofs.curves.B.Statement.{statement}
+use Rattle.models.proofs.curves.B.Tie as tie
+
+no-faults-requires : tie.Need-no-faults-requires
+no-faults-requires c κs = search needs
+
+option-rule-requires : tie.Need-option-rule-requires
+option-rule-requires c κs = search needs
+
+enum-known-checked : tie.Need-enum-known-checked
+enum-known-checked c = search needs
+
+enum-told : tie.Need-enum-told
+enum-told c = search needs
+
+b-of-requires : tie.Need-b-of-requires
+b-of-requires c κs = search needs
+
+served-requires : tie.Need-served-requires
+served-requires c κs = search needs
+
+returns : tie.Need-returns
+unfolding bOutcome
+returns c = rw (← c .before .before .before .before .no-faults .ensures, ← c .before .before .before .option-rule .ensures, c .before .checked .given .1, turned-down)
+
+returns-2 : tie.Need-returns-2
+unfolding bOutcome
+returns-2 c = rw (← c .before .before .before .before .before .no-faults .ensures) (passed _ (c .before .before .enum-told .given .1) (c .before .before .before .before .option-rule .ensures) (c .served .ensures ∙ ap finishing (c .before .b-of .ensures)))
+
+pub B-spec : {M : Type 1} → statement M
+B-spec =
+    tie.close
+    (tie.spec
+    no-faults-requires
+    option-rule-requires
+    enum-known-checked
+    enum-told
+    b-of-requires
+    served-requires
+    returns
+    returns-2)

@@ -1,0 +1,47 @@
+-- `models::short_rate_variance` meets its contract: turned down by its rules, or the formula. Assumes nothing.
+use mathlib.Core.Path.{ap, _∙_}
+use borrow.Author.Needs.{needs}
+use Rattle.lists.specs.Refusals.{finishing}
+use Rattle.models.specs.Curves.{shortRateVarianceOutcome}
+use Rattle.models.proofs.Refusing.{turned-down, passed}
+use Rattle.models.proofs.curves.short_rate_variance.Statement.{statement}
+use Rattle.models.proofs.curves.short_rate_variance.Tie as tie
+
+no-faults-requires : tie.Need-no-faults-requires
+no-faults-requires c κs = search needs
+
+option-rule-requires : tie.Need-option-rule-requires
+option-rule-requires c κs = search needs
+
+enum-known-checked : tie.Need-enum-known-checked
+enum-known-checked c = search needs
+
+enum-told : tie.Need-enum-told
+enum-told c = search needs
+
+short-rate-variance-of-requires : tie.Need-short-rate-variance-of-requires
+short-rate-variance-of-requires c κs = search needs
+
+served-requires : tie.Need-served-requires
+served-requires c κs = search needs
+
+returns : tie.Need-returns
+unfolding shortRateVarianceOutcome
+returns c = rw (← c .before .before .before .before .no-faults .ensures, ← c .before .before .before .option-rule .ensures, c .before .checked .given .1, turned-down)
+
+returns-2 : tie.Need-returns-2
+unfolding shortRateVarianceOutcome
+returns-2 c = rw (← c .before .before .before .before .before .no-faults .ensures) (passed _ (c .before .before .enum-told .given .1) (c .before .before .before .before .option-rule .ensures) (c .served .ensures ∙ ap finishing (c .before .short-rate-variance-of .ensures)))
+
+pub short-rate-variance-spec : {M : Type 1} → statement M
+short-rate-variance-spec =
+    tie.close
+    (tie.spec
+    no-faults-requires
+    option-rule-requires
+    enum-known-checked
+    enum-told
+    short-rate-variance-of-requires
+    served-requires
+    returns
+    returns-2)

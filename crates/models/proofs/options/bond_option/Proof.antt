@@ -1,0 +1,27 @@
+-- `models::bond_option` meets its contract: a put or a call, as asked. Assumes nothing.
+use borrow.Author.Needs.{needs}
+use Rattle.models.proofs.options.bond_option.Statement.{statement}
+use Rattle.models.proofs.options.bond_option.Tie as tie
+
+enum-told : tie.Need-enum-told
+enum-told c = search needs
+
+bond-put-of-requires : tie.Need-bond-put-of-requires
+bond-put-of-requires c κs = search needs
+
+enum-told-2 : tie.Need-enum-told-2
+enum-told-2 c = search needs
+
+bond-call-of-requires : tie.Need-bond-call-of-requires
+bond-call-of-requires c κs = search needs
+
+returns : tie.Need-returns
+returns c = rw (c .before .enum-told .given .1) (c .bond-put-of .ensures)
+
+returns-2 : tie.Need-returns-2
+returns-2 c = rw (c .before .enum-told2 .given .1) (c .bond-call-of .ensures)
+
+pub bond-option-spec : {M : Type 1} → statement M
+bond-option-spec =
+    tie.close
+    (tie.spec enum-told bond-put-of-requires enum-told-2 bond-call-of-requires returns returns-2)

@@ -1,0 +1,45 @@
+-- `models::pillars_reached` meets its contract: an empty part where the volatility is refused, else the part that `lists::reached` hands back. Assumes nothing.
+use borrow.Author.Needs.{needs}
+use Rattle.models.specs.Schedules.{reachedOf}
+use Rattle.models.proofs.Refusing.{left-out, part-passed}
+use Rattle.models.proofs.schedules.pillars_reached.Statement.{statement}
+use Rattle.models.proofs.schedules.pillars_reached.Tie as tie
+
+pillar-faults-requires : tie.Need-pillar-faults-requires
+pillar-faults-requires c κs = search needs
+
+volatility-rule-requires : tie.Need-volatility-rule-requires
+volatility-rule-requires c κs = search needs
+
+enum-told : tie.Need-enum-told
+enum-told c = search needs
+
+slice-aggregate-result : tie.Need-slice-aggregate-result
+slice-aggregate-result c = search needs
+
+enum-told-2 : tie.Need-enum-told-2
+enum-told-2 c = search needs
+
+reached-requires : tie.Need-reached-requires
+reached-requires c κs = search needs
+
+returns : tie.Need-returns
+unfolding reachedOf
+returns c = rw (← c .before .before .before .before .pillar-faults .ensures, ← c .before .before .before .volatility-rule .ensures, c .before .enum-told .given .1, left-out)
+
+returns-2 : tie.Need-returns-2
+unfolding reachedOf
+returns-2 c = rw (← c .before .before .before .before .pillar-faults .ensures) (part-passed _ (c .before .enum-told2 .given .1) (c .before .before .before .volatility-rule .ensures) (c .reached .ensures))
+
+pub pillars-reached-spec : {M : Type 1} → statement M
+pillars-reached-spec =
+    tie.close
+    (tie.spec
+    pillar-faults-requires
+    volatility-rule-requires
+    enum-told
+    slice-aggregate-result
+    enum-told-2
+    reached-requires
+    returns
+    returns-2)

@@ -1,0 +1,70 @@
+-- The other formulas of hullwhitemodel.rs as calls: B, A, zcb_price, zcb_price_volatility, short_rate_variance, the forward rate and theta. "In the formulas `t` is an option time, `T` or `S` a bond time."
+use mathlib.Core.Bool.{cond}
+use mathlib.Core.List.{List}
+use lib.Ieee.{Float, lt}
+use Rattle.ieee.specs.Rounded.{_⊕_, _⊖_}
+use Rattle.ieee.specs.Numbers.{zero, two}
+use Rattle.ieee.specs.Fused.{fusedOf}
+use Rattle.lists.specs.Refusals.{Outcome, unless, finishing}
+use Rattle.lists.specs.Lookups.{factorAt, needing}
+use Rattle.lists.specs.Faults.{curveFaults}
+use Rattle.formulas.specs.HullWhite.{h, bOf, forwardOf, aOf, zcbOf, volatilityOf, slopeOf, thetaOf, shortRateVarianceOf}
+use Rattle.models.specs.Rules.{noFaults, optionRule, forwardRule, thetaRule}
+
+unfoldable pub bOutcome : Float → Float → Float → Outcome Float
+bOutcome alpha t T = unless (optionRule noFaults alpha t T zero zero) (finishing (bOf alpha t T))
+
+unfoldable pub volatilityOutcome : Float → Float → Float → Float → Outcome Float
+volatilityOutcome alpha sigma t T = unless (optionRule noFaults alpha t T sigma zero) (finishing (volatilityOf alpha sigma t T))
+
+unfoldable pub shortRateVarianceOutcome : Float → Float → Float → Float → Outcome Float
+shortRateVarianceOutcome alpha t T sigma = unless (optionRule noFaults alpha t T sigma zero) (finishing (shortRateVarianceOf alpha t T sigma))
+
+-- A(t, T) wants the factors at t, T and t + h
+unfoldable pub aPriced : Float → List Float → List Float → Float → Float → Float → Outcome Float
+aPriced alpha ts fs t T sigma =
+    needing (factorAt ts fs t) (λ pt.
+    needing (factorAt ts fs T) (λ pT.
+    needing (factorAt ts fs (t ⊕ h)) (λ pPlus.
+    finishing (aOf alpha t sigma (bOf alpha t T) (forwardOf pt pPlus) pt pT))))
+
+unfoldable pub aOutcome : Float → List Float → List Float → Float → Float → Float → Outcome Float
+aOutcome alpha ts fs t T sigma = unless (optionRule (curveFaults ts fs) alpha t T sigma zero) (aPriced alpha ts fs t T sigma)
+
+-- the price at t of a bond that ends at T, at the short rate r
+unfoldable pub zcbPriced : Float → List Float → List Float → Float → Float → Float → Float → Outcome Float
+zcbPriced alpha ts fs r t T sigma =
+    needing (factorAt ts fs t) (λ pt.
+    needing (factorAt ts fs T) (λ pT.
+    needing (factorAt ts fs (t ⊕ h)) (λ pPlus.
+    finishing (zcbOf (aOf alpha t sigma (bOf alpha t T) (forwardOf pt pPlus) pt pT) (bOf alpha t T) r))))
+
+unfoldable pub zcbOutcome : Float → List Float → List Float → Float → Float → Float → Float → Outcome Float
+zcbOutcome alpha ts fs r t T sigma = unless (optionRule (curveFaults ts fs) alpha t T sigma r) (zcbPriced alpha ts fs r t T sigma)
+
+-- the forward rate at t wants the factors at t and t + h
+unfoldable pub forwardPriced : List Float → List Float → Float → Outcome Float
+forwardPriced ts fs t =
+    needing (factorAt ts fs t) (λ p.
+    needing (factorAt ts fs (t ⊕ h)) (λ pPlus.
+    finishing (forwardOf p pPlus)))
+
+unfoldable pub forwardOutcome : List Float → List Float → Float → Outcome Float
+forwardOutcome ts fs t = unless (forwardRule (curveFaults ts fs) t) (forwardPriced ts fs t)
+
+-- theta: where t is above h the forward's slope is taken back to t - h, else ahead to t + 2 × h, that sum fused
+unfoldable pub thetaFrom : Float → List Float → List Float → Float → Float → Float → Float → Outcome Float
+thetaFrom alpha ts fs t sigma p pPlus =
+    let forward = forwardOf p pPlus in
+    cond (lt h t)
+    (needing (factorAt ts fs (t ⊖ h)) (λ pMinus. finishing (thetaOf alpha t sigma forward (slopeOf forward (forwardOf pMinus p)))))
+    (needing (factorAt ts fs (fusedOf two h t)) (λ pPlus2. finishing (thetaOf alpha t sigma forward (slopeOf (forwardOf pPlus pPlus2) forward))))
+
+unfoldable pub thetaPriced : Float → List Float → List Float → Float → Float → Outcome Float
+thetaPriced alpha ts fs t sigma =
+    needing (factorAt ts fs t) (λ p.
+    needing (factorAt ts fs (t ⊕ h)) (λ pPlus.
+    thetaFrom alpha ts fs t sigma p pPlus))
+
+unfoldable pub thetaOutcome : Float → List Float → List Float → Float → Float → Outcome Float
+thetaOutcome alpha ts fs t sigma = unless (thetaRule (curveFaults ts fs) alpha t sigma) (thetaPriced alpha ts fs t sigma)

@@ -1,0 +1,37 @@
+-- Kinds 1 to 4 of document 01: caplets, floorlets, bond puts and bond calls, on a curve of times ts and factors fs.
+use Prim.Native.Nat.{ℕ}
+use mathlib.Core.List.{List}
+use lib.Ieee.{Float}
+use Rattle.lists.specs.Refusals.{Outcome, unless, finishing}
+use Rattle.lists.specs.Lookups.{factorAt, needing}
+use Rattle.lists.specs.Faults.{curveFaults}
+use Rattle.formulas.specs.HullWhite.{volatilityOf, bondPutOf, bondCallOf, optionletStrikeOf, optionletOf}
+use Rattle.models.specs.declared.options.BondOption.{BondOption}
+use Rattle.models.specs.declared.options.BondOption.the-variants.{Put, Call}
+use Rattle.models.specs.Rules.{optionRule}
+
+abbrev pub bondOptionOf : BondOption → Float → Float → Float → Float → Float
+bondOptionOf Put sigmaP strike pt pT = bondPutOf sigmaP strike pt pT
+bondOptionOf Call sigmaP strike pt pT = bondCallOf sigmaP strike pt pT
+
+-- a bond option that rules 1 to 7 let through: the factors at t and T, then the formula
+unfoldable pub bondOptionPriced : BondOption → Float → List Float → List Float → Float → Float → Float → Float → Outcome Float
+bondOptionPriced option alpha ts fs t T strike sigma =
+    needing (factorAt ts fs t) (λ pt.
+    needing (factorAt ts fs T) (λ pT.
+    finishing (bondOptionOf option (volatilityOf alpha sigma t T) strike pt pT)))
+
+-- kinds 3 and 4: option time, bond time, strike, sigma
+unfoldable pub bondOptionOutcome : BondOption → Float → List Float → List Float → Float → Float → Float → Float → Outcome Float
+bondOptionOutcome option alpha ts fs t T strike sigma = unless (optionRule (curveFaults ts fs) alpha t T sigma strike) (bondOptionPriced option alpha ts fs t T strike sigma)
+
+-- a caplet from a bond put, a floorlet from a bond call
+unfoldable pub optionletPriced : BondOption → Float → List Float → List Float → Float → Float → Float → Float → Outcome Float
+optionletPriced option alpha ts fs strike t S sigma =
+    needing (factorAt ts fs t) (λ pt.
+    needing (factorAt ts fs S) (λ pS.
+    finishing (optionletOf strike t S (bondOptionOf option (volatilityOf alpha sigma t S) (optionletStrikeOf strike t S) pt pS))))
+
+-- kinds 1 and 2: strike, start, end, sigma
+unfoldable pub optionletOutcome : BondOption → Float → List Float → List Float → Float → Float → Float → Float → Outcome Float
+optionletOutcome option alpha ts fs strike t S sigma = unless (optionRule (curveFaults ts fs) alpha t S sigma strike) (optionletPriced option alpha ts fs strike t S sigma)

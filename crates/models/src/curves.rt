@@ -1,0 +1,194 @@
+// hullwhitemodel.rs: the affine bond price and what it is made of, the drift and the forward rate.
+ghost use mathlib.Core.Path.{_≡_};
+ghost use mathlib.Core.Bool.{true};
+ghost use Rattle.lists.specs.Checks.{inOrder};
+ghost use Rattle.lists.specs.Refusals.{outcomeOf};
+ghost use Rattle.models.specs.Curves.{bOutcome, volatilityOutcome, shortRateVarianceOutcome, aPriced, aOutcome, zcbPriced, zcbOutcome, forwardPriced, forwardOutcome, thetaPriced, thetaFrom, thetaOutcome};
+use super::rules;
+use lists::Checked;
+use lists::Found;
+use lists::Price;
+use lists::Refusal;
+
+pub fn B(alpha: f64, t: f64, bond: f64) -> Price
+    ensures { λ r. ⌜ outcomeOf r ≡ bOutcome alpha t bond ⌝ }
+{
+    let checked = rules::option_rule(rules::no_faults(), alpha, t, bond, 0.0, 0.0);
+    match checked {
+        Checked::Refused(refusal) => Price::Refused(refusal),
+        Checked::Passed => lists::served(formulas::b_of(alpha, t, bond)),
+    }
+}
+
+pub fn zcb_price_volatility(alpha: f64, sigma: f64, t: f64, bond: f64) -> Price
+    ensures { λ r. ⌜ outcomeOf r ≡ volatilityOutcome alpha sigma t bond ⌝ }
+{
+    let checked = rules::option_rule(rules::no_faults(), alpha, t, bond, sigma, 0.0);
+    match checked {
+        Checked::Refused(refusal) => Price::Refused(refusal),
+        Checked::Passed => lists::served(formulas::volatility_of(alpha, sigma, t, bond)),
+    }
+}
+
+pub fn short_rate_variance(alpha: f64, t: f64, bond: f64, sigma: f64) -> Price
+    ensures { λ r. ⌜ outcomeOf r ≡ shortRateVarianceOutcome alpha t bond sigma ⌝ }
+{
+    let checked = rules::option_rule(rules::no_faults(), alpha, t, bond, sigma, 0.0);
+    match checked {
+        Checked::Refused(refusal) => Price::Refused(refusal),
+        Checked::Passed => lists::served(formulas::short_rate_variance_of(alpha, t, bond, sigma)),
+    }
+}
+
+pub fn A(alpha: f64, times: &[f64], factors: &[f64], t: f64, bond: f64, sigma: f64) -> Price
+    ensures { λ r. ⌜ outcomeOf r ≡ aOutcome alpha (now (times .entry)) (now (factors .entry)) t bond sigma ⌝ }
+{
+    let curve = lists::curve_faults(times, factors);
+    let checked = rules::option_rule(curve, alpha, t, bond, sigma, 0.0);
+    match checked {
+        Checked::Refused(refusal) => Price::Refused(refusal),
+        Checked::Passed => a_priced(alpha, times, factors, t, bond, sigma),
+    }
+}
+
+fn a_priced(alpha: f64, times: &[f64], factors: &[f64], t: f64, bond: f64, sigma: f64) -> Price
+    requires { ⌜ inOrder true (now times) ≡ true ⌝ }
+    ensures { λ r. ⌜ outcomeOf r ≡ aPriced alpha (now (times .entry)) (now (factors .entry)) t bond sigma ⌝ }
+{
+    let Found::At(p_t) = lists::factor_sorted(times, factors, t) else {
+        return Price::Refused(Refusal::OffCurve);
+    };
+    let Found::At(p_bond) = lists::factor_sorted(times, factors, bond) else {
+        return Price::Refused(Refusal::OffCurve);
+    };
+    let Found::At(p_plus) = lists::factor_sorted(times, factors, t + formulas::day()) else {
+        return Price::Refused(Refusal::OffCurve);
+    };
+    let b = formulas::b_of(alpha, t, bond);
+    let forward = formulas::forward_of(p_t, p_plus);
+    lists::served(formulas::a_of(alpha, t, sigma, b, forward, p_t, p_bond))
+}
+
+pub fn zcb_price(
+    alpha: f64,
+    times: &[f64],
+    factors: &[f64],
+    rate: f64,
+    t: f64,
+    bond: f64,
+    sigma: f64,
+) -> Price
+    ensures { λ r. ⌜ outcomeOf r ≡ zcbOutcome alpha (now (times .entry)) (now (factors .entry)) rate t bond sigma ⌝ }
+{
+    let curve = lists::curve_faults(times, factors);
+    let checked = rules::option_rule(curve, alpha, t, bond, sigma, rate);
+    match checked {
+        Checked::Refused(refusal) => Price::Refused(refusal),
+        Checked::Passed => zcb_priced(alpha, times, factors, rate, t, bond, sigma),
+    }
+}
+
+fn zcb_priced(
+    alpha: f64,
+    times: &[f64],
+    factors: &[f64],
+    rate: f64,
+    t: f64,
+    bond: f64,
+    sigma: f64,
+) -> Price
+    requires { ⌜ inOrder true (now times) ≡ true ⌝ }
+    ensures { λ r. ⌜ outcomeOf r ≡ zcbPriced alpha (now (times .entry)) (now (factors .entry)) rate t bond sigma ⌝ }
+{
+    let Found::At(p_t) = lists::factor_sorted(times, factors, t) else {
+        return Price::Refused(Refusal::OffCurve);
+    };
+    let Found::At(p_bond) = lists::factor_sorted(times, factors, bond) else {
+        return Price::Refused(Refusal::OffCurve);
+    };
+    let Found::At(p_plus) = lists::factor_sorted(times, factors, t + formulas::day()) else {
+        return Price::Refused(Refusal::OffCurve);
+    };
+    let b = formulas::b_of(alpha, t, bond);
+    let forward = formulas::forward_of(p_t, p_plus);
+    let a = formulas::a_of(alpha, t, sigma, b, forward, p_t, p_bond);
+    lists::served(formulas::zcb_of(a, b, rate))
+}
+
+pub fn forward_rate(times: &[f64], factors: &[f64], t: f64) -> Price
+    ensures { λ r. ⌜ outcomeOf r ≡ forwardOutcome (now (times .entry)) (now (factors .entry)) t ⌝ }
+{
+    let curve = lists::curve_faults(times, factors);
+    let checked = rules::forward_rule(curve, t);
+    match checked {
+        Checked::Refused(refusal) => Price::Refused(refusal),
+        Checked::Passed => forward_priced(times, factors, t),
+    }
+}
+
+fn forward_priced(times: &[f64], factors: &[f64], t: f64) -> Price
+    requires { ⌜ inOrder true (now times) ≡ true ⌝ }
+    ensures { λ r. ⌜ outcomeOf r ≡ forwardPriced (now (times .entry)) (now (factors .entry)) t ⌝ }
+{
+    let Found::At(p) = lists::factor_sorted(times, factors, t) else {
+        return Price::Refused(Refusal::OffCurve);
+    };
+    let Found::At(p_plus) = lists::factor_sorted(times, factors, t + formulas::day()) else {
+        return Price::Refused(Refusal::OffCurve);
+    };
+    lists::served(formulas::forward_of(p, p_plus))
+}
+
+pub fn theta(alpha: f64, times: &[f64], factors: &[f64], t: f64, sigma: f64) -> Price
+    ensures { λ r. ⌜ outcomeOf r ≡ thetaOutcome alpha (now (times .entry)) (now (factors .entry)) t sigma ⌝ }
+{
+    let curve = lists::curve_faults(times, factors);
+    let checked = rules::theta_rule(curve, alpha, t, sigma);
+    match checked {
+        Checked::Refused(refusal) => Price::Refused(refusal),
+        Checked::Passed => theta_priced(alpha, times, factors, t, sigma),
+    }
+}
+
+fn theta_priced(alpha: f64, times: &[f64], factors: &[f64], t: f64, sigma: f64) -> Price
+    requires { ⌜ inOrder true (now times) ≡ true ⌝ }
+    ensures { λ r. ⌜ outcomeOf r ≡ thetaPriced alpha (now (times .entry)) (now (factors .entry)) t sigma ⌝ }
+{
+    let Found::At(p) = lists::factor_sorted(times, factors, t) else {
+        return Price::Refused(Refusal::OffCurve);
+    };
+    let Found::At(p_plus) = lists::factor_sorted(times, factors, t + formulas::day()) else {
+        return Price::Refused(Refusal::OffCurve);
+    };
+    theta_from(alpha, times, factors, t, sigma, p, p_plus)
+}
+
+// A difference around t, or, within a day of 0, one ahead of it.
+fn theta_from(
+    alpha: f64,
+    times: &[f64],
+    factors: &[f64],
+    t: f64,
+    sigma: f64,
+    p: f64,
+    p_plus: f64,
+) -> Price
+    requires { ⌜ inOrder true (now times) ≡ true ⌝ }
+    ensures { λ r. ⌜ outcomeOf r ≡ thetaFrom alpha (now (times .entry)) (now (factors .entry)) t sigma p «p_plus» ⌝ }
+{
+    let h = formulas::day();
+    let forward = formulas::forward_of(p, p_plus);
+    if t > h {
+        let Found::At(p_minus) = lists::factor_sorted(times, factors, t - h) else {
+            return Price::Refused(Refusal::OffCurve);
+        };
+        let slope = formulas::forward_slope_of(forward, formulas::forward_of(p_minus, p));
+        lists::served(formulas::theta_of(alpha, t, sigma, forward, slope))
+    } else {
+        let Found::At(p_plus2) = lists::factor_sorted(times, factors, ieee::fused(2.0, h, t)) else {
+            return Price::Refused(Refusal::OffCurve);
+        };
+        let slope = formulas::forward_slope_of(formulas::forward_of(p_plus, p_plus2), forward);
+        lists::served(formulas::theta_of(alpha, t, sigma, forward, slope))
+    }
+}

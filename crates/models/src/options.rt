@@ -1,0 +1,228 @@
+// hullwhitemodel.rs: caplets, floorlets, bond puts and bond calls (kinds 1 to 4).
+ghost use mathlib.Core.Path.{_≡_};
+ghost use mathlib.Core.Bool.{true};
+ghost use Rattle.lists.specs.Checks.{inOrder};
+ghost use Rattle.lists.specs.Refusals.{outcomeOf};
+ghost use Rattle.lists.specs.Faults.{curveFaults};
+ghost use Rattle.models.specs.Options.{bondOptionOf, bondOptionPriced, optionletPriced, bondOptionOutcome, optionletOutcome};
+ghost use Rattle.models.specs.declared.options.BondOption.the-variants as Option;
+use super::rules;
+use lists::Checked;
+use lists::Faults;
+use lists::Found;
+use lists::Price;
+use lists::Refusal;
+
+pub enum BondOption {
+    Put,
+    Call,
+}
+
+// Kind 1.
+pub fn caplet_price(
+    alpha: f64,
+    times: &[f64],
+    factors: &[f64],
+    strike: f64,
+    t: f64,
+    end: f64,
+    sigma: f64,
+) -> Price
+    ensures { λ r. ⌜ outcomeOf r ≡ optionletOutcome Option.Put alpha (now (times .entry)) (now (factors .entry)) strike t end sigma ⌝ }
+{
+    let curve = lists::curve_faults(times, factors);
+    optionlet_on(
+        BondOption::Put,
+        curve,
+        alpha,
+        times,
+        factors,
+        strike,
+        t,
+        end,
+        sigma,
+    )
+}
+
+// Kind 2.
+pub fn floorlet_price(
+    alpha: f64,
+    times: &[f64],
+    factors: &[f64],
+    strike: f64,
+    t: f64,
+    end: f64,
+    sigma: f64,
+) -> Price
+    ensures { λ r. ⌜ outcomeOf r ≡ optionletOutcome Option.Call alpha (now (times .entry)) (now (factors .entry)) strike t end sigma ⌝ }
+{
+    let curve = lists::curve_faults(times, factors);
+    optionlet_on(
+        BondOption::Call,
+        curve,
+        alpha,
+        times,
+        factors,
+        strike,
+        t,
+        end,
+        sigma,
+    )
+}
+
+// Kind 3.
+pub fn bond_put_price(
+    alpha: f64,
+    times: &[f64],
+    factors: &[f64],
+    t: f64,
+    bond: f64,
+    strike: f64,
+    sigma: f64,
+) -> Price
+    ensures { λ r. ⌜ outcomeOf r ≡ bondOptionOutcome Option.Put alpha (now (times .entry)) (now (factors .entry)) t bond strike sigma ⌝ }
+{
+    let curve = lists::curve_faults(times, factors);
+    bond_option_on(
+        BondOption::Put,
+        curve,
+        alpha,
+        times,
+        factors,
+        t,
+        bond,
+        strike,
+        sigma,
+    )
+}
+
+// Kind 4.
+pub fn bond_call_price(
+    alpha: f64,
+    times: &[f64],
+    factors: &[f64],
+    t: f64,
+    bond: f64,
+    strike: f64,
+    sigma: f64,
+) -> Price
+    ensures { λ r. ⌜ outcomeOf r ≡ bondOptionOutcome Option.Call alpha (now (times .entry)) (now (factors .entry)) t bond strike sigma ⌝ }
+{
+    let curve = lists::curve_faults(times, factors);
+    bond_option_on(
+        BondOption::Call,
+        curve,
+        alpha,
+        times,
+        factors,
+        t,
+        bond,
+        strike,
+        sigma,
+    )
+}
+
+// The same on a curve whose faults are known: the calls above show it, and so does whoever works them
+// once for many jobs.
+pub fn bond_option_on(
+    option: BondOption,
+    curve: Faults,
+    alpha: f64,
+    times: &[f64],
+    factors: &[f64],
+    t: f64,
+    bond: f64,
+    strike: f64,
+    sigma: f64,
+) -> Price
+    requires { ⌜ curve ≡ curveFaults (now times) (now factors) ⌝ }
+    ensures { λ r. ⌜ outcomeOf r ≡ bondOptionOutcome option alpha (now (times .entry)) (now (factors .entry)) t bond strike sigma ⌝ }
+{
+    let checked = rules::option_rule(curve, alpha, t, bond, sigma, strike);
+    match checked {
+        Checked::Refused(refusal) => Price::Refused(refusal),
+        Checked::Passed => {
+            bond_option_priced(option, alpha, times, factors, t, bond, strike, sigma)
+        }
+    }
+}
+
+pub fn optionlet_on(
+    option: BondOption,
+    curve: Faults,
+    alpha: f64,
+    times: &[f64],
+    factors: &[f64],
+    strike: f64,
+    t: f64,
+    end: f64,
+    sigma: f64,
+) -> Price
+    requires { ⌜ curve ≡ curveFaults (now times) (now factors) ⌝ }
+    ensures { λ r. ⌜ outcomeOf r ≡ optionletOutcome option alpha (now (times .entry)) (now (factors .entry)) strike t end sigma ⌝ }
+{
+    let checked = rules::option_rule(curve, alpha, t, end, sigma, strike);
+    match checked {
+        Checked::Refused(refusal) => Price::Refused(refusal),
+        Checked::Passed => {
+            optionlet_priced(option, alpha, times, factors, strike, t, end, sigma)
+        }
+    }
+}
+
+fn bond_option_priced(
+    option: BondOption,
+    alpha: f64,
+    times: &[f64],
+    factors: &[f64],
+    t: f64,
+    bond: f64,
+    strike: f64,
+    sigma: f64,
+) -> Price
+    requires { ⌜ inOrder true (now times) ≡ true ⌝ }
+    ensures { λ r. ⌜ outcomeOf r ≡ bondOptionPriced option alpha (now (times .entry)) (now (factors .entry)) t bond strike sigma ⌝ }
+{
+    let Found::At(p_t) = lists::factor_sorted(times, factors, t) else {
+        return Price::Refused(Refusal::OffCurve);
+    };
+    let Found::At(p_bond) = lists::factor_sorted(times, factors, bond) else {
+        return Price::Refused(Refusal::OffCurve);
+    };
+    let sigma_p = formulas::volatility_of(alpha, sigma, t, bond);
+    lists::served(bond_option(option, sigma_p, strike, p_t, p_bond))
+}
+
+fn optionlet_priced(
+    option: BondOption,
+    alpha: f64,
+    times: &[f64],
+    factors: &[f64],
+    strike: f64,
+    t: f64,
+    end: f64,
+    sigma: f64,
+) -> Price
+    requires { ⌜ inOrder true (now times) ≡ true ⌝ }
+    ensures { λ r. ⌜ outcomeOf r ≡ optionletPriced option alpha (now (times .entry)) (now (factors .entry)) strike t end sigma ⌝ }
+{
+    let Found::At(p_t) = lists::factor_sorted(times, factors, t) else {
+        return Price::Refused(Refusal::OffCurve);
+    };
+    let Found::At(p_end) = lists::factor_sorted(times, factors, end) else {
+        return Price::Refused(Refusal::OffCurve);
+    };
+    let sigma_p = formulas::volatility_of(alpha, sigma, t, end);
+    let x = formulas::optionlet_strike_of(strike, t, end);
+    let price = bond_option(option, sigma_p, x, p_t, p_end);
+    lists::served(formulas::optionlet_of(strike, t, end, price))
+}
+
+fn bond_option(option: BondOption, sigma_p: f64, strike: f64, p_t: f64, p_bond: f64) -> f64
+    ensures { λ r. ⌜ r ≡ bondOptionOf option «sigma_p» strike «p_t» «p_bond» ⌝ }
+{
+    match option {
+        BondOption::Put => formulas::bond_put_of(sigma_p, strike, p_t, p_bond),
+        BondOption::Call => formulas::bond_call_of(sigma_p, strike, p_t, p_bond),
+    }
+}
