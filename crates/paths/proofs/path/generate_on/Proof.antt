@@ -1,0 +1,131 @@
+-- `paths::path::generate_on` meets its contract: the rules turn the call down, or the walk along the grid does, or the points of the whole grid are handed to `finish`. Assumes nothing.
+use mathlib.Core.Path.{_≡_, refl, sym, ap, _∙_}
+use mathlib.Core.Bool.{Bool}
+use mathlib.Core.List.{List}
+use Prim.Native.Nat.{ℕ, _≤_}
+use borrow.Author.Needs.{needs}
+use denote.Ref.{now}
+use lib.Dec.{eqb, ltb}
+use lib.ListN.{length, take, replicate}
+use lib.Ieee.{Float}
+use Rattle.ieee.specs.Numbers.{zero}
+use Rattle.lists.specs.declared.curves.Faults.{Faults}
+use Rattle.lists.specs.Refusals.{Outcome, served, checkedNumber}
+use Rattle.lists.specs.Faults.{pillarFaults, curveFaults, gridFaults}
+use Rattle.paths.specs.Written.{finishingList, storedOf, numberOfList}
+use Rattle.paths.specs.Generate.{startsBelow, startState, pathRule, pathFrom, generateOutcome}
+use Rattle.paths.proofs.Outcomes.{turned-down, let-through, grid-fits, lent-is, back-fits, back-is, values-are, rule-of, walk-refused, walk-done}
+use Rattle.paths.proofs.path.generate_on.Statement.{statement}
+use Rattle.paths.proofs.path.generate_on.Tie as tie
+
+-- ---- the working list, and what a call that is let through knows of its grid
+abbrev work : List Float
+work = replicate 1024 zero
+
+rule : (r : tie.After-path-rule) → let a = r .before .before .before .before .before .before .before .before .before .before .before .args in
+    checkedNumber (r .path-rule .result) ≡ pathRule (pillarFaults (now (a .pillars)) (now (a .sigmas))) (curveFaults (now (a .times)) (now (a .factors))) (gridFaults (now (a .grid)) (now (a .draws))) (eqb (length (now (a .pillars))) 0) (startsBelow (now (a .grid))) (ltb (length (now (a .out))) (length (now (a .grid)))) (a .alpha)
+rule r =
+    rule-of _ _ _ (r .before .before .before .pillar-faults .ensures) (r .before .before .before .before .before .before .before .before .before .before .before .pre) (r .before .before .grid-faults .ensures) (r .before .starts-below .ensures) (r .path-rule .ensures)
+
+fit : (e : tie.After-enum-told) → let a = e .before .before .before .before .before .before .before .before .before .before .before .before .before .args in (length (now (a .grid)) ≤ 1024) × (length (now (a .draws)) ≡ length (now (a .grid))) × (length (now (a .grid)) ≤ length (now (a .out)))
+fit e = let a = e .before .before .before .before .before .before .before .before .before .before .before .before .before .args in grid-fits _ _ _ _ _ _ _ (now (a .grid)) (now (a .draws)) (e .before .before .before .before .grid-faults .ensures) (e .enum-told .given .1) (e .before .before .path-rule .ensures)
+
+abbrev worked : tie.After-walk-grid → List Float
+worked v = v .walk-grid .last .1 .1 .1 .1 .1 .1 .1 .0
+
+-- ---- the needs
+pillar-faults-requires : tie.Need-pillar-faults-requires
+pillar-faults-requires c κs = search needs
+
+grid-faults-requires : tie.Need-grid-faults-requires
+grid-faults-requires c κs = search needs
+
+starts-below-requires : tie.Need-starts-below-requires
+starts-below-requires c κs = search needs
+
+path-rule-requires : tie.Need-path-rule-requires
+path-rule-requires c κs = search needs
+
+enum-known-checked : tie.Need-enum-known-checked
+enum-known-checked c = search needs
+
+returns : tie.Need-returns
+unfolding generateOutcome
+returns c =
+    let r = c .before .before .before in
+    let a = r .before .before .before .before .before .before .before .before .before .before .before .args in
+    rw (turned-down (finishingList (pathFrom (a .alpha) (now (a .pillars)) (now (a .sigmas)) (now (a .times)) (now (a .factors)) startState (now (a .grid)) (now (a .draws)))) (c .before .checked .given .1) (rule r)) (refl, refl)
+
+enum-told : tie.Need-enum-told
+enum-told c = search needs
+
+array-borrow-prefix-work : tie.Need-array-borrow-prefix-work
+array-borrow-prefix-work c = fit c .0
+
+slice-aggregate-walk-grid : tie.Need-slice-aggregate-walk-grid
+slice-aggregate-walk-grid c = lent-is work _ (fit (c .before) .0)
+
+walk-grid-requires : tie.Need-walk-grid-requires
+walk-grid-requires c κs = (sym (lent-is work _ (fit (c .before) .0)), fit (c .before) .1)
+
+enum-known-walk : tie.Need-enum-known-walk
+enum-known-walk c = search needs
+
+returns-2 : tie.Need-returns-2
+unfolding generateOutcome
+returns-2 c =
+    let v = c .before .before .before .before in
+    let e = v .before .before in
+    let a = e .before .before .before .before .before .before .before .before .before .before .before .before .before .args in
+    let w = walk-refused (worked v) (c .before .walk .given .1) (v .walk-grid .ensures) in
+    rw (let-through (finishingList (pathFrom (a .alpha) (now (a .pillars)) (now (a .sigmas)) (now (a .times)) (now (a .factors)) startState (now (a .grid)) (now (a .draws)))) (e .enum-told .given .1) (rule (e .before .before)), w) (refl, refl)
+
+enum-told-2 : tie.Need-enum-told-2
+enum-told-2 c = search needs
+
+array-share-prefix-work : tie.Need-array-share-prefix-work
+array-share-prefix-work c = let v = c .before .before .before in back-fits work _ (fit (v .before .before) .0) (worked v) (v .walk-grid .kept .1 .1 .1 .1 .1 .1 .1 .0)
+
+slice-aggregate-finish : tie.Need-slice-aggregate-finish
+slice-aggregate-finish c = let v = c .before .before .before .before in back-is work _ (fit (v .before .before) .0) (worked v) (v .walk-grid .kept .1 .1 .1 .1 .1 .1 .1 .0)
+
+finish-requires : tie.Need-finish-requires
+finish-requires c κs =
+    let v = c .before .before .before .before .before in
+    rw (← back-is work _ (fit (v .before .before) .0) (worked v) (v .walk-grid .kept .1 .1 .1 .1 .1 .1 .1 .0)) (fit (v .before .before) .2)
+
+same-length : tie.Need-same-length
+same-length c = search needs
+
+returns-3 : tie.Need-returns-3
+unfolding generateOutcome
+returns-3 c =
+    let v = c .before .before .before .before .before .before .before .before in
+    let e = v .before .before in
+    let a = e .before .before .before .before .before .before .before .before .before .before .before .before .before .args in
+    let w = values-are work _ (fit e .0) (worked v) (v .walk-grid .kept .1 .1 .1 .1 .1 .1 .1 .0) in
+    let d = walk-done (worked v) (c .before .before .before .before .before .enum-told2 .given .1) (v .walk-grid .ensures) in
+    rw (let-through (finishingList (pathFrom (a .alpha) (now (a .pillars)) (now (a .sigmas)) (now (a .times)) (now (a .factors)) startState (now (a .grid)) (now (a .draws)))) (e .enum-told .given .1) (rule (e .before .before)), d, ← w) (c .before .before .finish .ensures)
+
+pub generate-on-spec : {M : Type 1} → statement M
+generate-on-spec =
+    tie.close
+    (tie.spec
+    pillar-faults-requires
+    grid-faults-requires
+    starts-below-requires
+    path-rule-requires
+    enum-known-checked
+    returns
+    enum-told
+    array-borrow-prefix-work
+    slice-aggregate-walk-grid
+    walk-grid-requires
+    enum-known-walk
+    returns-2
+    enum-told-2
+    array-share-prefix-work
+    slice-aggregate-finish
+    finish-requires
+    same-length
+    returns-3)

@@ -1,0 +1,16 @@
+-- `paths::point_of` meets its contract. Assumes nothing.
+use mathlib.Core.Path.{_≡_}
+use Rattle.paths.specs.Generate.{pointOf}
+use borrow.Author.Needs.{needs}
+use Rattle.paths.proofs.path.point_of.Statement.{statement}
+use Rattle.paths.proofs.path.point_of.Tie as tie
+
+fused-requires : tie.Need-fused-requires
+fused-requires c κs = search needs
+
+returns : tie.Need-returns
+unfolding pointOf
+returns c = cc
+
+pub point-of-spec : {M : Type 1} → statement M
+point-of-spec = tie.close (tie.spec fused-requires returns)

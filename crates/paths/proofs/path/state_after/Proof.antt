@@ -1,0 +1,26 @@
+-- `paths::state_after` meets its contract. Assumes nothing.
+use mathlib.Core.Path.{_≡_}
+use Rattle.paths.specs.Generate.{stateAfter}
+use borrow.Author.Needs.{needs}
+use Rattle.paths.proofs.path.state_after.Statement.{statement}
+use Rattle.paths.proofs.path.state_after.Tie as tie
+
+exp-requires : tie.Need-exp-requires
+exp-requires c κs = search needs
+
+fused-requires : tie.Need-fused-requires
+fused-requires c κs = search needs
+
+sqrt-requires : tie.Need-sqrt-requires
+sqrt-requires c κs = search needs
+
+fused-requires-2 : tie.Need-fused-requires-2
+fused-requires-2 c κs = search needs
+
+returns : tie.Need-returns
+unfolding stateAfter
+returns c = cc
+
+pub state-after-spec : {M : Type 1} → statement M
+state-after-spec =
+    tie.close (tie.spec exp-requires fused-requires sqrt-requires fused-requires-2 returns)

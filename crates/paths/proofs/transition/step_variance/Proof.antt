@@ -1,0 +1,19 @@
+-- `paths::step_variance` meets its contract. Assumes nothing.
+use mathlib.Core.Path.{_≡_}
+use Rattle.paths.specs.Transition.{stepVariance}
+use borrow.Author.Needs.{needs}
+use Rattle.paths.proofs.transition.step_variance.Statement.{statement}
+use Rattle.paths.proofs.transition.step_variance.Tie as tie
+
+int-to-float-start : tie.Need-int-to-float-start
+int-to-float-start c = search needs
+
+variance-of-requires : tie.Need-variance-of-requires
+variance-of-requires c κs = search needs
+
+returns : tie.Need-returns
+unfolding stepVariance
+returns c = cc
+
+pub step-variance-spec : {M : Type 1} → statement M
+step-variance-spec = tie.close (tie.spec int-to-float-start variance-of-requires returns)

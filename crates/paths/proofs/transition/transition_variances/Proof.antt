@@ -1,0 +1,105 @@
+-- `paths::transition::transition_variances` meets its contract: the rules turn the call down, or the variances of all steps are worked and handed to `finish`. Assumes nothing.
+use mathlib.Core.Path.{_≡_, refl, sym, ap, _∙_}
+use mathlib.Core.List.{List}
+use Prim.Native.Nat.{ℕ, _≤_}
+use native.Mathlib.Omega.{arith}
+use borrow.Author.Needs.{needs}
+use denote.Ref.{now}
+use lib.Dec.{eqb}
+use lib.ListN.{length, take, replicate}
+use lib.Ieee.{Float}
+use Rattle.ieee.specs.Numbers.{zero}
+use Rattle.lists.specs.declared.curves.Faults.{Faults}
+use Rattle.lists.specs.Refusals.{Outcome, served, checkedNumber}
+use Rattle.lists.specs.Faults.{pillarFaults}
+use Rattle.paths.specs.Written.{finishingList, storedOf, numberOfList}
+use Rattle.paths.specs.Transition.{transitionRule, variancesOf, transitionOutcome}
+use Rattle.paths.proofs.Outcomes.{turned-down, let-through, steps-fit, lent-is, back-fits, back-is, values-are}
+use Rattle.paths.proofs.transition.transition_variances.Statement.{statement}
+use Rattle.paths.proofs.transition.transition_variances.Tie as tie
+
+-- ---- the working list, and what a call that is let through knows of its steps
+abbrev work : List Float
+work = replicate 1024 zero
+
+rule : (r : tie.After-transition-rule) → let a = r .before .before .before .before .before .args in checkedNumber (r .transition-rule .result) ≡ transitionRule (pillarFaults (now (a .times)) (now (a .sigmas))) (eqb (length (now (a .times))) 0) (a .alpha) (a .steps) (length (now (a .out))) (a .time-step)
+rule r =
+    let a = r .before .before .before .before .before .args in
+    r .transition-rule .ensures ∙ ap (λ (f : Faults). transitionRule f (eqb (length (now (a .times))) 0) (a .alpha) (a .steps) (length (now (a .out))) (a .time-step)) (r .before .pillar-faults .ensures)
+
+fit : (e : tie.After-enum-told) → let a = e .before .before .before .before .before .before .before .args in (a .steps ≤ 1024) × (a .steps ≤ length (now (a .out)))
+fit e = steps-fit _ _ _ _ _ _ (e .enum-told .given .1) (e .before .before .transition-rule .ensures)
+
+abbrev worked : tie.After-variances → List Float
+worked v = v .variances .last .1 .1 .1 .1 .0
+
+-- ---- the needs
+pillar-faults-requires : tie.Need-pillar-faults-requires
+pillar-faults-requires c κs = search needs
+
+transition-rule-requires : tie.Need-transition-rule-requires
+transition-rule-requires c κs = search needs
+
+enum-known-checked : tie.Need-enum-known-checked
+enum-known-checked c = search needs
+
+returns : tie.Need-returns
+unfolding transitionOutcome
+returns c =
+    let r = c .before .before .before in
+    let a = r .before .before .before .before .before .args in
+    rw (turned-down (finishingList (served (variancesOf (a .alpha) (now (a .times)) (now (a .sigmas)) (a .time-step) 0 (a .steps)))) (c .before .checked .given .1) (rule r)) (refl, refl)
+
+enum-told : tie.Need-enum-told
+enum-told c = search needs
+
+array-borrow-prefix-work : tie.Need-array-borrow-prefix-work
+array-borrow-prefix-work c = fit c .0
+
+slice-aggregate-variances : tie.Need-slice-aggregate-variances
+slice-aggregate-variances c = lent-is work _ (fit (c .before) .0)
+
+variances-requires : tie.Need-variances-requires
+variances-requires c κs = rw (← lent-is work _ (fit (c .before) .0)) (fit (c .before) .0)
+
+array-share-prefix-work : tie.Need-array-share-prefix-work
+array-share-prefix-work c = let v = c .before in back-fits work _ (fit (v .before .before) .0) (worked v) (v .variances .kept .1 .1 .1 .1 .0)
+
+slice-aggregate-finish : tie.Need-slice-aggregate-finish
+slice-aggregate-finish c = let v = c .before .before in back-is work _ (fit (v .before .before) .0) (worked v) (v .variances .kept .1 .1 .1 .1 .0)
+
+finish-requires : tie.Need-finish-requires
+finish-requires c κs =
+    let v = c .before .before .before in
+    rw (← back-is work _ (fit (v .before .before) .0) (worked v) (v .variances .kept .1 .1 .1 .1 .0)) (fit (v .before .before) .1)
+
+same-length : tie.Need-same-length
+same-length c = search needs
+
+returns-2 : tie.Need-returns-2
+unfolding transitionOutcome
+returns-2 c =
+    let v = c .before .before .before .before .before .before in
+    let e = v .before .before in
+    let a = e .before .before .before .before .before .before .before .args in
+    let all = variancesOf (a .alpha) (now (a .times)) (now (a .sigmas)) (a .time-step) 0 in
+    let w = values-are work _ (fit e .0) (worked v) (v .variances .kept .1 .1 .1 .1 .0) ∙ v .variances .ensures ∙ ap all (sym (lent-is work _ (fit e .0))) in
+    rw (let-through (finishingList (served (all (a .steps)))) (e .enum-told .given .1) (rule (e .before .before)), ← w) (c .before .before .finish .ensures)
+
+pub transition-variances-spec : {M : Type 1} → statement M
+transition-variances-spec =
+    tie.close
+    (tie.spec
+    pillar-faults-requires
+    transition-rule-requires
+    enum-known-checked
+    returns
+    enum-told
+    array-borrow-prefix-work
+    slice-aggregate-variances
+    variances-requires
+    array-share-prefix-work
+    slice-aggregate-finish
+    finish-requires
+    same-length
+    returns-2)

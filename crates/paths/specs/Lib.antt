@@ -1,0 +1,4 @@
+-- What the contracts of the calls that write a list say.
+pub mod Written
+pub mod Transition
+pub mod Generate

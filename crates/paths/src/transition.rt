@@ -1,0 +1,81 @@
+// parameters.rs, transition_variances: the variance over each of a number of steps of one length.
+ghost use mathlib.Core.Path.{_≡_};
+ghost use Prim.Native.Nat.{_≤_};
+ghost use lib.ListN.{length};
+ghost use Rattle.lists.specs.Refusals.{checkedNumber};
+ghost use Rattle.paths.specs.Written.{writtenNumber, numberOfList, storedOf};
+ghost use Rattle.paths.specs.Transition.{transitionRule, stepVariance, variancesOf, transitionOutcome};
+use super::output;
+use super::output::Written;
+use lists::Checked;
+use lists::Faults;
+
+pub fn transition_variances(
+    alpha: f64,
+    times: &[f64],
+    sigmas: &[f64],
+    steps: usize,
+    time_step: f64,
+    out: &mut [f64],
+) -> Written
+    ensures answer { λ r. ⌜ writtenNumber r ≡ numberOfList (transitionOutcome alpha (now (times .entry)) (now (sigmas .entry)) steps «time_step» (length (now (out .entry)))) ⌝ }
+    ensures output { λ r. ⌜ now (out .exit) ≡ storedOf (transitionOutcome alpha (now (times .entry)) (now (sigmas .entry)) steps «time_step» (length (now (out .entry)))) (now (out .entry)) ⌝ }
+{
+    let pillars = lists::pillar_faults(times, sigmas);
+    let checked = transition_rule(
+        pillars,
+        times.len() == 0,
+        alpha,
+        steps,
+        out.len(),
+        time_step,
+    );
+    if let Checked::Refused(refusal) = checked {
+        return Written::Refused(refusal);
+    }
+    let mut work = [0.0; 1024];
+    variances(alpha, times, sigmas, time_step, &mut work[..steps]);
+    output::finish(&work[..steps], out)
+}
+
+fn transition_rule(
+    pillars: Faults,
+    empty: bool,
+    alpha: f64,
+    steps: usize,
+    room: usize,
+    time_step: f64,
+) -> Checked
+    ensures { λ r. ⌜ checkedNumber r ≡ transitionRule pillars empty alpha steps room «time_step» ⌝ }
+{
+    let finite = elementary::is_finite(alpha) & elementary::is_finite(time_step);
+    lists::first_rule(
+        pillars.size | (1024 < steps) | (room < steps),
+        pillars.not_finite | !finite,
+        alpha <= 0.0,
+        pillars.order,
+        time_step <= 0.0,
+        pillars.domain,
+        empty,
+    )
+}
+
+// The variance over one step.
+fn step_variance(alpha: f64, times: &[f64], sigmas: &[f64], time_step: f64, step: u32) -> f64
+    ensures { λ r. ⌜ r ≡ stepVariance alpha (now (times .entry)) (now (sigmas .entry)) «time_step» step ⌝ }
+{
+    let start = (step as f64) * time_step;
+    formulas::variance_of(alpha, times, sigmas, start, start + time_step)
+}
+
+// The variances over as many steps as the list has places.
+fn variances(alpha: f64, times: &[f64], sigmas: &[f64], time_step: f64, out: &mut [f64])
+    requires { ⌜ length (now out) ≤ 1024 ⌝ }
+    ensures { λ _. ⌜ now (out .exit) ≡ variancesOf alpha (now (times .entry)) (now (sigmas .entry)) «time_step» 0 (length (now (out .entry))) ⌝ }
+{
+    let mut i = 0;
+    while i < out.len() {
+        out[i] = step_variance(alpha, times, sigmas, time_step, i as u32);
+        i += 1;
+    }
+}

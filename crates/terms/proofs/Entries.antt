@@ -1,0 +1,120 @@
+-- The length and the entries of each list of the terms. Callers cite the lengths.
+use mathlib.Core.Path.{_≡_, refl, sym, ap, _∙_}
+use mathlib.Core.List.{List, [], _∷_, map, zipWith}
+use Prim.Native.Nat.{ℕ, zero, suc, _+_, _<_}
+use native.Mathlib.Omega.{arith}
+use native.Mathlib.Nat.{not-suc-le-zero, le-of-suc-le-suc}
+use native.Mathlib.Numerals.{add-one}
+use lib.Dec.{eqb, eqb·suc-suc, eqb·zero-suc}
+use lib.ListN.{length, getD, length-map}
+use lib.Ieee.{Float, nan}
+use Rattle.ieee.specs.Rounded.{_⊗_}
+use Rattle.search.specs.Sum.{weightsOf}
+use Rattle.lists.specs.Refusals.{Outcome, served, refused}
+use Rattle.lists.specs.Lookups.{Maybe, just, nothing, factorAt, needing}
+use Rattle.formulas.specs.HullWhite.{bOf, driftOf, aAt}
+use Rattle.terms.specs.Terms.{coefficientAt, coefficientsOf, bsOf, driftsOf, affinesOf, onto, factorsAt}
+
+-- ---- an entry of a list made from one list, and from two
+map-at : (f : Float → Float) (xs : List Float) (i : ℕ) → i < length xs → getD (map f xs) i nan ≡ f (getD xs i nan)
+map-at f [] i h = absurd (not-suc-le-zero h)
+map-at f (x ∷ xs) zero h = refl
+map-at f (x ∷ xs) (suc i) h = map-at f xs i (le-of-suc-le-suc h)
+
+zip-length : (f : Float → Float → Float) (xs ys : List Float) → length ys ≡ length xs → length (zipWith f xs ys) ≡ length xs
+unfolding zipWith
+zip-length f [] ys e = refl
+zip-length f (x ∷ xs) [] e = e
+zip-length f (x ∷ xs) (y ∷ ys) e = ap suc (zip-length f xs ys (omega arith))
+
+zip-at : (f : Float → Float → Float) (xs ys : List Float) (i : ℕ) → length ys ≡ length xs → i < length xs → getD (zipWith f xs ys) i nan ≡ f (getD xs i nan) (getD ys i nan)
+unfolding zipWith
+zip-at f [] ys i e h = absurd (not-suc-le-zero h)
+zip-at f (x ∷ xs) [] i e h = absurd (let z : ⊥ = omega arith in z)
+zip-at f (x ∷ xs) (y ∷ ys) zero e h = refl
+zip-at f (x ∷ xs) (y ∷ ys) (suc i) e h = zip-at f xs ys i (omega arith) (le-of-suc-le-suc h)
+
+-- ---- coefficients: the last one is that of the place before the length
+module _ (strike : Float) where
+  pub coefficients-length : (accruals : List Float) → length (coefficientsOf strike accruals) ≡ length accruals
+  unfolding coefficientsOf
+  coefficients-length [] = refl
+  coefficients-length (a ∷ []) = refl
+  coefficients-length (a ∷ b ∷ accruals) = ap suc (coefficients-length (b ∷ accruals))
+
+  pub coefficients-at : (accruals : List Float) (i : ℕ) → i < length accruals → getD (coefficientsOf strike accruals) i nan ≡ coefficientAt (eqb (i + 1) (length accruals)) (getD accruals i nan) strike
+  unfolding coefficientsOf
+  coefficients-at [] i h = absurd (not-suc-le-zero h)
+  coefficients-at (a ∷ []) zero h = refl
+  coefficients-at (a ∷ []) (suc i) h = absurd (not-suc-le-zero (le-of-suc-le-suc h))
+  coefficients-at (a ∷ b ∷ accruals) zero h = rw (eqb·suc-suc 0 (suc (length accruals)), eqb·zero-suc)
+  coefficients-at (a ∷ b ∷ accruals) (suc i) h = coefficients-at (b ∷ accruals) i (le-of-suc-le-suc h) ∙ rw (add-one, add-one, eqb·suc-suc (suc i) (suc (length accruals)))
+
+-- ---- B
+module _ (alpha t : Float) where
+  bs-map : (payments : List Float) → bsOf alpha t payments ≡ map (λ payment. bOf alpha t payment) payments
+  unfolding bsOf
+  bs-map [] = refl
+  bs-map (payment ∷ payments) = ap (λ rest. bOf alpha t payment ∷ rest) (bs-map payments)
+
+  pub bs-length : (payments : List Float) → length (bsOf alpha t payments) ≡ length payments
+  bs-length payments = rw (bs-map payments, length-map)
+
+  pub bs-at : (payments : List Float) (i : ℕ) → i < length payments → getD (bsOf alpha t payments) i nan ≡ bOf alpha t (getD payments i nan)
+  bs-at payments i h = rw (bs-map payments) (map-at _ payments i h)
+
+-- ---- drifts
+module _ (forward pt : Float) where
+  drifts-zip : (bs ps : List Float) → driftsOf forward pt bs ps ≡ zipWith (λ b p. driftOf b forward pt p) bs ps
+  unfolding driftsOf zipWith
+  drifts-zip [] ps = refl
+  drifts-zip (b ∷ bs) [] = refl
+  drifts-zip (b ∷ bs) (p ∷ ps) = ap (λ rest. driftOf b forward pt p ∷ rest) (drifts-zip bs ps)
+
+  pub drifts-length : (bs ps : List Float) → length ps ≡ length bs → length (driftsOf forward pt bs ps) ≡ length bs
+  drifts-length bs ps e = rw (drifts-zip bs ps) (zip-length _ bs ps e)
+
+  pub drifts-at : (bs ps : List Float) (i : ℕ) → length ps ≡ length bs → i < length bs → getD (driftsOf forward pt bs ps) i nan ≡ driftOf (getD bs i nan) forward pt (getD ps i nan)
+  drifts-at bs ps i e h = rw (drifts-zip bs ps) (zip-at _ bs ps i e h)
+
+-- ---- A
+module _ (alpha sigma decay : Float) where
+  affines-zip : (bs drifts : List Float) → affinesOf alpha sigma decay bs drifts ≡ zipWith (λ b drift. aAt alpha sigma decay b drift) bs drifts
+  unfolding affinesOf zipWith
+  affines-zip [] drifts = refl
+  affines-zip (b ∷ bs) [] = refl
+  affines-zip (b ∷ bs) (drift ∷ drifts) = ap (λ rest. aAt alpha sigma decay b drift ∷ rest) (affines-zip bs drifts)
+
+  pub affines-length : (bs drifts : List Float) → length drifts ≡ length bs → length (affinesOf alpha sigma decay bs drifts) ≡ length bs
+  affines-length bs drifts e = rw (affines-zip bs drifts) (zip-length _ bs drifts e)
+
+  pub affines-at : (bs drifts : List Float) (i : ℕ) → length drifts ≡ length bs → i < length bs → getD (affinesOf alpha sigma decay bs drifts) i nan ≡ aAt alpha sigma decay (getD bs i nan) (getD drifts i nan)
+  affines-at bs drifts i e h = rw (affines-zip bs drifts) (zip-at _ bs drifts i e h)
+
+-- ---- weights
+weights-zip : (cs affines : List Float) → weightsOf cs affines ≡ zipWith (λ c a. c ⊗ a) cs affines
+unfolding weightsOf zipWith
+weights-zip [] affines = refl
+weights-zip (c ∷ cs) [] = refl
+weights-zip (c ∷ cs) (a ∷ affines) = ap (λ rest. c ⊗ a ∷ rest) (weights-zip cs affines)
+
+pub weights-length : (cs affines : List Float) → length affines ≡ length cs → length (weightsOf cs affines) ≡ length cs
+weights-length cs affines e = rw (weights-zip cs affines) (zip-length _ cs affines e)
+
+pub weights-at : (cs affines : List Float) (i : ℕ) → length affines ≡ length cs → i < length cs → getD (weightsOf cs affines) i nan ≡ getD cs i nan ⊗ getD affines i nan
+weights-at cs affines i e h = rw (weights-zip cs affines) (zip-at _ cs affines i e h)
+
+-- ---- factors
+onto-length : (p : Float) (o : Outcome (List Float)) (n : ℕ) → ((qs : List Float) → o ≡ served qs → length qs ≡ n) → (ps : List Float) → onto p o ≡ served ps → length ps ≡ suc n
+onto-length p (served qs) n h ps e = let w : p ∷ qs ≡ ps = cc in rw (sym w) (ap suc (h qs refl))
+onto-length p (refused k) n h ps e = let z : _≡_ {A = ℕ} 0 1 = cc in absurd (let y : ⊥ = omega arith in y)
+
+needing-length : (m : Maybe) (o : Outcome (List Float)) (n : ℕ) → ((qs : List Float) → o ≡ served qs → length qs ≡ n) → (ps : List Float) → needing m (λ p. onto p o) ≡ served ps → length ps ≡ suc n
+needing-length (just p) o n h ps e = onto-length p o n h ps e
+needing-length nothing o n h ps e = let z : _≡_ {A = ℕ} 0 1 = cc in absurd (let y : ⊥ = omega arith in y)
+
+-- there is a factor for each payment
+pub factors-length : (ts fs payments ps : List Float) → factorsAt ts fs payments ≡ served ps → length ps ≡ length payments
+unfolding factorsAt
+factors-length ts fs [] ps e = let w : [] ≡ ps = cc in rw (sym w) refl
+factors-length ts fs (payment ∷ payments) ps e = needing-length (factorAt ts fs payment) (factorsAt ts fs payments) (length payments) (λ qs q. factors-length ts fs payments qs q) ps e

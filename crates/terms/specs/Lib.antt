@@ -1,0 +1,2 @@
+-- What the contracts of the terms say.
+pub mod Terms

@@ -1,0 +1,75 @@
+// Each list of the terms from the lists before it, an entry for each coupon; whoever calls has them of
+// one length.
+ghost use mathlib.Core.Path.{_≡_};
+ghost use lib.ListN.{length};
+ghost use Rattle.search.specs.Sum.{weightsOf};
+ghost use Rattle.terms.specs.Terms.{coefficientAt, coefficientsOf, bsOf, driftsOf, affinesOf};
+
+// The coefficient of one coupon: the last one's has the notional beside it.
+fn coefficient(last: bool, accrual: f64, strike: f64) -> f64
+    ensures { λ r. ⌜ r ≡ coefficientAt last accrual strike ⌝ }
+{
+    if last {
+        ieee::fused(accrual, strike, 1.0)
+    } else {
+        accrual * strike
+    }
+}
+
+pub fn coefficients(strike: f64, accruals: &[f64], out: &mut [f64])
+    requires { ⌜ length (now out) ≡ length (now accruals) ⌝ }
+    ensures { λ _. ⌜ now (out .exit) ≡ coefficientsOf strike (now (accruals .entry)) ⌝ }
+{
+    let mut i = 0;
+    while i < accruals.len() {
+        out[i] = coefficient(i + 1 == accruals.len(), accruals[i], strike);
+        i += 1;
+    }
+}
+
+pub fn bs(alpha: f64, t: f64, payments: &[f64], out: &mut [f64])
+    requires { ⌜ length (now out) ≡ length (now payments) ⌝ }
+    ensures { λ _. ⌜ now (out .exit) ≡ bsOf alpha t (now (payments .entry)) ⌝ }
+{
+    let mut i = 0;
+    while i < payments.len() {
+        out[i] = formulas::b_of(alpha, t, payments[i]);
+        i += 1;
+    }
+}
+
+// Of each ln A what does not depend on sigma.
+pub fn drifts(forward: f64, p_t: f64, b: &[f64], p: &[f64], out: &mut [f64])
+    requires { ⌜ (length (now out) ≡ length (now b)) × (length (now p) ≡ length (now b)) ⌝ }
+    ensures { λ _. ⌜ now (out .exit) ≡ driftsOf forward «p_t» (now (b .entry)) (now (p .entry)) ⌝ }
+{
+    let mut i = 0;
+    while i < b.len() {
+        out[i] = formulas::drift_of(b[i], forward, p_t, p[i]);
+        i += 1;
+    }
+}
+
+// A of each term at a sigma.
+pub fn affines(alpha: f64, sigma: f64, decay: f64, b: &[f64], drift: &[f64], out: &mut [f64])
+    requires { ⌜ (length (now out) ≡ length (now b)) × (length (now drift) ≡ length (now b)) ⌝ }
+    ensures { λ _. ⌜ now (out .exit) ≡ affinesOf alpha sigma decay (now (b .entry)) (now (drift .entry)) ⌝ }
+{
+    let mut i = 0;
+    while i < b.len() {
+        out[i] = formulas::a_at(alpha, sigma, decay, b[i], drift[i]);
+        i += 1;
+    }
+}
+
+// The weight of each term in the coupon sum, coefficient × A.
+pub fn weights(c: &[f64], a: &[f64], out: &mut [f64])
+    requires { ⌜ (length (now out) ≡ length (now c)) × (length (now a) ≡ length (now c)) ⌝ }
+    ensures { λ _. ⌜ now (out .exit) ≡ weightsOf (now (c .entry)) (now (a .entry)) ⌝ }
+{
+    let mut i = 0;
+    while i < c.len() {
+        out[i] = c[i] * a[i];
+        i += 1;
+    }
+}

@@ -1,0 +1,12 @@
+// The terms of a Jamshidian decomposition, worked once a coupon ahead of a search: coefficients, B,
+// factors, A and weights, each list written whole into a lent one.
+mod columns;
+mod factors;
+
+pub use columns::affines;
+pub use columns::bs;
+pub use columns::coefficients;
+pub use columns::drifts;
+pub use columns::weights;
+pub use factors::Fetched;
+pub use factors::fetch;
