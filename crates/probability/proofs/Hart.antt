@@ -1,16 +1,15 @@
 -- Hart's quotient, by a step that keeps the order: the numerator stays below the denominator, coefficient by coefficient.
-use mathlib.Core.Path.{_≡_, refl, sym, ap, _∙_, subst}
 use mathlib.Core.Bool.{Bool, true, false, _&&_}
 use mathlib.Core.List.{List, [], _∷_}
-use Prim.Native.Nat.{ℕ, _*_, _<_, _≤_}
+use Prim.Native.Nat.{_*_}
 use native.Mathlib.Nat.{le-refl}
 use lib.Dec.{T}
-use lib.Ieee.{Float, nan, inf, fin, binary64, add, mul, le, ofBits}
+use lib.Ieee.{Float, nan, inf, fin, binary64, add, mul, le}
 use lib.IntN.{pos}
 use lib.Ieee.Fits.{and-l, and-r, and-i}
 use lib.Ieee.Positive.{num, den}
-use Rattle.probability.specs.NormCdf.{horner, productThenSum, numFirst, numRest, denFirst, denRest}
-use Rattle.probability.proofs.NonNeg.{nn, shape, Below, cross→le, le→cross, mul-below, add-below, mul-shape}
+use Rattle.probability.specs.NormCdf.{horner, productThenSum}
+use Rattle.probability.proofs.NonNeg.{nn, shape, Below, cross→le, mul-below, add-below, mul-shape}
 
 -- each coefficient is no more than the other list's
 abbrev pub lower : List Float → List Float → Bool
@@ -21,9 +20,6 @@ lower (c ∷ cs) (d ∷ ds) = (nn c && le c d) && (nn d && lower cs ds)
 
 pub below-self : (x : Float) → T (nn x) → Below x x
 below-self x p = record { is = p; le = cross→le x x p p (le-refl (num x * den x)) }
-
-Step : Type 0
-Step = Float → Float → Float → Float
 
 -- the step keeps the order, up to a finite result
 pub record Orderly (step : Float → Float → Float → Float) : Type 0 where
@@ -78,10 +74,3 @@ zero = fin false 0 (pos 0)
 
 abbrev pub eight : Float
 eight = fin false 1 (pos 3)
-
-abbrev pub tailOfDen : List Float
-tailOfDen = rest denRest
-  where
-    rest : List Float → List Float
-    rest [] = []
-    rest (c ∷ cs) = cs

@@ -1,14 +1,13 @@
 -- Hart's quotient lies between 0 and 1, for a step that keeps the order and does at 0 and at 8 what is computed here.
 use Rattle.ieee.specs.Decimal.{decimal}
-use mathlib.Core.Path.{_≡_, refl, sym, ap, _∙_, subst}
-use mathlib.Core.Bool.{Bool, true, false, _&&_}
+use mathlib.Core.Bool.{false, _&&_}
 use mathlib.Core.List.{List, [], _∷_}
-use Prim.Native.Nat.{ℕ, _*_, _<_, _≤_}
+use Prim.Native.Nat.{_*_, _<_, _≤_}
 use native.Mathlib.Omega.{arith}
-use native.Mathlib.Nat.{le-trans, le-of-eq, lt-of-lt-of-le, mul-pos, mul-one, one-mul, mul-comm, mul-assoc, mul-left-comm, mul-le-mul, mul-mul-mul-comm, zero-mul}
-use lib.Dec.{T, ltb, ltb→lt, lit<}
+use native.Mathlib.Nat.{le-trans, le-of-eq, lt-of-lt-of-le, mul-pos, mul-comm, mul-assoc, mul-left-comm, mul-le-mul, zero-mul}
+use lib.Dec.{T, ltb, ltb→lt}
 use lib.IntN.{pos}
-use lib.Ieee.{Float, nan, inf, fin, binary64, round, add, mul, div, le, fits, ofBits}
+use lib.Ieee.{Float, fin, binary64, add, mul, div, le, fits, ofBits}
 use lib.Ieee.Fits.{and-l, and-r, add-fits}
 use lib.Ieee.Positive.{num, den, den-pos, through, first-pos}
 use Rattle.probability.specs.NormCdf.{horner, hartOf, productThenSum, numFirst, numRest, denFirst, denRest}

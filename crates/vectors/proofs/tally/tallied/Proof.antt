@@ -1,6 +1,5 @@
 -- `vectors::tally::tallied` is safe and ends: the records passed lie within s, and what is left of s falls. Assumes nothing.
 use Prim.Native.Nat.{_≤_, _-_}
-use native.Mathlib.Omega.{arith}
 use borrow.Author.Needs.{needs}
 use lib.ListN.{length}
 use Rattle.vectors.proofs.tally.tallied.Statement.{statement}
