@@ -1,5 +1,5 @@
-// The ground functions for programs in other languages: C names, numbers in, a number out. Each promises
-// what the function that it calls promises.
+// Eight of the ground functions for programs in other languages: C names, numbers in, a number out. Each
+// promises all that the function that it calls promises.
 ghost use mathlib.Core.Path.{_≡_};
 ghost use lib.Dec.{T};
 ghost use lib.Ieee.Positive.{positive};

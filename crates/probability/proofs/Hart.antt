@@ -5,7 +5,6 @@ use Prim.Native.Nat.{_*_}
 use native.Mathlib.Nat.{le-refl}
 use lib.Dec.{T}
 use lib.Ieee.{Float, nan, inf, fin, binary64, add, mul, le}
-use lib.IntN.{pos}
 use lib.Ieee.Fits.{and-l, and-r, and-i}
 use lib.Ieee.Positive.{num, den}
 use Rattle.probability.specs.NormCdf.{horner, productThenSum}
@@ -67,10 +66,3 @@ twice-orderly = record {
       let m : T (nn (mul binary64 a' z')) = sum-first (mul binary64 a' z') c' (mul-shape binary64 a' z' na nz) s in
       add-below binary64 (mul binary64 a z) (mul binary64 a' z') c c' m nc (mul-below binary64 a a' z z' na nz ka kz m) kc s;
 }
-
--- ---- at the two ends of the range: 0 and 8
-abbrev pub zero : Float
-zero = fin false 0 (pos 0)
-
-abbrev pub eight : Float
-eight = fin false 1 (pos 3)

@@ -46,7 +46,7 @@ mul-unit e x y q f h k =
     (round-upto (num e * num x) (den e * den x) y (mul-pos (den-pos e) (den-pos x)) f q
     (le-trans (le-of-eq (mul-assoc (num e) (num x) (den y)))
     (le-trans (mul-le-mul small (le→cross x y (k .is) q (k .le)))
-    (le-of-eq (simp (mul-assoc, mul-comm, mul-left-comm))))))
+    (le-of-eq (simp (mul-comm, mul-left-comm))))))
   where
     small : num e ≤ den e
     small = let c = le→cross e unit (h .is) tt (h .le) in omega arith
