@@ -1,13 +1,13 @@
 -- Document 01, "Cases proved", as one table under one computed check. `table-holds` is the check, which antt computes; `row` turns it into the equation of each row.
 use mathlib.Core.Path.{_≡_, sym, ap, _∙_}
 use mathlib.Core.Logic.{inl, inr}
-use mathlib.Core.Bool.{Bool, true, false, _&&_}
+use mathlib.Core.Bool.{Bool, true, _&&_}
 use mathlib.Core.List.{List, [], _∷_, List·Memᴰ, List·Memᴰ·cases-cons, List·Memᴰ·not-nil}
 use lib.Dec.{T}
-use lib.IntN.{pos, negsuc}
-use lib.Ieee.{Float, fin, binary64, add, sub, mul, div, neg, lt, le, eq, isNan, ofInt, ofBits, size}
+use lib.Ieee.{Float, add, sub, mul, div, neg, lt, le, eq, isNan, ofInt, ofBits, size}
 use lib.Ieee.Fits.{and-l, and-r}
 use Rattle.ieee.specs.Decimal.{decimal}
+use Rattle.ieee.specs.Numbers.{zero, half, one, two, three, four}
 use Rattle.ieee.specs.Same.{same, same-is}
 use Rattle.ieee.specs.Fused.{fusedOf}
 use Rattle.ieee.specs.Sqrt.{sqrtOf}
@@ -16,39 +16,21 @@ use Rattle.elementary.specs.Exp.{expOf, nearestWhole, seriesOf}
 use Rattle.elementary.specs.Ln.{lnOf, places, significandOf, exponentOf, oddSeriesOf}
 use Rattle.probability.specs.NormCdf.{normCdfOf, normCdfDualOf, normBy, upperOf}
 
--- ---- the numbers: ±m × 2^e
-abbrev nought : Float
-nought = fin false 0 (pos 0)
-
-abbrev minusNought : Float
-minusNought = fin true 0 (pos 0)
-
-abbrev half : Float
-half = fin false 1 (negsuc 0)
-
-abbrev one : Float
-one = fin false 1 (pos 0)
+-- ---- the numbers that specs/Numbers.antt of `ieee` does not have
+abbrev minusZero : Float
+minusZero = neg zero
 
 abbrev minusOne : Float
-minusOne = fin true 1 (pos 0)
-
-abbrev two : Float
-two = fin false 1 (pos 1)
-
-abbrev three : Float
-three = fin false 3 (pos 0)
-
-abbrev four : Float
-four = fin false 1 (pos 2)
+minusOne = neg one
 
 abbrev seven : Float
-seven = fin false 7 (pos 0)
+seven = decimal 7 0
 
 abbrev thirtyEight : Float
-thirtyEight = fin false 19 (pos 1)
+thirtyEight = decimal 38 0
 
 abbrev minusThirtyEight : Float
-minusThirtyEight = fin true 19 (pos 1)
+minusThirtyEight = neg thirtyEight
 
 -- ---- what is asked: a function at its arguments. `N` is the f64 normal function, `N-dual` the DualFwd one
 pub data Call : Type 0 where
@@ -72,18 +54,18 @@ pub record Case : Type 0 where
 -- ---- the table, in document 01's order
 abbrev pub table : List Case
 table =
-    record { asked = N nought; given = half }
-    ∷ record { asked = N-dual nought; given = half }
+    record { asked = N zero; given = half }
+    ∷ record { asked = N-dual zero; given = half }
     ∷ record { asked = N thirtyEight; given = one }
     ∷ record { asked = N-dual thirtyEight; given = one }
-    ∷ record { asked = N minusThirtyEight; given = nought }
-    ∷ record { asked = N-dual minusThirtyEight; given = nought }
-    ∷ record { asked = exp nought; given = one }
-    ∷ record { asked = ln one; given = nought }
+    ∷ record { asked = N minusThirtyEight; given = zero }
+    ∷ record { asked = N-dual minusThirtyEight; given = zero }
+    ∷ record { asked = exp zero; given = one }
+    ∷ record { asked = ln one; given = zero }
     ∷ record { asked = sqrt four; given = two }
-    ∷ record { asked = sqrt minusNought; given = minusNought }
+    ∷ record { asked = sqrt minusZero; given = minusZero }
     ∷ record { asked = fused two three one; given = seven }
-    ∷ record { asked = signum minusNought; given = minusOne }
+    ∷ record { asked = signum minusZero; given = minusOne }
     ∷ []
 
 -- ---- the check, and the law of each row

@@ -1,19 +1,18 @@
 -- The split of a float above zero is exact, and its significand lies from 0.75 up and below 1.5.
-use mathlib.Core.Path.{_≡_, refl, sym, ap, _∙_, subst}
-use mathlib.Core.Bool.{Bool, true, false, not, cond, _&&_, _||_, true≢false, false≢true}
+use mathlib.Core.Path.{_≡_, refl, sym, ap, _∙_}
+use mathlib.Core.Bool.{Bool, true, false, cond, _&&_, _||_, true≢false, false≢true}
 use Prim.Native.Nat.{ℕ, zero, suc, _+_, _-_, _*_, _^_, _<_, _≤_}
 use native.Mathlib.Omega.{arith}
-use native.Mathlib.Nat.{le-of-eq, eq-or-lt-of-le, mul-one, one-mul, mul-assoc, mul-comm, mul-left-comm, pow-suc, zero-mul}
+use native.Mathlib.Nat.{eq-or-lt-of-le, mul-one, one-mul, mul-assoc, pow-suc, zero-mul}
 use native.Mathlib.Numerals.{sub-one}
 use mathlib.Core.Logic.{inl, inr}
 use borrow.Author.Tests.{leb-true, leb-false, ltb-true, ltb-false, eq-eqb}
-use lib.Dec.{T, leb, ltb, eqb, ltb→lt, lt→ltb, le→leb, eqb-refl}
-use lib.Pow.{pow-pos, pow-add}
+use lib.Dec.{T, leb, ltb, eqb, ltb→lt, lt→ltb}
+use lib.Pow.{pow-add}
 use lib.IntN.{ℤ, pos, negsuc, subℕ, _+ℤ_}
-use lib.Ieee.{Float, nan, inf, fin, binary64, up, down, minus, size, lt, le, eq, ne, fits, ofBits}
+use lib.Ieee.{Float, nan, inf, fin, binary64, up, down, minus, size, lt, le, eq, ne, ofBits}
 use lib.Ieee.Digits.{size-lt}
-use lib.Ieee.Fits.{up-pos, down-pos}
-use lib.Ieee.Positive.{positive, num, den}
+use lib.Ieee.Positive.{positive}
 use Rattle.ieee.specs.Decimal.{decimal}
 use Rattle.elementary.specs.Ln.{places, significandOf, exponentOf, ExactSplit}
 use Rattle.elementary.proofs.Ints.{subℕ-le, subℕ-lt}

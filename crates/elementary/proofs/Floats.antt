@@ -11,7 +11,7 @@ use lib.Ieee.Fits.{up-pos}
 use lib.Ieee.Bits.{ofBits-toBits}
 use lib.Ieee.Compare.{differs-from-itself}
 use lib.IntN.{ℤ, pos, negsuc}
-use lib.Ieee.{Float, nan, inf, fin, binary64, up, down, div, neg, lt, eq, ne, le, fits, isNan, odd, ofFields, ofBits, toBits}
+use lib.Ieee.{Float, nan, inf, fin, binary64, up, down, div, neg, lt, eq, ne, fits, isNan, odd, ofFields, ofBits, toBits}
 use lib.Ieee.Scale.{finite}
 use Rattle.ieee.specs.Numbers.{one}
 use Rattle.elementary.specs.Simple.{absOf, signumOf}
@@ -124,3 +124,22 @@ nan-no x h = sym (nan-test x) ∙ h
 
 pub is-nan : (x : Float) → ne x x ≡ true → x ≡ nan
 is-nan x h = differs-from-itself x (subst T (sym h) tt)
+
+-- ---- max, min: what is less than something, or above it, is no NaN
+pub above-nan : (a b : Float) → lt a b ≡ true → isNan b ≡ false
+unfolding lt isNan
+above-nan nan nan h = absurd (false≢true h)
+above-nan (inf s) nan h = absurd (false≢true h)
+above-nan (fin s m e) nan h = absurd (false≢true h)
+above-nan a (inf t) h = refl
+above-nan a (fin t n d) h = refl
+
+pub under-nan : (a b : Float) → lt b a ≡ true → isNan b ≡ false
+unfolding lt isNan
+under-nan a nan h = absurd (false≢true h)
+under-nan a (inf t) h = refl
+under-nan a (fin t n d) h = refl
+
+pub either-way : (t : Bool) (a : Float) → a ≡ cond t a a
+either-way true a = refl
+either-way false a = refl

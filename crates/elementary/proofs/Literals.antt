@@ -1,8 +1,8 @@
 -- The decimal constants of specs/ are the code's literals: antt rounds each printed fraction and compares the bits. Assumes nothing.
 use mathlib.Core.Path.{_≡_, refl}
-use lib.Ieee.{Float, binary64, ofBits}
+use lib.Ieee.{binary64, neg, ofBits}
 use Rattle.ieee.specs.Decimal.{decimal}
-use Rattle.elementary.specs.Constants.{log2e, ln2hi, ln2lo, high, low, sqrt2pi}
+use Rattle.elementary.specs.Constants.{log2e, ln2hi, ln2lo, expTop, expBottom, sqrt2pi}
 
 pub log2e-is : ofBits binary64 0x3ff7_1547_652b_82fe ≡ log2e
 unfolding ofBits decimal
@@ -16,13 +16,13 @@ pub ln2lo-is : ofBits binary64 0x3dea_39ef_3579_3c76 ≡ ln2lo
 unfolding ofBits decimal
 ln2lo-is = refl
 
-pub high-is : ofBits binary64 0x4086_3000_0000_0000 ≡ high
+pub expTop-is : ofBits binary64 0x4086_3000_0000_0000 ≡ expTop
 unfolding ofBits decimal
-high-is = refl
+expTop-is = refl
 
-pub low-is : ofBits binary64 0x4087_5000_0000_0000 ≡ low
+pub expBottom-is : neg (ofBits binary64 0x4087_5000_0000_0000) ≡ expBottom
 unfolding ofBits decimal
-low-is = refl
+expBottom-is = refl
 
 pub sqrt2pi-is : ofBits binary64 0x4004_0d93_1ff6_2706 ≡ sqrt2pi
 unfolding ofBits decimal

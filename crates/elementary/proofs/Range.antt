@@ -1,15 +1,14 @@
 -- Between -746 and 710 the product with log2e is of moderate size: the rounding keeps the order.
 use mathlib.Core.Path.{_≡_, refl, sym, ap, _∙_, subst}
-use mathlib.Core.Bool.{Bool, true, false, not, cond, _&&_, _||_, true≢false, false≢true}
-use Prim.Native.Nat.{ℕ, zero, suc, _+_, _-_, _*_, _/_, _^_, _<_, _≤_}
+use mathlib.Core.Bool.{Bool, true, false, cond, _&&_, _||_, true≢false}
+use Prim.Native.Nat.{ℕ, zero, suc, _+_, _*_, _^_, _<_, _≤_}
 use native.Mathlib.Omega.{arith}
-use native.Mathlib.Nat.{le-trans, le-of-eq, mul-pos, mul-one, mul-assoc, mul-comm, mul-right-comm, mul-le-mul-right}
+use native.Mathlib.Nat.{le-trans, le-of-eq, mul-pos, mul-one}
 use borrow.Author.Tests.{ltb-false}
-use lib.Dec.{T, leb, ltb, eqb, ltb→lt, eqb→eq, le→leb, lit<}
-use lib.Pow.{pow-pos}
-use lib.IntN.{ℤ, pos, negsuc}
+use lib.Dec.{T, ltb, eqb, ltb→lt, eqb→eq, le→leb, lit<}
+use lib.IntN.{ℤ, pos}
 use lib.Ieee.{Float, nan, inf, fin, Format, binary64, prec, emax, low, up, down, odd, units, round, mul, neg, lt, le, ne, ofBits}
-use lib.Ieee.Fits.{round-is, up-pos, down-pos, and-l}
+use lib.Ieee.Fits.{round-is, down-pos}
 use lib.Ieee.Order.{round-mono, drop, kept}
 use Rattle.ieee.specs.Decimal.{decimal}
 use Rattle.elementary.specs.Constants.{log2e}

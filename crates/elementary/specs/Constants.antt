@@ -1,5 +1,5 @@
 -- The decimal constants of document 01's elementary functions, as it prints them, and SQRT_2PI as norm_cdf.rs prints it.
-use lib.Ieee.{Float}
+use lib.Ieee.{Float, neg}
 use Rattle.ieee.specs.Decimal.{decimal}
 
 -- 1.4426950408889634
@@ -14,12 +14,13 @@ ln2hi = decimal 693147180369123816490 21
 abbrev pub ln2lo : Float
 ln2lo = decimal 190821492927058770002 30
 
--- 710 and 746
-abbrev pub high : Float
-high = decimal 710 0
+-- 710, above which exp is infinity
+abbrev pub expTop : Float
+expTop = decimal 710 0
 
-abbrev pub low : Float
-low = decimal 746 0
+-- -746, below which exp is +0
+abbrev pub expBottom : Float
+expBottom = neg (decimal 746 0)
 
 -- 2.506_628_274_631_000_5
 abbrev pub sqrt2pi : Float

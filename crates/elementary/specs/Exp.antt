@@ -4,10 +4,11 @@ use mathlib.Core.Bool.{Bool, false, cond}
 use lib.Dec.{leb}
 use lib.IntN.{ℤ, pos, negℤ, _-ℤ_}
 use lib.Signed.{quotZ}
-use lib.Ieee.{Float, nan, inf, fin, binary64, up, down, lt, le, neg, isNan, ofInt}
+use lib.Ieee.{Float, nan, inf, fin, binary64, up, down, lt, le, isNan, ofInt}
 use Rattle.ieee.specs.Rounded.{_⊕_, _⊖_, _⊗_, _⊘_}
+use Rattle.ieee.specs.Numbers as Numbers
 use Rattle.ieee.specs.Numbers.{one, half}
-use Rattle.elementary.specs.Constants.{log2e, ln2hi, ln2lo, high, low}
+use Rattle.elementary.specs.Constants.{log2e, ln2hi, ln2lo, expTop, expBottom}
 use Rattle.elementary.specs.Simple.{absOf}
 
 -- "the whole number nearest to" x, "ties away from zero": the whole part of |x| + 1/2, worked out exactly, with the sign of x
@@ -22,7 +23,7 @@ kOf x = nearestWhole (x ⊗ log2e)
 
 -- "r = (argument - k × 0.693147180369123816490) - k × 1.90821492927058770002e-10"
 abbrev pub reducedOf : Float → ℤ → Float
-reducedOf x k = x ⊖ ofInt binary64 k ⊗ ln2hi ⊖ ofInt binary64 k ⊗ ln2lo
+reducedOf x k = (x ⊖ ofInt binary64 k ⊗ ln2hi) ⊖ ofInt binary64 k ⊗ ln2lo
 
 -- p "becomes 1 + (x × p)/n" for n = last + k - 1 down to last, in k turns
 unfoldable pub seriesOf : Float → ℕ → ℕ → Float → Float
@@ -43,13 +44,18 @@ expWithin x = let k = kOf x in scaleOf (seriesOf (reducedOf x k) 1 13 one) k
 
 -- "NaN gives NaN; above 710 infinity; below -746 +0. Else .."
 unfoldable pub expOf : Float → Float
-expOf x = cond (isNan x) nan (cond (lt high x) (inf false) (cond (lt x (neg low)) (fin false 0 (pos 0)) (expWithin x)))
+expOf x =
+    cond (isNan x) nan
+    (cond (lt expTop x) (inf false)
+    (cond (lt x expBottom) Numbers.zero
+    (expWithin x)))
 
 -- "for |y| <= 0.5, y × q, where q starts at 1 and for n = 17 down to 2 becomes 1 + (y × q)/n; else exp(y) - 1"
 unfoldable pub expM1Of : Float → Float
 unfolding expOf
 expM1Of y = cond (le (absOf y) half) (y ⊗ seriesOf y 2 16 one) (expOf y ⊖ one)
 
+-- ---- for a private function's contract
 -- finite, and at most 1200 in size: what the code's way to the nearest whole number asks
 abbrev pub moderate : Float → Bool
 moderate nan = false

@@ -5,4 +5,5 @@ pub mod Exp
 pub mod ExactCases
 pub mod Ln
 pub mod Density
+-- for private functions' contracts only, as is `moderate` at the end of Exp
 pub mod Units

@@ -12,7 +12,7 @@ use Rattle.ieee.specs.Decimal.{decimal}
 use Rattle.ieee.specs.Numbers.{zero, one, two}
 use Rattle.elementary.specs.Constants.{ln2hi, ln2lo}
 
--- How many places n is moved down to lie from 0.75 up and below 1.5: to lie from 1 up and below 2 it is one less than n has binary digits, and one more where that gives 1.5 or more.
+-- How many places n is moved down to lie from 0.75 up and below 1.5. n / 2 ^ size n lies from 0.5 up and below 1. From 0.75 up that is m, and n is moved down size n places; below, twice that is m, and it is one place less.
 unfoldable pub places : ℕ → ℕ
 places n = cond (leb (3 * 2 ^ size n) (4 * n)) (size n) (size n - 1)
 
@@ -50,4 +50,9 @@ joinedOf m k =
 -- "NaN or below 0 gives NaN, zero gives -infinity, infinity itself. Else .."
 unfoldable pub lnOf : Float → Float
 unfolding significandOf exponentOf
-lnOf x = cond (isNan x) nan (cond (lt x zero) nan (cond (eq x zero) (inf true) (cond (eq x (inf false)) (inf false) (joinedOf (significandOf x) (exponentOf x)))))
+lnOf x =
+    cond (isNan x) nan
+    (cond (lt x zero) nan
+    (cond (eq x zero) (inf true)
+    (cond (eq x (inf false)) (inf false)
+    (joinedOf (significandOf x) (exponentOf x)))))

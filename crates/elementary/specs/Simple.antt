@@ -13,13 +13,13 @@ signumOf nan = nan
 signumOf (inf s) = cond s (neg one) one
 signumOf (fin s m e) = cond s (neg one) one
 
--- the larger one; the first of two that are equal, which are the same but where they are zeros of unlike sign
+-- "pass over a NaN": where one is a NaN, the other one. Else the larger; of two equal, the first
 abbrev pub maxOf : Float → Float → Float
-maxOf a b = cond (isNan a) b (cond (lt a b) b a)
+maxOf a b = cond (isNan a) b (cond (isNan b) a (cond (lt a b) b a))
 
--- the smaller one, and the first of two that are equal
+-- likewise; else the smaller; of two equal, the first
 abbrev pub minOf : Float → Float → Float
-minOf a b = cond (isNan a) b (cond (lt b a) b a)
+minOf a b = cond (isNan a) b (cond (isNan b) a (cond (lt b a) b a))
 
 -- with the sign cleared
 abbrev pub absOf : Float → Float

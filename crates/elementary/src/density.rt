@@ -3,7 +3,8 @@ ghost use mathlib.Core.Path.{_≡_};
 ghost use Rattle.elementary.specs.Density.{densityOf};
 use super::exponential;
 
-const SQRT_2PI: f64 = 2.5066282746310005;
+// √(2π) as norm_cdf.rs prints it, for the crate `probability` too.
+pub const SQRT_2PI: f64 = 2.5066282746310005;
 
 pub fn norm_pdf(d: f64) -> f64
     ensures { λ r. ⌜ r ≡ densityOf d ⌝ }

@@ -11,7 +11,7 @@ use super::simple;
 
 const LOG2_E: f64 = 1.4426950408889634;
 
-// The two parts of ln 2: a whole number of at most 11 digits times the first is exact.
+// The two parts of ln 2: a whole number of at most 11 binary digits times the first is exact.
 pub const LN_2_HIGH: f64 = 0.693147180369123816490;
 
 pub const LN_2_LOW: f64 = 1.90821492927058770002e-10;

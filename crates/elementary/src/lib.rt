@@ -5,6 +5,7 @@ mod exponential;
 mod logarithm;
 mod simple;
 
+pub use density::SQRT_2PI;
 pub use density::norm_pdf;
 pub use exponential::exp;
 pub use exponential::exp_m1;

@@ -36,7 +36,8 @@ struct Halved {
 }
 
 // The digits of x under the exponent that puts them between 0.75 and 1.5: 0x18_0000_0000_0000 is 1.5
-// at full width. `ln` has x finite and above 0.
+// at full width, and the leading digit of `full` adds one to the exponent's field. `ln` has x finite
+// and above 0.
 fn split(x: f64) -> Halved
     requires { ⌜ T (positive x) ⌝ }
     ensures { λ r. ⌜ (r .m ≡ significandOf x) × (r .k ≡ exponentOf x) × (mag (r .k) < 10000) ⌝ }

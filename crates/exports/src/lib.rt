@@ -1,15 +1,16 @@
-// The ground functions for programs in other languages: C names, numbers in, a number out. Each promises
-// what the function that it calls promises.
+// Eight of the ground functions for programs in other languages: C names, numbers in, a number out. Each
+// promises all that the function that it calls promises.
 ghost use mathlib.Core.Path.{_≡_};
 ghost use lib.Dec.{T};
 ghost use lib.Ieee.Positive.{positive};
 ghost use Rattle.ieee.specs.Fused.{fusedOf};
 ghost use Rattle.ieee.specs.Rows.{Gives};
-ghost use Rattle.ieee.specs.Sqrt.{sqrtOf};
+ghost use Rattle.ieee.specs.Sqrt.{sqrtOf, ClosestRoot};
 ghost use Rattle.elementary.specs.Density.{densityOf};
 ghost use Rattle.elementary.specs.ExactCases.{exactCases};
 ghost use Rattle.elementary.specs.Exp.{expOf, expM1Of};
 ghost use Rattle.elementary.specs.Ln.{significandOf, exponentOf, ExactSplit, lnOf};
+ghost use Rattle.probability.specs.AsWritten.{normCdfDualAsWritten};
 ghost use Rattle.probability.specs.Between.{Probability};
 ghost use Rattle.probability.specs.NormCdf.{normCdfOf, normCdfDualOf};
 
@@ -25,6 +26,7 @@ pub extern "C" fn calstwid_fused(a: f64, b: f64, c: f64) -> f64
 #[no_mangle]
 pub extern "C" fn calstwid_sqrt(x: f64) -> f64
     ensures { λ r. ⌜ r ≡ sqrtOf x ⌝ }
+    ensures closest { λ r. ⌜ (T (positive x) → ClosestRoot x r) ⌝ }
 {
     ieee::sqrt(x)
 }
@@ -74,6 +76,7 @@ pub extern "C" fn calstwid_norm_cdf(x: f64) -> f64
 pub extern "C" fn calstwid_norm_cdf_dual(x: f64) -> f64
     ensures { λ r. ⌜ r ≡ normCdfDualOf x ⌝ }
     ensures between { λ r. ⌜ Probability x r ⌝ }
+    ensures as_written { λ r. ⌜ r ≡ normCdfDualAsWritten x ⌝ }
 {
     probability::norm_cdf_dual(x)
 }

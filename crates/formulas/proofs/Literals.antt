@@ -1,6 +1,6 @@
 -- The decimal constants of specs/ are the code's literals: antt rounds each printed fraction and compares the bits. Assumes nothing.
 use mathlib.Core.Path.{_≡_, refl}
-use lib.Ieee.{Float, binary64, ofBits}
+use lib.Ieee.{binary64, ofBits}
 use Rattle.ieee.specs.Decimal.{decimal}
 use Rattle.formulas.specs.Variance.{flat}
 

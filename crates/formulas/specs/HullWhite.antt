@@ -1,6 +1,6 @@
 -- hullwhitemodel.rs: the analytic formulas, on factors that are already fetched. t is an option time, T a bond time; p is a factor. Every operation rounds once, in the Rust's order.
 use lib.Ieee.{Float, neg}
-use Rattle.ieee.specs.Rounded.{_⊕_, _⊖_, _⊗_, _⊘_}
+use Rattle.ieee.specs.Rounded.{_⊖_, _⊗_, _⊘_}
 use Rattle.ieee.specs.Decimal.{decimal}
 use Rattle.ieee.specs.Numbers.{half, one, two, four}
 use Rattle.ieee.specs.Fused.{fusedOf}

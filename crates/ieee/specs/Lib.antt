@@ -7,5 +7,6 @@ pub mod Rows
 pub mod Fused
 pub mod WholeRoot
 pub mod Sqrt
+-- for private functions' contracts only, as is `stickyRoot` at the end of WholeRoot
 pub mod Words
 pub mod Terms

@@ -1,5 +1,5 @@
 -- Whether two values are the same one, the sign of a zero told: what a computed table of cases compares by. `same-is` turns the test into an equation.
-use mathlib.Core.Path.{_≡_, refl, ap, ap₂, _∙_}
+use mathlib.Core.Path.{_≡_, refl, ap, _∙_}
 use mathlib.Core.Bool.{Bool, true, false, Bool·beq, _&&_}
 use Prim.Native.Nat.{ℕ}
 use lib.Dec.{T, eqb, eqb→eq}

@@ -55,6 +55,7 @@ root-bounds n = rootBy-bounds ((size n + 1) / 2) n (lt-of-lt-of-le (size-lt n) (
     pairs : (z : ℕ) → z ≤ (z + 1) / 2 + (z + 1) / 2
     pairs z = omega arith
 
+-- ---- for a private function's contract
 -- the whole part of √n, and below it a sticky digit: 1 where that is not all of the root
 abbrev pub stickyRoot : ℕ → ℕ
 stickyRoot n = 2 * root n + min (n - root n * root n) 1

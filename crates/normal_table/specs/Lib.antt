@@ -1,2 +1,6 @@
--- What it is to meet a row of the table. Definitions only.
+-- What it is to meet a row of a table, the rows of each part, and how they are counted. Definitions only.
 pub mod Meet
+pub mod Printed
+pub mod Worked
+pub mod Parts
+pub mod Tally

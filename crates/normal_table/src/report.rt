@@ -1,84 +1,54 @@
-// The rows compared so far, and what is written of them.
-use crate::row;
-use crate::row::Row;
-use crate::tally;
-use crate::tally::Tally;
-use crate::verdict;
-use crate::verdict::Verdict;
+// What is written of the parts.
+use crate::count::Count;
+use crate::parts;
 
-pub struct Counts {
-    pub rows: u64,
-    // rows at which one of the functions differs
-    pub differ: u64,
-    pub norm_cdf: Tally,
-    pub norm_cdf_dual: Tally,
+pub fn write() {
+    part(
+        b"cumulative table, 15 arguments to 5 decimals, with both signs: ",
+        0,
+        15,
+    );
+    part(
+        b"percentage points, 30 arguments to 3 decimals, with both signs: ",
+        1,
+        30,
+    );
+    part(
+        b"mpmath, 32 arguments from 0 to 3, values to 15 decimals, with both signs: ",
+        2,
+        32,
+    );
+    part(
+        b"mpmath, 30 arguments from 3.1 to 6, values to 10 decimals, with both signs: ",
+        3,
+        30,
+    );
+    part(
+        b"mpmath, the 15 decimals to three quarters of a unit of the last: ",
+        4,
+        32,
+    );
+    part(
+        b"wrong on purpose, by one in the last digit of each kind, so that none may be met: ",
+        5,
+        3,
+    );
 }
 
-pub fn nothing() -> Counts {
-    Counts {
-        rows: 0,
-        differ: 0,
-        norm_cdf: tally::nothing(),
-        norm_cdf_dual: tally::nothing(),
-    }
-}
-
-// The counts with one row more, which is written out unless both functions meet every digit of it.
-pub fn counted(t: Counts, r: Row) -> Counts {
-    let x = row::argument(r);
-    let a = verdict::verdict_of(probability::norm_cdf(x), r);
-    let b = verdict::verdict_of(probability::norm_cdf_dual(x), r);
-    if !(verdict::is_same(a) && verdict::is_same(b)) {
-        write_row(r, a, b);
-    }
-    let bad = verdict::is_different(a) || verdict::is_different(b);
-    let first = t.norm_cdf;
-    let second = t.norm_cdf_dual;
-    Counts {
-        rows: tally::one_more(t.rows),
-        differ: if bad {
-            tally::one_more(t.differ)
-        } else {
-            t.differ
-        },
-        norm_cdf: tally::with(first, a),
-        norm_cdf_dual: tally::with(second, b),
-    }
-}
-
-fn write_row(r: Row, a: Verdict, b: Verdict) {
-    write_argument(r);
-    io::write_all(1, b": ");
-    io::print_decimal(1, r.digits);
-    io::write_all(1, b" / ");
-    io::print_decimal(1, r.unit);
-    io::write_all(1, b": norm_cdf ");
-    verdict::write(a);
-    io::write_all(1, b", norm_cdf_dual ");
-    verdict::write(b);
+fn part(name: &[u8], number: u64, rows: usize) {
+    let f = parts::counted(number, rows, false);
+    let g = parts::counted(number, rows, true);
+    io::write_all(1, name);
+    io::write_all(1, b"norm_cdf ");
+    counts(f);
+    io::write_all(1, b"; norm_cdf_dual ");
+    counts(g);
     io::write_all(1, b"\n");
 }
 
-// The argument with two decimals.
-fn write_argument(r: Row) {
-    if r.negative {
-        io::write_all(1, b"-");
-    }
-    io::print_decimal(1, r.hundredths / 100);
-    io::write_all(1, b".");
-    io::print_decimal(1, r.hundredths / 10 % 10);
-    io::print_decimal(1, r.hundredths % 10);
-}
-
-pub fn write(t: Counts) {
-    let first = t.norm_cdf;
-    let second = t.norm_cdf_dual;
-    io::write_all(1, b"norm_cdf: ");
-    tally::write(first);
-    io::write_all(1, b"norm_cdf_dual: ");
-    tally::write(second);
-    io::print_decimal(1, t.rows);
-    io::write_all(1, b" rows, ");
-    io::print_decimal(1, t.differ);
-    io::write_all(1, b" differ\n");
+fn counts(c: Count) {
+    io::print_decimal(1, c.met);
+    io::write_all(1, b" met, ");
+    io::print_decimal(1, c.missed);
+    io::write_all(1, b" not");
 }

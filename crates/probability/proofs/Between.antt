@@ -1,30 +1,29 @@
 -- Both normal functions lie between 0 and 1, and are NaN only at NaN.
 use Rattle.ieee.specs.Decimal.{decimal}
 use mathlib.Core.Path.{_≡_, refl, sym, ap, _∙_, subst}
-use mathlib.Core.Bool.{Bool, true, false, not, cond, _&&_, true≢false}
-use Prim.Native.Nat.{ℕ, zero, suc, _+_, _-_, _*_, _/_, _^_, _<_, _≤_}
+use mathlib.Core.Bool.{Bool, true, false, not, cond}
+use Prim.Native.Nat.{ℕ, zero, suc, _+_, _*_, _/_, _<_, _≤_}
 use native.Mathlib.Omega.{arith}
-use native.Mathlib.Nat.{le-trans, le-of-eq, lt-of-lt-of-le, mul-pos, mul-one, one-mul, add-zero, zero-mul, mul-comm, mul-assoc, mul-left-comm, mul-le-mul, mul-le-mul-right}
-use borrow.Author.Tests.{le-ltb, eq-eqb}
-use lib.Dec.{T, ltb, lit<, lit≤}
-use lib.IntN.{ℤ, pos, negsuc, negℤ}
-use lib.Ieee.{Float, nan, inf, fin, binary64, up, down, round, add, sub, mul, div, neg, le, lt, ne, fits, isNan, ofInt, ofBits}
-use lib.Ieee.Fits.{mul-fits, down-pos}
-use lib.Ieee.Positive.{num, den, den-pos}
+use native.Mathlib.Nat.{mul-one, add-zero, zero-mul}
+use borrow.Author.Tests.{le-ltb}
+use lib.Dec.{T, lit≤}
+use lib.IntN.{pos, negsuc, negℤ}
+use lib.Ieee.{Float, nan, inf, fin, binary64, up, down, round, add, sub, mul, div, neg, le, lt, fits, isNan, ofInt, ofBits}
+use lib.Ieee.Fits.{mul-fits}
+use lib.Ieee.Positive.{num, den}
+use Rattle.ieee.specs.Numbers as Numbers
 use Rattle.ieee.specs.Numbers.{half, one}
-use Rattle.elementary.specs.Simple.{absOf}
-use Rattle.elementary.specs.Constants.{log2e, ln2hi, ln2lo, high, low}
+use Rattle.elementary.specs.Constants.{log2e, ln2hi, ln2lo, expTop, expBottom}
 use Rattle.elementary.specs.Exp.{expOf, expWithin, nearestWhole, reducedOf, seriesOf, scaleOf}
-use Rattle.elementary.proofs.Nearest.{sgn}
 use Rattle.elementary.proofs.Range.{round-neg}
-use Rattle.probability.specs.NormCdf.{hartOf, tailOf, upperOf, normBy, limit, threshold, productThenSum}
+use Rattle.probability.specs.NormCdf.{hartOf, tailOf, upperOf, normBy, limit, threshold}
 use Rattle.probability.specs.Between.{Probability}
-use Rattle.probability.proofs.NonNeg.{nn, Below, cross→le, le→cross, mul-is, mul-below}
+use Rattle.probability.proofs.NonNeg.{nn, Below, cross→le, le→cross, mul-below}
 use Rattle.probability.proofs.Hart.{below-self}
-use Rattle.probability.proofs.Self.{round-self, round-upto}
+use Rattle.probability.proofs.Self.{round-self}
 use Rattle.probability.proofs.Sizes.{Upto, upto-below, one-less}
-use Rattle.probability.proofs.Powers.{reach, mid, unit, two, mul-neg, series-below, series-neg, scale-below, scale-zero}
-use Rattle.probability.proofs.Quotient.{Sound, twice-sound, hart-unit, eight, below-trans, below-nought}
+use Rattle.probability.proofs.Powers.{reach, mid, unit, mul-neg, series-below, series-neg, scale-below, scale-zero}
+use Rattle.probability.proofs.Quotient.{Sound, hart-unit, eight, below-trans, below-nought}
 use Rattle.probability.proofs.Tails.{lt-no, lt-yes, seven, top, tail-unit}
 use Rattle.probability.proofs.Reduce.{K, t, N0, D0, t-below, K-small, low-K, up-K, reduced-size}
 
@@ -89,23 +88,23 @@ not-nan (inf s) p = absurd p
 not-nan (fin true m e) p = absurd p
 not-nan (fin false m e) p = refl
 
-not-high : (Y : Float) → T (nn Y) → lt high (neg Y) ≡ false
+not-over : (Y : Float) → T (nn Y) → lt expTop (neg Y) ≡ false
 unfolding lt neg decimal
-not-high nan p = absurd p
-not-high (inf s) p = absurd p
-not-high (fin true m e) p = absurd p
-not-high (fin false m e) p = refl
+not-over nan p = absurd p
+not-over (inf s) p = absurd p
+not-over (fin true m e) p = absurd p
+not-over (fin false m e) p = refl
 
-not-low : (Y : Float) → T (nn Y) → num Y ≤ 685 * den Y → lt (neg Y) (neg low) ≡ false
+not-under : (Y : Float) → T (nn Y) → num Y ≤ 685 * den Y → lt (neg Y) expBottom ≡ false
 unfolding lt neg decimal
-not-low nan p h = absurd p
-not-low (inf s) p h = absurd p
-not-low (fin true m e) p h = absurd p
-not-low (fin false m e) p h = le-ltb (746 * down e) (m * up e * 1) (omega arith)
+not-under nan p h = absurd p
+not-under (inf s) p h = absurd p
+not-under (fin true m e) p h = absurd p
+not-under (fin false m e) p h = le-ltb (746 * down e) (m * up e * 1) (omega arith)
 
 pub exp-unit : (Y : Float) → T (nn Y) → T (fits binary64 Y) → num Y ≤ 685 * den Y → Below (expOf (neg Y)) unit
 unfolding expOf
-exp-unit Y p f h = rw (not-nan Y p, not-high Y p, not-low Y p h) (within Y p f h)
+exp-unit Y p f h = rw (not-nan Y p, not-over Y p, not-under Y p h) (within Y p f h)
 
 -- ---- half the square of a number up to 37
 square : mul binary64 (mul binary64 top top) half ≡ fin false 1369 (negsuc 0)
@@ -144,8 +143,8 @@ threshold-facts : T (nn threshold) × T (le threshold eight) × T (le seven thre
 unfolding ofBits decimal le
 threshold-facts = (tt, tt, tt)
 
-zero-unit : Below (fin false 0 (pos 0)) unit
-unfolding le
+zero-unit : Below Numbers.zero unit
+unfolding le ofBits
 zero-unit = record { is = tt; le = tt }
 
 less-unit : (c : Float) → Below c unit → Below (sub binary64 one c) unit
@@ -157,7 +156,8 @@ unfolding normBy lt sub ofBits decimal le
 at-inf step true = record { is = tt; le = tt }
 at-inf step false = record { is = tt; le = tt }
 
-at-least-zero : (x : Float) → T (nn x) → T (le (fin false 0 (pos 0)) x)
+at-least-zero : (x : Float) → T (nn x) → T (le Numbers.zero x)
+unfolding ofBits
 at-least-zero x p = below-nought x p .le
 
 module _ (step : Float → Float → Float → Float) (sound : Sound step) where
@@ -165,7 +165,7 @@ module _ (step : Float → Float → Float → Float) (sound : Sound step) where
   unfolding upperOf
   upper-unit z p = go (lt limit z) (lt z threshold) refl refl
     where
-      go : (a b : Bool) → lt limit z ≡ a → lt z threshold ≡ b → Below (cond a (fin false 0 (pos 0)) (cond b (hartOf step z (expOf (mul binary64 (mul binary64 (neg z) z) half))) (tailOf z (expOf (mul binary64 (mul binary64 (neg z) z) half))))) unit
+      go : (a b : Bool) → lt limit z ≡ a → lt z threshold ≡ b → Below (cond a Numbers.zero (cond b (hartOf step z (expOf (mul binary64 (mul binary64 (neg z) z) half))) (tailOf z (expOf (mul binary64 (mul binary64 (neg z) z) half))))) unit
       go true b h k = zero-unit
       go false true h k =
           let hi : T (le z top) = lt-no top z tt p (rw limit-is at h) in
@@ -184,11 +184,12 @@ module _ (step : Float → Float → Float → Float) (sound : Sound step) where
   unfolding normBy isNan
   norm-unit nan h = absurd h
   norm-unit (inf s) h = at-inf step s
-  norm-unit (fin s m e) h = either (lt (fin false 0 (pos 0)) (fin s m e)) (upperOf step (fin false m e)) (upper-unit (fin false m e) tt)
+  norm-unit (fin s m e) h = either (lt Numbers.zero (fin s m e)) (upperOf step (fin false m e)) (upper-unit (fin false m e) tt)
 
   pub norm-nan : normBy step nan ≡ nan
   unfolding normBy lt expOf isNan neg mul add div ofBits decimal
   norm-nan = refl
 
   pub norm-within : (x : Float) → Probability x (normBy step x)
+  unfolding ofBits
   norm-within x = record { between = λ h. let b = norm-unit x h in (at-least-zero (normBy step x) (b .is), b .le); at-nan = λ e. rw e norm-nan }

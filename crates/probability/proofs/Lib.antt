@@ -9,5 +9,5 @@ pub mod Sizes
 pub mod Powers
 pub mod Reduce
 pub mod Between
-pub mod Once
+pub mod FusedSteps
 pub mod AsWritten

@@ -1,15 +1,14 @@
 -- The exponential's series and its power of two, for a reduced argument of size 9/16 at most.
 use Rattle.ieee.specs.Decimal.{decimal}
-use mathlib.Core.Path.{_≡_, refl, sym, ap, _∙_, subst}
-use mathlib.Core.Bool.{Bool, true, false, not, cond, _&&_, true≢false}
+use mathlib.Core.Path.{_≡_, refl, sym, _∙_}
+use mathlib.Core.Bool.{true, false, true≢false}
 use Prim.Native.Nat.{ℕ, zero, suc, _+_, _-_, _*_, _/_, _^_, _<_, _≤_}
 use native.Mathlib.Omega.{arith}
-use native.Mathlib.Nat.{le-trans, le-of-eq, mul-pos, mul-one, one-mul, mul-comm, mul-assoc, zero-mul, mul-le-mul-right}
-use native.Mathlib.Numerals.{add-one}
+use native.Mathlib.Nat.{le-trans, le-of-eq, mul-pos, mul-one, zero-mul, mul-le-mul-right}
 use borrow.Author.Tests.{ne-eqb}
 use lib.Dec.{T, lit<, lit≤}
-use lib.Pow.{pow-pos, pow-mono}
-use lib.IntN.{ℤ, pos, negsuc, negℤ, subℕ, _+ℤ_, _-ℤ_}
+use lib.Pow.{pow-mono}
+use lib.IntN.{pos, negsuc, negℤ, _-ℤ_}
 use lib.Signed.{quotZ}
 use lib.Ieee.{Float, nan, inf, fin, binary64, up, down, round, add, mul, div, neg, le, fits, ofInt, ofBits}
 use lib.Ieee.Back.{round-whole}
@@ -20,8 +19,7 @@ use Rattle.elementary.specs.Exp.{seriesOf, scaleOf, twoTo}
 use Rattle.elementary.proofs.Nearest.{sgn}
 use Rattle.elementary.proofs.Ints.{subℕ-lt}
 use Rattle.elementary.proofs.Range.{round-neg, round-sgn}
-use Rattle.probability.proofs.NonNeg.{nn, Below, cross→le, le→cross, mul-is, div-is, mul-shape}
-use Rattle.probability.proofs.Self.{round-upto}
+use Rattle.probability.proofs.NonNeg.{nn, Below, cross→le, mul-is, div-is}
 use Rattle.probability.proofs.Sizes.{Upto, upto-neg, upto-below, below-upto, add-size, mul-size, div-size, one-more-sgn, one-less}
 
 abbrev pub unit : Float
@@ -175,9 +173,6 @@ power-unit (suc i) = record { is = tt; le = cross→le (fin false 1 (negsuc i)) 
 
 power-half : (i : ℕ) → Upto half (twoTo (negsuc i))
 power-half i = record { finite = tt; size = let q : 2 ≤ 2 ^ suc i = pow-mono {i = 1} {j = suc i} (omega arith) in omega arith }
-
-power-nn : (z : ℤ) → T (nn (twoTo z))
-power-nn z = tt
 
 rest-is : (j : ℕ) → negsuc j -ℤ quotZ (negsuc j) (pos 2) ≡ negsuc (suc j - suc (suc j / 2))
 rest-is j = go (suc j / 2) (let q : suc j / 2 < suc j = omega arith in q)

@@ -1,14 +1,13 @@
 -- Hart's quotient lies between 0 and 1, for a step that keeps the order and does at 0 and at 8 what is computed here.
 use Rattle.ieee.specs.Decimal.{decimal}
-use mathlib.Core.Path.{_≡_, refl, sym, ap, _∙_, subst}
-use mathlib.Core.Bool.{Bool, true, false, _&&_}
+use mathlib.Core.Bool.{false, _&&_}
 use mathlib.Core.List.{List, [], _∷_}
-use Prim.Native.Nat.{ℕ, _*_, _<_, _≤_}
+use Prim.Native.Nat.{_*_, _<_, _≤_}
 use native.Mathlib.Omega.{arith}
-use native.Mathlib.Nat.{le-trans, le-of-eq, lt-of-lt-of-le, mul-pos, mul-one, one-mul, mul-comm, mul-assoc, mul-left-comm, mul-le-mul, mul-mul-mul-comm, zero-mul}
-use lib.Dec.{T, ltb, ltb→lt, lit<}
+use native.Mathlib.Nat.{le-trans, le-of-eq, lt-of-lt-of-le, mul-pos, mul-comm, mul-assoc, mul-left-comm, mul-le-mul, zero-mul}
+use lib.Dec.{T, ltb, ltb→lt}
 use lib.IntN.{pos}
-use lib.Ieee.{Float, nan, inf, fin, binary64, round, add, mul, div, le, fits, ofBits}
+use lib.Ieee.{Float, fin, binary64, add, mul, div, le, fits, ofBits}
 use lib.Ieee.Fits.{and-l, and-r, add-fits}
 use lib.Ieee.Positive.{num, den, den-pos, through, first-pos}
 use Rattle.probability.specs.NormCdf.{horner, hartOf, productThenSum, numFirst, numRest, denFirst, denRest}
@@ -47,7 +46,7 @@ mul-unit e x y q f h k =
     (round-upto (num e * num x) (den e * den x) y (mul-pos (den-pos e) (den-pos x)) f q
     (le-trans (le-of-eq (mul-assoc (num e) (num x) (den y)))
     (le-trans (mul-le-mul small (le→cross x y (k .is) q (k .le)))
-    (le-of-eq (simp (mul-assoc, mul-comm, mul-left-comm))))))
+    (le-of-eq (simp (mul-comm, mul-left-comm))))))
   where
     small : num e ≤ den e
     small = let c = le→cross e unit (h .is) tt (h .le) in omega arith

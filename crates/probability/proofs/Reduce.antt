@@ -1,27 +1,26 @@
 -- The reduced argument of the exponential is of size 9/16 at most, for an argument from -685 to 0. Only the order of what is rounded is used.
 use Rattle.ieee.specs.Decimal.{decimal}
 use mathlib.Core.Path.{_≡_, refl, sym, ap, _∙_, subst}
-use mathlib.Core.Bool.{Bool, true, false, not, cond, _&&_, true≢false}
-use Prim.Native.Nat.{ℕ, zero, suc, _+_, _-_, _*_, _/_, _%_, _^_, _<_, _≤_}
+use mathlib.Core.Bool.{Bool, true, false, cond, _&&_, true≢false}
+use Prim.Native.Nat.{ℕ, suc, _+_, _-_, _*_, _/_, _%_, _^_, _<_, _≤_}
 use native.Mathlib.Omega.{arith}
 use native.Mathlib.Nat.{le-refl, eq-of-mul-eq-mul-right, le-trans, le-of-eq, lt-of-lt-of-le, lt-of-not-le, not-le-of-lt, lt-of-le-of-lt, mul-pos, mul-one, one-mul, add-mul, suc-mul, mul-comm, mul-assoc, mul-left-comm, mul-right-comm, mul-le-mul-right, mul-le-mul-left, mul-lt-mul-of-pos-right, le-of-mul-le-mul-right, div-mul-le-self, lt-div-mul-add, div-le-of-le-mul, mul-sub}
 use borrow.Author.Tests.{eq-eqb}
 use lib.Pow.{pow-add, pow-mono, shl-lt}
-use lib.Dec.{T, eqb, ltb, lit<, lit≤}
-use lib.IntN.{ℤ, pos, negsuc, negℤ}
+use lib.Dec.{T, ltb, lit<, lit≤}
+use lib.IntN.{pos, negsuc}
 use lib.Ieee.{Float, nan, inf, fin, binary64, up, down, round, sum, add, sub, mul, neg, le, fits, ofInt, ofBits}
 use lib.Ieee.Back.{round-whole}
 use lib.Ieee.Exact.{HasValue, round-exact}
 use lib.Ieee.Fits.{down-pos}
 use lib.Ieee.Positive.{num, den, den-pos, value→cross}
 use Rattle.elementary.specs.Constants.{log2e, ln2hi, ln2lo}
-use Rattle.elementary.specs.Exp.{nearestWhole, reducedOf}
-use Rattle.elementary.proofs.Nearest.{sgn}
+use Rattle.elementary.specs.Exp.{reducedOf}
 use Rattle.elementary.proofs.Range.{round-neg}
 use Rattle.elementary.proofs.Splits.{small}
 use Rattle.probability.proofs.NonNeg.{nn, Below, cross→le, le→cross, mul-is, round-below}
 use Rattle.probability.proofs.Self.{round-self, round-upto}
-use Rattle.probability.proofs.Sizes.{Upto, upto-neg, upto-below, round-size, add-size, mul-size}
+use Rattle.probability.proofs.Sizes.{Upto, upto-below, round-size, add-size, mul-size}
 use Rattle.probability.proofs.Powers.{reach, mul-neg}
 
 log-is : log2e ≡ fin false 3248660424278399 (negsuc 50)

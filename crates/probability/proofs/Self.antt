@@ -1,15 +1,15 @@
 -- A value that the format holds rounds to itself; and what is below such a value rounds to no more than it.
 use mathlib.Core.Path.{_≡_, refl, sym, ap, _∙_, subst}
-use mathlib.Core.Bool.{Bool, true, false, _&&_}
+use mathlib.Core.Bool.{Bool, true, false}
 use Prim.Native.Nat.{ℕ, zero, suc, _+_, _-_, _*_, _^_, _<_, _≤_}
 use native.Mathlib.Omega.{arith}
-use native.Mathlib.Nat.{le-trans, le-of-eq, lt-of-le-of-lt, lt-of-lt-of-le, lt-of-not-le, not-le-of-lt, mul-pos, mul-one, one-mul, zero-mul, mul-assoc, mul-comm, mul-left-comm, mul-right-comm, mul-le-mul-right, mul-lt-mul-of-pos-right, pow-suc}
-use lib.Dec.{T, leb, ltb, eqb, ltb→lt, eqb→eq, lit<}
+use native.Mathlib.Nat.{le-of-eq, lt-of-le-of-lt, lt-of-lt-of-le, lt-of-not-le, not-le-of-lt, mul-one, mul-assoc, mul-comm, mul-left-comm, mul-le-mul-right, mul-lt-mul-of-pos-right}
+use lib.Dec.{T, eqb, ltb→lt, eqb→eq}
 use lib.Pow.{pow-pos, pow-add}
 use lib.IntN.{ℤ, pos, negsuc}
 use lib.Ieee.{Float, nan, inf, fin, binary64, up, down, round, fits}
-use lib.Ieee.Exact.{HasValue, round-exact}
-use lib.Ieee.Fits.{and-l, and-r, up-pos, down-pos, round-fits}
+use lib.Ieee.Exact.{round-exact}
+use lib.Ieee.Fits.{and-l, and-r, down-pos, round-fits}
 use lib.Ieee.Positive.{num, den, den-pos}
 use Rattle.elementary.proofs.Nearest.{fits-digits, fits-low, pow-inj}
 use Rattle.elementary.proofs.Digits53.{lift}

@@ -1,14 +1,14 @@
 -- How large a float is, its sign left aside: at most what another float is.
-use mathlib.Core.Path.{_≡_, refl, sym, ap, _∙_, subst}
-use mathlib.Core.Bool.{Bool, true, false, not, cond, _&&_, Bool·beq, true≢false}
-use Prim.Native.Nat.{ℕ, zero, suc, _+_, _-_, _*_, _^_, _<_, _≤_}
+use mathlib.Core.Path.{_≡_, refl}
+use mathlib.Core.Bool.{Bool, true, false, cond, _&&_, Bool·beq, true≢false}
+use Prim.Native.Nat.{ℕ, zero, suc, _+_, _-_, _*_, _<_, _≤_}
 use native.Mathlib.Omega.{arith}
-use native.Mathlib.Nat.{zero-mul, le-trans, le-of-eq, le-of-lt, mul-pos, mul-one, one-mul, mul-assoc, mul-comm, mul-left-comm, mul-right-comm, mul-le-mul, mul-le-mul-right, mul-le-mul-left, add-mul, le-of-mul-le-mul-right, mul-mul-mul-comm}
-use borrow.Author.Tests.{ltb-true, ltb-false, le-ltb, ne-eqb}
+use native.Mathlib.Nat.{zero-mul, le-trans, le-of-eq, mul-pos, mul-assoc, mul-comm, mul-left-comm, mul-le-mul, mul-le-mul-right, mul-mul-mul-comm}
+use borrow.Author.Tests.{ltb-true, le-ltb, ne-eqb}
 use lib.Dec.{T, ltb, lit<}
-use lib.IntN.{ℤ, pos, negsuc}
-use lib.Ieee.{Float, nan, inf, fin, binary64, up, down, unlike, round, sum, add, sub, mul, div, neg, le, fits}
-use lib.Ieee.Fits.{up-pos, down-pos}
+use lib.IntN.{pos}
+use lib.Ieee.{Float, nan, inf, fin, binary64, up, down, unlike, round, sum, add, mul, div, neg, le, fits}
+use lib.Ieee.Fits.{down-pos}
 use lib.Ieee.Positive.{num, den, den-pos, through}
 use lib.Ieee.Scale.{finite}
 use Rattle.elementary.proofs.Nearest.{sgn}

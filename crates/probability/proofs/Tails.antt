@@ -1,12 +1,11 @@
 -- The continued fraction of the tail, from 7 up to 37: it is 7 at least, so the quotient is at most 1.
 use Rattle.ieee.specs.Decimal.{decimal}
-use mathlib.Core.Path.{_≡_, refl, sym, ap, _∙_, subst}
-use mathlib.Core.Bool.{Bool, true, false, _&&_, true≢false, false≢true}
-use Prim.Native.Nat.{ℕ, _*_, _<_, _≤_}
-use native.Mathlib.Omega.{arith}
-use native.Mathlib.Nat.{le-trans, le-of-eq, le-of-lt, lt-of-lt-of-le, mul-pos}
+use mathlib.Core.Path.{_≡_, refl, subst}
+use mathlib.Core.Bool.{true, false}
+use Prim.Native.Nat.{_*_, _<_, _≤_}
+use native.Mathlib.Nat.{le-of-lt, lt-of-lt-of-le, mul-pos}
 use borrow.Author.Tests.{ltb-true, ltb-false}
-use lib.Dec.{T, ltb, lit<}
+use lib.Dec.{T, lit<}
 use lib.IntN.{pos}
 use lib.Ieee.{Float, nan, inf, fin, binary64, up, down, add, mul, div, le, lt, ofBits}
 use lib.Ieee.Positive.{num, den, den-pos, first-pos}

@@ -1,4 +1,5 @@
--- What the contracts of the normal functions say.
+-- What the contracts of the normal functions say; Limits has laws of the definitions.
 pub mod NormCdf
 pub mod Between
+pub mod AsWritten
 pub mod Limits

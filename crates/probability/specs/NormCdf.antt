@@ -1,11 +1,10 @@
 -- norm_cdf.rs, both functions. Document 01: "f64 uses fused steps, the DualFwd one a product and then a sum." Each is the same text over its own step.
 use mathlib.Core.Bool.{Bool, true, false, cond}
 use mathlib.Core.List.{List, [], _∷_}
-use lib.IntN.{pos}
-use lib.Ieee.{Float, fin, neg, lt}
+use lib.Ieee.{Float, neg, lt}
 use Rattle.ieee.specs.Rounded.{_⊕_, _⊖_, _⊗_, _⊘_}
 use Rattle.ieee.specs.Decimal.{decimal}
-use Rattle.ieee.specs.Numbers.{half, one, two, three, four}
+use Rattle.ieee.specs.Numbers.{zero, half, one, two, three, four}
 use Rattle.ieee.specs.Fused.{fusedOf}
 use Rattle.elementary.specs.Constants.{sqrt2pi}
 use Rattle.elementary.specs.Simple.{absOf}
@@ -74,7 +73,7 @@ tailOf z e =
 -- above 37 it is 0; else e is exp(-z × z × 0.5), and the threshold decides
 unfoldable pub upperOf : (Float → Float → Float → Float) → Float → Float
 upperOf step z =
-    cond (lt limit z) (fin false 0 (pos 0))
+    cond (lt limit z) zero
     (let e = expOf (neg z ⊗ z ⊗ half) in
     cond (lt z threshold) (hartOf step z e) (tailOf z e))
 
@@ -82,7 +81,7 @@ upperOf step z =
 
 unfoldable pub normBy : (Float → Float → Float → Float) → Float → Float
 unfolding upperOf
-normBy step x = let cum = upperOf step (absOf x) in cond (lt (fin false 0 (pos 0)) x) (one ⊖ cum) cum
+normBy step x = let cum = upperOf step (absOf x) in cond (lt zero x) (one ⊖ cum) cum
 
 -- the f64 one
 abbrev pub normCdfOf : Float → Float

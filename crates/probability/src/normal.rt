@@ -5,8 +5,7 @@ ghost use mathlib.Core.Path.{_≡_};
 ghost use Rattle.ieee.specs.Fused.{fusedOf};
 ghost use Rattle.probability.specs.NormCdf.{productThenSum, stepOf, horner, numFirst, numRest, denFirst, denRest, hartOf, tailOf, upperOf, normCdfOf, normCdfDualOf};
 ghost use Rattle.probability.specs.Between.{Probability};
-
-const SQRT_2PI: f64 = 2.5066282746310005;
+ghost use Rattle.probability.specs.AsWritten.{normCdfDualAsWritten};
 
 // Between the rational branch and the tail's continued fraction: 5 × √2.
 const HART_THRESHOLD: f64 = 7.071067811865475;
@@ -22,6 +21,7 @@ pub fn norm_cdf(x: f64) -> f64
 pub fn norm_cdf_dual(x: f64) -> f64
     ensures { λ r. ⌜ r ≡ normCdfDualOf x ⌝ }
     ensures between { λ r. ⌜ Probability x r ⌝ }
+    ensures as_written { λ r. ⌜ r ≡ normCdfDualAsWritten x ⌝ }
 {
     let cum = upper(elementary::abs(x), true);
     if x > 0.0 { 1.0 - cum } else { cum }
@@ -108,5 +108,5 @@ fn tail(z: f64, e: f64) -> f64
     let b = z + 3.0 / b;
     let b = z + 2.0 / b;
     let b = z + 1.0 / b;
-    e / (b * SQRT_2PI)
+    e / (b * elementary::SQRT_2PI)
 }

@@ -1,4 +1,5 @@
--- What the vectors' bytes and bits mean. Definitions only.
+-- What the vectors' bytes and bits mean, and how records are counted. Definitions only.
 pub mod Bytes
-pub mod Match
 pub mod Named
+pub mod Match
+pub mod Counting

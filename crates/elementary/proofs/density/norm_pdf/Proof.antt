@@ -1,5 +1,4 @@
--- `elementary::norm_pdf` meets its contract. Assumes nothing.
-use mathlib.Core.Path.{_≡_}
+-- `elementary::norm_pdf` meets its contract: by what `exp` gives, with SQRT_2PI its literal. Assumes nothing.
 use borrow.Author.Needs.{needs}
 use Rattle.elementary.specs.Density.{densityOf}
 use Rattle.elementary.proofs.Literals.{sqrt2pi-is}

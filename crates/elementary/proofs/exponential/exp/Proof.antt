@@ -1,21 +1,20 @@
 -- `elementary::exp` meets its contract: by the three tests, and inside the range by what its parts give. Assumes nothing.
-use mathlib.Core.Path.{_≡_, refl, sym, ap, _∙_}
+use mathlib.Core.Path.{_≡_, ap, _∙_}
 use native.Mathlib.Omega.{arith}
 use borrow.Author.Needs.{needs}
 use lib.IntN.{ℤ}
 use lib.Signed.{mag}
 use Prim.Native.Nat.{_≤_}
 use mir.Syntax.{w32}
-use mir.Val.{SFits, toZ, ofZ}
+use mir.Val.{toZ, ofZ}
 use mir.ValLaws.{toZ-ofZ}
-use lib.Ieee.{Float, binary64, div, ofBits}
+use lib.Ieee.{Float, div, ofBits}
 use Rattle.ieee.specs.Numbers.{one}
 use Rattle.ieee.specs.Rows.{Gives, by-rows}
-use Rattle.elementary.specs.Constants.{log2e}
-use Rattle.elementary.specs.Exp.{expOf, kOf, nearestWhole, reducedOf, scaleOf, seriesOf}
+use Rattle.elementary.specs.Exp.{expOf, kOf, reducedOf, scaleOf, seriesOf}
 use Rattle.elementary.specs.ExactCases.{exactCases, exact-cases}
 use Rattle.elementary.proofs.Floats.{is-nan, nan-yes, nan-no}
-use Rattle.elementary.proofs.Literals.{log2e-is, high-is, low-is}
+use Rattle.elementary.proofs.Literals.{log2e-is, expTop-is, expBottom-is}
 use Rattle.elementary.proofs.Nearest.{nearest-mag}
 use Rattle.elementary.proofs.Range.{exp-moderate}
 use Rattle.elementary.proofs.exponential.exp.Statement.{statement}
@@ -31,11 +30,11 @@ returns c = both _ _ (rw (nan-yes _ (c .if1 .taken)) (is-nan (c .before .args .x
 
 returns-2 : tie.Need-returns-2
 unfolding expOf div ofBits
-returns-2 c = both _ _ (rw (nan-no _ (c .before .if1 .left), ← high-is, c .if2 .taken))
+returns-2 c = both _ _ (rw (nan-no _ (c .before .if1 .left), ← expTop-is, c .if2 .taken))
 
 returns-3 : tie.Need-returns-3
 unfolding expOf ofBits
-returns-3 c = both _ _ (rw (nan-no _ (c .before .before .if1 .left), ← high-is, c .before .if2 .left, ← low-is, c .if3 .taken))
+returns-3 c = both _ _ (rw (nan-no _ (c .before .before .if1 .left), ← expTop-is, c .before .if2 .left, ← expBottom-is, c .if3 .taken))
 
 nearest-whole-requires : tie.Need-nearest-whole-requires
 nearest-whole-requires c κs = rw log2e-is (exp-moderate _ (c .before .before .if1 .left) (c .before .if2 .left) (c .if3 .left))
@@ -65,7 +64,7 @@ unfolding expOf
 returns-4 c =
     let b = c .before .before .before in
     let w : c .scale .result ≡ scaleOf (seriesOf (reducedOf (x b) (kOf (x b))) 1 13 one) (kOf (x b)) = cc (k-is b) in
-    both _ _ (rw (nan-no _ (b .before .before .before .if1 .left), ← high-is, b .before .before .if2 .left, ← low-is, b .before .if3 .left) w)
+    both _ _ (rw (nan-no _ (b .before .before .before .if1 .left), ← expTop-is, b .before .before .if2 .left, ← expBottom-is, b .before .if3 .left) w)
 
 pub exp-spec : {M : Type 1} → statement M
 exp-spec = tie.close (tie.spec returns returns-2 returns-3 nearest-whole-requires reduced-requires series-requires scale-requires returns-4)

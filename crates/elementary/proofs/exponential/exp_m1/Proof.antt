@@ -1,7 +1,8 @@
-use mathlib.Core.Path.{_≡_, refl, sym, ap, _∙_}
+-- `elementary::exp_m1` meets its contract: by the test of |y| against 0.5, and by what `series` and `exp` give. Assumes nothing.
+use mathlib.Core.Path.{_≡_}
 use mathlib.Core.Bool.{true, false}
 use borrow.Author.Needs.{needs}
-use lib.Ieee.{Float, binary64, le, ofBits}
+use lib.Ieee.{binary64, le, ofBits}
 use Rattle.elementary.specs.Simple.{absOf}
 use Rattle.elementary.specs.Exp.{expM1Of}
 use Rattle.elementary.proofs.exponential.exp_m1.Statement.{statement}

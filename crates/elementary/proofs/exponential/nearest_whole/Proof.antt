@@ -1,15 +1,14 @@
-use mathlib.Core.Path.{_≡_, refl, sym, ap, _∙_, subst}
-use mathlib.Core.Bool.{true, false}
-use Prim.Native.Nat.{ℕ, _+_, _/_, _<_, _≤_}
+-- `elementary::nearest_whole` meets its contract: twice p is exact, and half of what it is cut to, one more in size, is the nearest whole number (`nearest-is`, `from-above`, `from-below` of Nearest). Assumes nothing.
+use mathlib.Core.Path.{_≡_, sym, ap, _∙_, subst}
+use Prim.Native.Nat.{_≤_}
 use native.Mathlib.Omega.{arith}
 use lib.Dec.{T}
 use lib.IntN.{ℤ, pos, _+ℤ_, _-ℤ_}
-use lib.Signed.{mag, quotZ, leZ}
+use lib.Signed.{mag, quotZ}
 use lib.Ieee.{Float, binary64, fits}
 use mir.Syntax.{w32, w64}
 use mir.Val.{SFits, toZ, ofZ}
 use mir.ValLaws.{toZ-ofZ}
-use Rattle.elementary.specs.Exp.{nearestWhole}
 use Rattle.elementary.proofs.Nearest.{doubled-in-range, doubled-cut, signed, sgn, halves, halves-le, signed-mag, nearest-is, from-above, from-below}
 use Rattle.elementary.proofs.Ints.{half-mag, mag-add, mag-sub1}
 use Rattle.elementary.proofs.exponential.nearest_whole.Statement.{statement}

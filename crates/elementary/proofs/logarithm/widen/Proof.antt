@@ -1,3 +1,4 @@
+-- `elementary::widen` meets its contract: a pattern's digits, with the leading one or shifted to full width, and their number (`widen-few`, `widen-many` of Digits53). Assumes nothing.
 use mathlib.Core.Path.{sym, subst}
 use Prim.Native.Nat.{_%_}
 use native.Mathlib.Omega.{arith}

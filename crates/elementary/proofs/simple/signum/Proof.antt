@@ -1,8 +1,8 @@
-use mathlib.Core.Path.{sym, subst, ap, _∙_}
+-- `elementary::signum` meets its contract: the sign is the leading bit of the pattern (`signum-by-bits`). Assumes nothing.
+use mathlib.Core.Path.{sym, subst}
 use borrow.Author.Tests.{lt-leb, le-leb}
 use lib.Dec.{T}
 use lib.Ieee.{binary64, fits}
-use Rattle.elementary.specs.Simple.{signumOf}
 use Rattle.elementary.proofs.Floats.{not-nan, is-nan, signum-by-bits}
 use Rattle.elementary.proofs.simple.signum.Statement.{statement}
 use Rattle.elementary.proofs.simple.signum.Tie as tie

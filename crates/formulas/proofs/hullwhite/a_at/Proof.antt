@@ -1,5 +1,4 @@
 -- `formulas::a_at` meets its contract. Assumes nothing.
-use mathlib.Core.Path.{_≡_}
 use Rattle.formulas.specs.HullWhite.{aAt}
 use borrow.Author.Needs.{needs}
 use Rattle.formulas.proofs.hullwhite.a_at.Statement.{statement}

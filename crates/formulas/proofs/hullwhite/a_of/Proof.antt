@@ -1,5 +1,4 @@
 -- `formulas::a_of` meets its contract. Assumes nothing.
-use mathlib.Core.Path.{_≡_}
 use borrow.Author.Needs.{needs}
 use Rattle.formulas.proofs.hullwhite.a_of.Statement.{statement}
 use Rattle.formulas.proofs.hullwhite.a_of.Tie as tie

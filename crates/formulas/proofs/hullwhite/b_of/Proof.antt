@@ -1,5 +1,4 @@
 -- `formulas::b_of` meets its contract. Assumes nothing.
-use mathlib.Core.Path.{_≡_}
 use Rattle.formulas.specs.HullWhite.{bOf}
 use borrow.Author.Needs.{needs}
 use Rattle.formulas.proofs.hullwhite.b_of.Statement.{statement}

@@ -1,5 +1,4 @@
 -- `formulas::bond_call_of` meets its contract. Assumes nothing.
-use mathlib.Core.Path.{_≡_}
 use Rattle.formulas.specs.HullWhite.{bondCallOf}
 use borrow.Author.Needs.{needs}
 use Rattle.formulas.proofs.hullwhite.bond_call_of.Statement.{statement}

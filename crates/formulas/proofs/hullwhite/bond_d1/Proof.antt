@@ -1,5 +1,4 @@
 -- `formulas::bond_d1` meets its contract. Assumes nothing.
-use mathlib.Core.Path.{_≡_}
 use Rattle.formulas.specs.HullWhite.{d1Of}
 use borrow.Author.Needs.{needs}
 use Rattle.formulas.proofs.hullwhite.bond_d1.Statement.{statement}

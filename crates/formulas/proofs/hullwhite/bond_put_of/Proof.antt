@@ -1,5 +1,4 @@
 -- `formulas::bond_put_of` meets its contract. Assumes nothing.
-use mathlib.Core.Path.{_≡_}
 use Rattle.formulas.specs.HullWhite.{bondPutOf}
 use borrow.Author.Needs.{needs}
 use Rattle.formulas.proofs.hullwhite.bond_put_of.Statement.{statement}

@@ -1,5 +1,5 @@
 -- `formulas::day` meets its contract. Assumes nothing.
-use mathlib.Core.Path.{_≡_, refl}
+use mathlib.Core.Path.{refl}
 use Rattle.formulas.specs.HullWhite.{h}
 use Rattle.formulas.proofs.Literals.{year-is}
 use Rattle.formulas.proofs.hullwhite.day.Statement.{statement}

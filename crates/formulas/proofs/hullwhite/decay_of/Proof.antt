@@ -1,5 +1,4 @@
 -- `formulas::decay_of` meets its contract. Assumes nothing.
-use mathlib.Core.Path.{_≡_}
 use Rattle.formulas.specs.HullWhite.{decayOf}
 use borrow.Author.Needs.{needs}
 use Rattle.formulas.proofs.hullwhite.decay_of.Statement.{statement}

@@ -1,5 +1,4 @@
 -- `formulas::deviation_of` meets its contract. Assumes nothing.
-use mathlib.Core.Path.{_≡_}
 use Rattle.formulas.specs.HullWhite.{deviationOf}
 use borrow.Author.Needs.{needs}
 use Rattle.formulas.proofs.hullwhite.deviation_of.Statement.{statement}

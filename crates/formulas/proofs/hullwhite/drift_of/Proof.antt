@@ -1,5 +1,4 @@
 -- `formulas::drift_of` meets its contract. Assumes nothing.
-use mathlib.Core.Path.{_≡_}
 use Rattle.formulas.specs.HullWhite.{driftOf}
 use borrow.Author.Needs.{needs}
 use Rattle.formulas.proofs.hullwhite.drift_of.Statement.{statement}

@@ -1,5 +1,4 @@
 -- `formulas::forward_of` meets its contract. Assumes nothing.
-use mathlib.Core.Path.{_≡_}
 use Rattle.formulas.specs.HullWhite.{forwardOf}
 use borrow.Author.Needs.{needs}
 use Rattle.formulas.proofs.hullwhite.forward_of.Statement.{statement}

@@ -1,5 +1,4 @@
 -- `formulas::growth` meets its contract. Assumes nothing.
-use mathlib.Core.Path.{_≡_}
 use Rattle.formulas.specs.HullWhite.{growthOf}
 use borrow.Author.Needs.{needs}
 use Rattle.formulas.proofs.hullwhite.growth.Statement.{statement}

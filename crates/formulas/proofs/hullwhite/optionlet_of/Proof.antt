@@ -1,5 +1,4 @@
 -- `formulas::optionlet_of` meets its contract. Assumes nothing.
-use mathlib.Core.Path.{_≡_}
 use Rattle.formulas.specs.HullWhite.{optionletOf}
 use borrow.Author.Needs.{needs}
 use Rattle.formulas.proofs.hullwhite.optionlet_of.Statement.{statement}

@@ -1,5 +1,4 @@
 -- `formulas::optionlet_strike_of` meets its contract. Assumes nothing.
-use mathlib.Core.Path.{_≡_}
 use Rattle.formulas.specs.HullWhite.{optionletStrikeOf}
 use borrow.Author.Needs.{needs}
 use Rattle.formulas.proofs.hullwhite.optionlet_strike_of.Statement.{statement}

@@ -1,5 +1,4 @@
 -- `formulas::short_rate_variance_of` meets its contract. Assumes nothing.
-use mathlib.Core.Path.{_≡_}
 use Rattle.formulas.specs.HullWhite.{shortRateVarianceOf}
 use borrow.Author.Needs.{needs}
 use Rattle.formulas.proofs.hullwhite.short_rate_variance_of.Statement.{statement}

@@ -1,5 +1,4 @@
 -- `formulas::theta_of` meets its contract. Assumes nothing.
-use mathlib.Core.Path.{_≡_}
 use Rattle.formulas.specs.HullWhite.{thetaOf}
 use borrow.Author.Needs.{needs}
 use Rattle.formulas.proofs.hullwhite.theta_of.Statement.{statement}

@@ -1,5 +1,4 @@
 -- `formulas::volatility_of` meets its contract. Assumes nothing.
-use mathlib.Core.Path.{_≡_}
 use borrow.Author.Needs.{needs}
 use Rattle.formulas.proofs.hullwhite.volatility_of.Statement.{statement}
 use Rattle.formulas.proofs.hullwhite.volatility_of.Tie as tie

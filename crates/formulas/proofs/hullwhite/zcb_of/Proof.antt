@@ -1,5 +1,4 @@
 -- `formulas::zcb_of` meets its contract. Assumes nothing.
-use mathlib.Core.Path.{_≡_}
 use Rattle.formulas.specs.HullWhite.{zcbOf}
 use borrow.Author.Needs.{needs}
 use Rattle.formulas.proofs.hullwhite.zcb_of.Statement.{statement}

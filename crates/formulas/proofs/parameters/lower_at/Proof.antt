@@ -1,5 +1,4 @@
 -- `lower_at` meets its contract. Assumes nothing.
-use mathlib.Core.Path.{_≡_}
 use borrow.Author.Needs.{needs}
 use Rattle.formulas.proofs.parameters.lower_at.Statement.{statement}
 use Rattle.formulas.proofs.parameters.lower_at.Tie as tie

@@ -1,5 +1,4 @@
 -- `piece` meets its contract. Assumes nothing.
-use mathlib.Core.Path.{_≡_}
 use borrow.Author.Needs.{needs}
 use Rattle.formulas.specs.Variance.{pieceOf}
 use Rattle.formulas.proofs.parameters.piece.Statement.{statement}

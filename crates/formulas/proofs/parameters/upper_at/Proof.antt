@@ -1,5 +1,5 @@
 -- `upper_at` meets its contract. Assumes nothing.
-use mathlib.Core.Path.{_≡_, sym, _∙_}
+use mathlib.Core.Path.{sym, _∙_}
 use borrow.Author.Needs.{needs}
 use Rattle.formulas.proofs.Walks.{upper-next, upper-end}
 use Rattle.formulas.proofs.parameters.upper_at.Statement.{statement}

@@ -1,5 +1,5 @@
 -- `formulas::variance_of` meets its contract: at place i the pieces that are left make up the whole. Assumes nothing.
-use mathlib.Core.Path.{_≡_, refl, sym, ap, _∙_}
+use mathlib.Core.Path.{_≡_, refl, sym, _∙_}
 use mathlib.Core.Bool.{false}
 use Prim.Native.Nat.{_≤_, _-_, _+_}
 use native.Mathlib.Omega.{arith}
@@ -8,7 +8,7 @@ use borrow.Author.Tests.{ne-eqb}
 use denote.Ref.{now}
 use lib.Dec.{eqb}
 use lib.ListN.{length, drop, getD}
-use lib.Ieee.{Float, nan, ofBits}
+use lib.Ieee.{nan}
 use Rattle.formulas.specs.Variance.{pieceOf, lowerOf, upperOf, piecesOf, varianceOf}
 use Rattle.formulas.proofs.Walks.{pieces-turn, pieces-short, pieces-end}
 use Rattle.formulas.proofs.parameters.variance_of.Statement.{statement}

@@ -1,5 +1,4 @@
 -- `formulas::annuity_step` meets its contract. Assumes nothing.
-use mathlib.Core.Path.{_≡_}
 use Rattle.formulas.specs.Quotes.{annuityStep}
 use borrow.Author.Needs.{needs}
 use Rattle.formulas.proofs.quotes.annuity_step.Statement.{statement}

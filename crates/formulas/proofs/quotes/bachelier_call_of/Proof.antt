@@ -1,5 +1,4 @@
 -- `formulas::bachelier_call_of` meets its contract. Assumes nothing.
-use mathlib.Core.Path.{_≡_}
 use Rattle.formulas.specs.Quotes.{bachelierCallOf}
 use borrow.Author.Needs.{needs}
 use Rattle.formulas.proofs.quotes.bachelier_call_of.Statement.{statement}

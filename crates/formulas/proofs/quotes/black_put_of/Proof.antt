@@ -1,5 +1,4 @@
 -- `formulas::black_put_of` meets its contract. Assumes nothing.
-use mathlib.Core.Path.{_≡_}
 use Rattle.formulas.specs.Quotes.{blackPutOf}
 use borrow.Author.Needs.{needs}
 use Rattle.formulas.proofs.quotes.black_put_of.Statement.{statement}

@@ -1,5 +1,4 @@
 -- `formulas::d1_of` meets its contract. Assumes nothing.
-use mathlib.Core.Path.{_≡_}
 use Rattle.formulas.specs.Quotes.{d1Of}
 use borrow.Author.Needs.{needs}
 use Rattle.formulas.proofs.quotes.d1_of.Statement.{statement}

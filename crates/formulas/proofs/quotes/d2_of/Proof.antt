@@ -1,5 +1,4 @@
 -- `formulas::d2_of` meets its contract. Assumes nothing.
-use mathlib.Core.Path.{_≡_}
 use Rattle.formulas.specs.Quotes.{d2Of}
 use borrow.Author.Needs.{needs}
 use Rattle.formulas.proofs.quotes.d2_of.Statement.{statement}

@@ -1,4 +1,4 @@
--- `den` meets its contract. Assumes nothing.
+-- `probability::den` meets its contract: seven fused steps over the literals of the coefficients. Assumes nothing.
 use mathlib.Core.Path.{_≡_, _∙_}
 use Rattle.ieee.specs.Fused.{fusedOf}
 use Rattle.probability.specs.NormCdf.{horner}

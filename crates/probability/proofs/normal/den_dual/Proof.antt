@@ -1,4 +1,4 @@
--- `den_dual` meets its contract. Assumes nothing.
+-- `probability::den_dual` meets its contract: its steps over the literals are the definition's. Assumes nothing.
 use Rattle.probability.specs.NormCdf.{productThenSum}
 use Rattle.probability.proofs.Literals.{den-is}
 use Rattle.probability.proofs.normal.den_dual.Statement.{statement}

@@ -1,7 +1,5 @@
--- `hart` meets its contract. Assumes nothing.
-use mathlib.Core.Path.{_≡_}
+-- `probability::hart` meets its contract: by the step that is asked for. Assumes nothing.
 use borrow.Author.Needs.{needs}
-use Rattle.probability.specs.NormCdf.{stepOf, hartOf}
 use Rattle.probability.proofs.normal.hart.Statement.{statement}
 use Rattle.probability.proofs.normal.hart.Tie as tie
 

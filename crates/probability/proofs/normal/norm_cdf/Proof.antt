@@ -1,13 +1,13 @@
-use Rattle.ieee.specs.Decimal.{decimal}
+-- `probability::norm_cdf` meets its contract: by the test of the sign and by what `upper` gives; `norm-within` has the bounds. Assumes nothing.
 use mathlib.Core.Path.{_≡_, sym, subst}
 use borrow.Author.Needs.{needs}
-use lib.Ieee.{Float, binary64, sub, ofBits}
+use lib.Ieee.{Float, binary64, sub}
 use Rattle.ieee.specs.Numbers.{one}
 use Rattle.ieee.specs.Fused.{fusedOf}
-use Rattle.probability.specs.NormCdf.{normBy, normCdfOf, productThenSum}
+use Rattle.probability.specs.NormCdf.{normBy, normCdfOf}
 use Rattle.probability.specs.Between.{Probability}
 use Rattle.probability.proofs.Between.{norm-within}
-use Rattle.probability.proofs.Once.{exact-sound}
+use Rattle.probability.proofs.FusedSteps.{exact-sound}
 use Rattle.probability.proofs.normal.norm_cdf.Statement.{statement}
 use Rattle.probability.proofs.normal.norm_cdf.Tie as tie
 
@@ -21,13 +21,13 @@ upper-requires : tie.Need-upper-requires
 upper-requires c κs = search needs
 
 returns : tie.Need-returns
-unfolding normBy ofBits decimal
+unfolding normBy
 returns c =
     let w : sub binary64 one (c .before .upper .result) ≡ normCdfOf (c .before .before .before .args .x) = rw (c .if1 .taken) (cc) in
     both _ _ w
 
 returns-2 : tie.Need-returns-2
-unfolding normBy ofBits decimal
+unfolding normBy
 returns-2 c =
     let w : c .before .upper .result ≡ normCdfOf (c .before .before .before .args .x) = rw (c .if1 .left) (cc) in
     both _ _ w

@@ -1,4 +1,4 @@
--- `num` meets its contract. Assumes nothing.
+-- `probability::num` meets its contract: six fused steps over the literals of the coefficients. Assumes nothing.
 use mathlib.Core.Path.{_≡_, _∙_}
 use Rattle.ieee.specs.Fused.{fusedOf}
 use Rattle.probability.specs.NormCdf.{horner}

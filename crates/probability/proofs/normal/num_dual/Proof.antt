@@ -1,4 +1,4 @@
--- `num_dual` meets its contract. Assumes nothing.
+-- `probability::num_dual` meets its contract: its steps over the literals are the definition's. Assumes nothing.
 use Rattle.probability.specs.NormCdf.{productThenSum}
 use Rattle.probability.proofs.Literals.{num-is}
 use Rattle.probability.proofs.normal.num_dual.Statement.{statement}

@@ -1,4 +1,4 @@
--- `tail` meets its contract. Assumes nothing.
+-- `probability::tail` meets its contract: the definition's operations in its order, with its constants the literals. Assumes nothing.
 use mathlib.Core.Path.{refl}
 use Rattle.elementary.proofs.Literals.{sqrt2pi-is}
 use Rattle.probability.proofs.Literals.{tailStart-is}

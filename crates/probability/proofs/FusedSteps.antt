@@ -1,20 +1,17 @@
 -- The fused step keeps the order too, so what `Between` proves holds of it.
 use Rattle.ieee.specs.Decimal.{decimal}
-use mathlib.Core.Path.{_≡_, refl, sym, ap, _∙_, subst}
+use mathlib.Core.Path.{_≡_, refl}
 use mathlib.Core.Bool.{Bool, true, false, cond, _&&_, Bool·beq}
-use Prim.Native.Nat.{ℕ, _+_, _-_, _*_, _≤_, _<_}
-use native.Mathlib.Nat.{le-trans, le-of-eq, mul-pos, mul-assoc, mul-comm, mul-left-comm, mul-mul-mul-comm, mul-le-mul}
+use Prim.Native.Nat.{ℕ, _+_, _-_, _*_, _≤_}
+use native.Mathlib.Nat.{le-trans, le-of-eq, mul-pos, mul-mul-mul-comm, mul-le-mul}
 use lib.Dec.{T, ltb}
-use lib.Ieee.{Float, nan, inf, fin, Format, binary64, up, down, unlike, round, sum, add, mul, le, fits, ofBits}
-use lib.Ieee.Fits.{round-fits, nan-fits, inf-fits, add-fits}
+use lib.Ieee.{Float, nan, inf, fin, binary64, up, down, round, sum, le, fits, ofBits}
+use lib.Ieee.Fits.{round-fits, nan-fits, inf-fits}
 use lib.Ieee.Positive.{num, den, den-pos}
 use Rattle.ieee.specs.Fused.{Product, invalid, infinite, exact, product, plus, fusedOf}
-use Rattle.probability.specs.NormCdf.{normBy}
-use Rattle.probability.specs.Between.{Probability}
-use Rattle.probability.proofs.NonNeg.{nn, Below, le→cross, round-below, sums}
+use Rattle.probability.proofs.NonNeg.{nn, le→cross, round-below, sums}
 use Rattle.probability.proofs.Hart.{Orderly}
 use Rattle.probability.proofs.Quotient.{Sound}
-use Rattle.probability.proofs.Between.{norm-within}
 
 fused-is : (a b c : Float) → T (nn a) → T (nn b) → T (nn c) → fusedOf a b c ≡ round binary64 false (num a * num b * den c + num c * (den a * den b)) (den a * den b * den c)
 unfolding fusedOf sum
@@ -73,7 +70,3 @@ fused-fits a b c = sum-of (product a b) c
 pub exact-sound : Sound fusedOf
 unfolding fusedOf sum le ofBits decimal
 exact-sound = record { orderly = fused-orderly; held = fused-fits; chain8 = tt; head = tt; above = tt }
-
--- the normal function with true fused steps lies between 0 and 1
-pub norm-exact : (x : Float) → Probability x (normBy fusedOf x)
-norm-exact = norm-within fusedOf exact-sound
