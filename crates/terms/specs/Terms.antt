@@ -1,4 +1,4 @@
--- The terms of a swaption on a swap with the strike K: coefficients, B, A and factors, a coupon at a time, as `HullWhite::swaption_price` and `swaption_value` make them.
+-- The terms of a swaption on a swap with the strike K: coefficients, B, A and factors, a coupon at a time, as `HullWhite::swaption_price` makes them. (`swaption_value` has the same coefficients and B, and another A.)
 use mathlib.Core.Path.{_≡_}
 use mathlib.Core.Bool.{Bool, true, false}
 use mathlib.Core.List.{List, [], _∷_}
