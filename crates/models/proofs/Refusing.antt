@@ -1,8 +1,8 @@
--- How a call's rules and lookups come out: what `unless` and `needing` say where the code took the one arm or the other. Assumes nothing.
+-- How a call's rules and lookups come out: what `unless`, `partUnless` and `foundOf` say where the code took the one arm or the other, and that a curve which the rules let through has times that strictly rise. Assumes nothing.
 use mathlib.Core.Path.{_≡_, refl, sym, ap, _∙_}
 use mathlib.Core.Bool.{Bool, true, false}
 use mathlib.Core.List.{List, []}
-use Prim.Native.Nat.{ℕ}
+use Prim.Native.Nat.{ℕ, suc, _-_}
 use native.Mathlib.Omega.{arith}
 use lib.Ieee.{Float}
 use Rattle.lists.specs.declared.refusals.Refusal.{Refusal}
@@ -15,40 +15,31 @@ use Rattle.lists.specs.declared.curves.Faults.{Faults}
 use Rattle.lists.specs.Refusals.{Outcome, refused, numberOf, firstRule, checkedNumber, unless}
 use Rattle.lists.specs.Checks.{inOrder}
 use Rattle.lists.specs.Faults.{curveFaults}
-use Rattle.lists.proofs.Laws.{curve-rises}
 use Rattle.lists.specs.Lookups.{Maybe, just, nothing, foundOf}
+use Rattle.lists.proofs.Laws.{curve-rises}
 use Rattle.models.specs.Schedules.{partUnless}
 
 -- ---- a refusal's number is never 0, so it turns the call down, and a part that is handed back is empty
+above-zero : (q : Refusal) → numberOf q ≡ suc (numberOf q - 1)
+above-zero R.Size = refl
+above-zero R.NotFinite = refl
+above-zero R.MeanReversion = refl
+above-zero R.Order = refl
+above-zero R.Times = refl
+above-zero R.Domain = refl
+above-zero R.Empty = refl
+above-zero R.OffCurve = refl
+above-zero R.NanReached = refl
+above-zero R.NoBracket = refl
+above-zero R.FlatDerivative = refl
+above-zero R.NoSignChange = refl
+above-zero R.Overflow = refl
+
 pub turned-down : {A : Type 0} (q : Refusal) (rest : Outcome A) → unless (numberOf q) rest ≡ refused (numberOf q)
-turned-down R.Size rest = refl
-turned-down R.NotFinite rest = refl
-turned-down R.MeanReversion rest = refl
-turned-down R.Order rest = refl
-turned-down R.Times rest = refl
-turned-down R.Domain rest = refl
-turned-down R.Empty rest = refl
-turned-down R.OffCurve rest = refl
-turned-down R.NanReached rest = refl
-turned-down R.NoBracket rest = refl
-turned-down R.FlatDerivative rest = refl
-turned-down R.NoSignChange rest = refl
-turned-down R.Overflow rest = refl
+turned-down q rest = rw (above-zero q)
 
 pub left-out : (q : Refusal) (part : List Float) → partUnless (numberOf q) part ≡ []
-left-out R.Size part = refl
-left-out R.NotFinite part = refl
-left-out R.MeanReversion part = refl
-left-out R.Order part = refl
-left-out R.Times part = refl
-left-out R.Domain part = refl
-left-out R.Empty part = refl
-left-out R.OffCurve part = refl
-left-out R.NanReached part = refl
-left-out R.NoBracket part = refl
-left-out R.FlatDerivative part = refl
-left-out R.NoSignChange part = refl
-left-out R.Overflow part = refl
+left-out q part = rw (above-zero q)
 
 -- ---- rules that let the call through: `n` is what they come to by specs/
 pub passed : {A : Type 0} (checked : Checked) {n : ℕ} {o rest : Outcome A} → checked ≡ C.Passed → checkedNumber checked ≡ n → o ≡ rest → o ≡ unless n rest

@@ -1,4 +1,5 @@
 // hullwhitemodel.rs: the affine bond price and what it is made of, the drift and the forward rate.
+// What stands behind rule 4 has times that strictly rise, and looks its factors up by halves.
 ghost use mathlib.Core.Path.{_≡_};
 ghost use mathlib.Core.Bool.{true};
 ghost use Rattle.lists.specs.Checks.{inOrder};

@@ -1,4 +1,5 @@
 // hullwhitemodel.rs: caplets, floorlets, bond puts and bond calls (kinds 1 to 4).
+// What stands behind rule 4 has times that strictly rise, and looks its factors up by halves.
 ghost use mathlib.Core.Path.{_≡_};
 ghost use mathlib.Core.Bool.{true};
 ghost use Rattle.lists.specs.Checks.{inOrder};

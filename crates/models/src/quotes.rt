@@ -82,6 +82,7 @@ pub fn annuity(times: &[f64], factors: &[f64], payments: &[f64], accruals: &[f64
     }
 }
 
+// Behind rule 4: the times strictly rise, so that each factor is looked up by halves.
 fn annuity_priced(times: &[f64], factors: &[f64], payments: &[f64], accruals: &[f64]) -> Price
     requires { ⌜ inOrder true (now times) ≡ true ⌝ }
     ensures { λ r. ⌜ outcomeOf r ≡ annuityPriced (now (times .entry)) (now (factors .entry)) (now (payments .entry)) (now (accruals .entry)) ⌝ }

@@ -1,9 +1,8 @@
--- `paths::output::store` meets its contract. The loop's invariant: the first i values stand over the front of the output, which is `lib.Seq`'s `paste` at place 0. Assumes nothing.
-use mathlib.Core.Path.{_≡_, refl, sym, ap, _∙_}
+-- `paths::output::store` meets its contract. The loop's invariant: the first i values stand over the front of the output, whose rest is as it was. Assumes nothing.
+use mathlib.Core.Path.{_≡_, refl}
 use mathlib.Core.List.{_++_}
 use Prim.Native.Nat.{_≤_, _-_}
 use native.Mathlib.Nat.{le-antisymm}
-use native.Mathlib.Omega.{arith}
 use borrow.Author.Needs.{needs}
 use denote.Ref.{now}
 use lib.ListN.{length, drop, take, length-set}

@@ -1,18 +1,16 @@
 -- `paths::path::generate_on` meets its contract: the rules turn the call down, or the walk along the grid does, or the points of the whole grid are handed to `finish`. Assumes nothing.
-use mathlib.Core.Path.{_≡_, refl, sym, ap, _∙_}
-use mathlib.Core.Bool.{Bool}
+use mathlib.Core.Path.{_≡_, refl, sym}
 use mathlib.Core.List.{List}
-use Prim.Native.Nat.{ℕ, _≤_}
+use Prim.Native.Nat.{_≤_}
 use borrow.Author.Needs.{needs}
 use denote.Ref.{now}
 use lib.Dec.{eqb, ltb}
-use lib.ListN.{length, take, replicate}
+use lib.ListN.{length, replicate}
 use lib.Ieee.{Float}
 use Rattle.ieee.specs.Numbers.{zero}
-use Rattle.lists.specs.declared.curves.Faults.{Faults}
-use Rattle.lists.specs.Refusals.{Outcome, served, checkedNumber}
+use Rattle.lists.specs.Refusals.{checkedNumber}
 use Rattle.lists.specs.Faults.{pillarFaults, curveFaults, gridFaults}
-use Rattle.paths.specs.Written.{finishingList, storedOf, numberOfList}
+use Rattle.paths.specs.Written.{finishingList}
 use Rattle.paths.specs.Generate.{startsBelow, startState, pathRule, pathFrom, generateOutcome}
 use Rattle.paths.proofs.Outcomes.{turned-down, let-through, grid-fits, lent-is, back-fits, back-is, values-are, rule-of, walk-refused, walk-done}
 use Rattle.paths.proofs.path.generate_on.Statement.{statement}
@@ -22,13 +20,16 @@ use Rattle.paths.proofs.path.generate_on.Tie as tie
 abbrev work : List Float
 work = replicate 1024 zero
 
-rule : (r : tie.After-path-rule) → let a = r .before .before .before .before .before .before .before .before .before .before .before .args in
+abbrev entry : tie.After-path-rule → tie.Start
+entry r = r .before .before .before .before .before .before .before .before .before .before .before
+
+rule : (r : tie.After-path-rule) → let a = entry r .args in
     checkedNumber (r .path-rule .result) ≡ pathRule (pillarFaults (now (a .pillars)) (now (a .sigmas))) (curveFaults (now (a .times)) (now (a .factors))) (gridFaults (now (a .grid)) (now (a .draws))) (eqb (length (now (a .pillars))) 0) (startsBelow (now (a .grid))) (ltb (length (now (a .out))) (length (now (a .grid)))) (a .alpha)
 rule r =
-    rule-of _ _ _ (r .before .before .before .pillar-faults .ensures) (r .before .before .before .before .before .before .before .before .before .before .before .pre) (r .before .before .grid-faults .ensures) (r .before .starts-below .ensures) (r .path-rule .ensures)
+    rule-of _ _ _ (r .before .before .before .pillar-faults .ensures) (entry r .pre) (r .before .before .grid-faults .ensures) (r .before .starts-below .ensures) (r .path-rule .ensures)
 
-fit : (e : tie.After-enum-told) → let a = e .before .before .before .before .before .before .before .before .before .before .before .before .before .args in (length (now (a .grid)) ≤ 1024) × (length (now (a .draws)) ≡ length (now (a .grid))) × (length (now (a .grid)) ≤ length (now (a .out)))
-fit e = let a = e .before .before .before .before .before .before .before .before .before .before .before .before .before .args in grid-fits _ _ _ _ _ _ _ (now (a .grid)) (now (a .draws)) (e .before .before .before .before .grid-faults .ensures) (e .enum-told .given .1) (e .before .before .path-rule .ensures)
+fit : (e : tie.After-enum-told) → let a = entry (e .before .before) .args in (length (now (a .grid)) ≤ 1024) × (length (now (a .draws)) ≡ length (now (a .grid))) × (length (now (a .grid)) ≤ length (now (a .out)))
+fit e = let a = entry (e .before .before) .args in grid-fits _ _ _ _ _ _ _ (now (a .grid)) (now (a .draws)) (e .before .before .before .before .grid-faults .ensures) (e .enum-told .given .1) (e .before .before .path-rule .ensures)
 
 abbrev worked : tie.After-walk-grid → List Float
 worked v = v .walk-grid .last .1 .1 .1 .1 .1 .1 .1 .0
@@ -53,7 +54,7 @@ returns : tie.Need-returns
 unfolding generateOutcome
 returns c =
     let r = c .before .before .before in
-    let a = r .before .before .before .before .before .before .before .before .before .before .before .args in
+    let a = entry r .args in
     rw (turned-down (finishingList (pathFrom (a .alpha) (now (a .pillars)) (now (a .sigmas)) (now (a .times)) (now (a .factors)) startState (now (a .grid)) (now (a .draws)))) (c .before .checked .given .1) (rule r)) (refl, refl)
 
 enum-told : tie.Need-enum-told
@@ -76,7 +77,7 @@ unfolding generateOutcome
 returns-2 c =
     let v = c .before .before .before .before in
     let e = v .before .before in
-    let a = e .before .before .before .before .before .before .before .before .before .before .before .before .before .args in
+    let a = entry (e .before .before) .args in
     let w = walk-refused (worked v) (c .before .walk .given .1) (v .walk-grid .ensures) in
     rw (let-through (finishingList (pathFrom (a .alpha) (now (a .pillars)) (now (a .sigmas)) (now (a .times)) (now (a .factors)) startState (now (a .grid)) (now (a .draws)))) (e .enum-told .given .1) (rule (e .before .before)), w) (refl, refl)
 
@@ -102,7 +103,7 @@ unfolding generateOutcome
 returns-3 c =
     let v = c .before .before .before .before .before .before .before .before in
     let e = v .before .before in
-    let a = e .before .before .before .before .before .before .before .before .before .before .before .before .before .args in
+    let a = entry (e .before .before) .args in
     let w = values-are work _ (fit e .0) (worked v) (v .walk-grid .kept .1 .1 .1 .1 .1 .1 .1 .0) in
     let d = walk-done (worked v) (c .before .before .before .before .before .enum-told2 .given .1) (v .walk-grid .ensures) in
     rw (let-through (finishingList (pathFrom (a .alpha) (now (a .pillars)) (now (a .sigmas)) (now (a .times)) (now (a .factors)) startState (now (a .grid)) (now (a .draws)))) (e .enum-told .given .1) (rule (e .before .before)), d, ← w) (c .before .before .finish .ensures)

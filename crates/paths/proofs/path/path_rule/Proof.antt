@@ -1,5 +1,4 @@
--- `paths::path_rule` meets its contract. Assumes nothing.
-use mathlib.Core.Path.{_≡_}
+-- `paths::path::path_rule` meets its contract: rules 1 to 7 are asked as `pathRule` lists them. Assumes nothing.
 use Rattle.paths.specs.Generate.{pathRule}
 use borrow.Author.Needs.{needs}
 use Rattle.paths.proofs.path.path_rule.Statement.{statement}

@@ -1,5 +1,4 @@
--- `paths::point_of` meets its contract. Assumes nothing.
-use mathlib.Core.Path.{_≡_}
+-- `paths::path::point_of` meets its contract: the centred rate and its shift. Assumes nothing.
 use Rattle.paths.specs.Generate.{pointOf}
 use borrow.Author.Needs.{needs}
 use Rattle.paths.proofs.path.point_of.Statement.{statement}

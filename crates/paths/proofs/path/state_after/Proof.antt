@@ -1,5 +1,4 @@
--- `paths::state_after` meets its contract. Assumes nothing.
-use mathlib.Core.Path.{_≡_}
+-- `paths::path::state_after` meets its contract: each operation of the step in its order. Assumes nothing.
 use Rattle.paths.specs.Generate.{stateAfter}
 use borrow.Author.Needs.{needs}
 use Rattle.paths.proofs.path.state_after.Statement.{statement}

@@ -25,13 +25,16 @@ loop-holds : tie.Need-loop-holds Inv-loop μ-loop
 loop-holds c = (search needs, refl, prepend-none _)
 
 -- ---- what a turn knows of its place
-in-draws : (t : tie.In-loop Inv-loop μ-loop) → t .before .loop .i < length (now (t .before .before .before .before .before .before .before .before .before .args .draws))
+abbrev entry : tie.At-loop Inv-loop μ-loop → tie.Start Inv-loop μ-loop
+entry l = l .before .before .before .before .before .before .before .before
+
+in-draws : (t : tie.In-loop Inv-loop μ-loop) → t .before .loop .i < length (now (entry (t .before) .args .draws))
 in-draws t = omega arith
 
 in-out : (t : tie.In-loop Inv-loop μ-loop) → t .before .loop .i < length (t .before .loop .out)
 in-out t = omega arith
 
-turn : (t : tie.In-loop Inv-loop μ-loop) → t .before .loop .i + 1 ≤ length (now (t .before .before .before .before .before .before .before .before .before .args .grid))
+turn : (t : tie.In-loop Inv-loop μ-loop) → t .before .loop .i + 1 ≤ length (now (entry (t .before) .args .grid))
 turn t = omega arith
 
 next-fits : (t : tie.In-loop Inv-loop μ-loop) → Fits w64 (t .before .loop .i + 1)
@@ -63,7 +66,7 @@ returns : tie.Need-returns Inv-loop μ-loop
 returns c =
     let t = c .before .before .before .before in
     let l = t .before .loop in
-    let a = t .before .before .before .before .before .before .before .before .before .args in
+    let a = entry (t .before) .args in
     let m = found-none (c .enum-told .given .1) (c .before .before .volatility .ensures) in
     sym (l .inv .2) ∙ ap (prependAll (take (l .i) (l .out))) (no-volatility (a .alpha) (now (a .pillars)) (now (a .sigmas)) (now (a .times)) (now (a .factors)) (l .s) (now (a .grid)) (now (a .draws)) (l .out) (l .i) (t .loop-test .taken) (in-draws t) m)
 
@@ -83,7 +86,7 @@ returns-2 : tie.Need-returns-2 Inv-loop μ-loop
 returns-2 c =
     let t = c .before .before .before .before .before .before .before .before in
     let l = t .before .loop in
-    let a = t .before .before .before .before .before .before .before .before .before .args in
+    let a = entry (t .before) .args in
     let v = found-at (c .before .before .before .before .sigma .given .1) (c .before .before .before .before .before .before .volatility .ensures) in
     let m = found-none (c .enum-told2 .given .1) (c .before .before .factor .ensures) in
     sym (l .inv .2) ∙ ap (prependAll (take (l .i) (l .out))) (no-factor (a .alpha) (now (a .pillars)) (now (a .sigmas)) (now (a .times)) (now (a .factors)) (l .s) (now (a .grid)) (now (a .draws)) (l .out) (l .i) (t .loop-test .taken) (in-draws t) _ v m)
@@ -107,7 +110,7 @@ returns-3 : tie.Need-returns-3 Inv-loop μ-loop
 returns-3 c =
     let t = c .before .before .before .before .before .before .before .before .before .before .before .before .before in
     let l = t .before .loop in
-    let a = t .before .before .before .before .before .before .before .before .before .args in
+    let a = entry (t .before) .args in
     let v = found-at (c .before .before .before .before .before .before .before .before .before .sigma .given .1) (c .before .before .before .before .before .before .before .before .before .before .before .volatility .ensures) in
     let f = found-at (c .before .before .before .before .before .p .given .1) (c .before .before .before .before .before .before .before .factor .ensures) in
     let m = found-none (c .enum-told3 .given .1) (c .before .before .factor2 .ensures ∙ ap (λ (d : Float). factorAt (now (a .times)) (now (a .factors)) (getD (now (a .grid)) (l .i) nan ⊕ d)) (c .before .before .before .day .ensures)) in
@@ -144,7 +147,7 @@ loop-again : tie.Need-loop-again Inv-loop μ-loop
 loop-again c =
     let t = c .before .before .before .before .before .before .before .before .before .before .before .before .before .before .before .before .before .before in
     let l = t .before .loop in
-    let a = t .before .before .before .before .before .before .before .before .before .args in
+    let a = entry (t .before) .args in
     let v = found-at (c .before .before .before .before .before .before .before .before .before .before .before .before .before .before .sigma .given .1) (c .before .before .before .before .before .before .before .before .before .before .before .before .before .before .before .before .volatility .ensures) in
     let f = found-at (c .before .before .before .before .before .before .before .before .before .before .p .given .1) (c .before .before .before .before .before .before .before .before .before .before .before .before .factor .ensures) in
     let g = found-at (c .before .before .before .before .before .p-plus .given .1) (c .before .before .before .before .before .before .before .factor2 .ensures ∙ ap (λ (d : Float). factorAt (now (a .times)) (now (a .factors)) (getD (now (a .grid)) (l .i) nan ⊕ d)) (c .before .before .before .before .before .before .before .before .day .ensures)) in
@@ -157,7 +160,7 @@ same-length-4 c = c .before .loop .inv .1
 returns-4 : tie.Need-returns-4 Inv-loop μ-loop
 returns-4 c =
     let l = c .before .loop in
-    let a = c .before .before .before .before .before .before .before .before .before .args in
+    let a = entry (c .before) .args in
     sym (l .inv .2) ∙ path-end (a .alpha) (now (a .pillars)) (now (a .sigmas)) (now (a .times)) (now (a .factors)) (l .s) (now (a .grid)) (now (a .draws)) (l .out) (l .i) (c .loop-test .left) (out-done c)
 
 pub walk-grid-spec : {M : Type 1} → statement M

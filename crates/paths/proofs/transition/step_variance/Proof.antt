@@ -1,5 +1,4 @@
--- `paths::step_variance` meets its contract. Assumes nothing.
-use mathlib.Core.Path.{_≡_}
+-- `paths::transition::step_variance` meets its contract: the variance over the step, from its number times the time step. Assumes nothing.
 use Rattle.paths.specs.Transition.{stepVariance}
 use borrow.Author.Needs.{needs}
 use Rattle.paths.proofs.transition.step_variance.Statement.{statement}

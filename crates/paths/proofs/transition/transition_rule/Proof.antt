@@ -1,5 +1,4 @@
--- `paths::transition_rule` meets its contract. Assumes nothing.
-use mathlib.Core.Path.{_≡_}
+-- `paths::transition::transition_rule` meets its contract: rules 1 to 7 are asked as `transitionRule` lists them. Assumes nothing.
 use Rattle.paths.specs.Transition.{transitionRule}
 use borrow.Author.Needs.{needs}
 use Rattle.paths.proofs.transition.transition_rule.Statement.{statement}

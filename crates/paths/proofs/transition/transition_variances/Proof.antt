@@ -1,18 +1,17 @@
 -- `paths::transition::transition_variances` meets its contract: the rules turn the call down, or the variances of all steps are worked and handed to `finish`. Assumes nothing.
 use mathlib.Core.Path.{_≡_, refl, sym, ap, _∙_}
 use mathlib.Core.List.{List}
-use Prim.Native.Nat.{ℕ, _≤_}
-use native.Mathlib.Omega.{arith}
+use Prim.Native.Nat.{_≤_}
 use borrow.Author.Needs.{needs}
 use denote.Ref.{now}
 use lib.Dec.{eqb}
-use lib.ListN.{length, take, replicate}
+use lib.ListN.{length, replicate}
 use lib.Ieee.{Float}
 use Rattle.ieee.specs.Numbers.{zero}
 use Rattle.lists.specs.declared.curves.Faults.{Faults}
-use Rattle.lists.specs.Refusals.{Outcome, served, checkedNumber}
+use Rattle.lists.specs.Refusals.{served, checkedNumber}
 use Rattle.lists.specs.Faults.{pillarFaults}
-use Rattle.paths.specs.Written.{finishingList, storedOf, numberOfList}
+use Rattle.paths.specs.Written.{finishingList}
 use Rattle.paths.specs.Transition.{transitionRule, variancesOf, transitionOutcome}
 use Rattle.paths.proofs.Outcomes.{turned-down, let-through, steps-fit, lent-is, back-fits, back-is, values-are}
 use Rattle.paths.proofs.transition.transition_variances.Statement.{statement}
@@ -22,12 +21,15 @@ use Rattle.paths.proofs.transition.transition_variances.Tie as tie
 abbrev work : List Float
 work = replicate 1024 zero
 
-rule : (r : tie.After-transition-rule) → let a = r .before .before .before .before .before .args in checkedNumber (r .transition-rule .result) ≡ transitionRule (pillarFaults (now (a .times)) (now (a .sigmas))) (eqb (length (now (a .times))) 0) (a .alpha) (a .steps) (length (now (a .out))) (a .time-step)
+abbrev entry : tie.After-transition-rule → tie.Start
+entry r = r .before .before .before .before .before
+
+rule : (r : tie.After-transition-rule) → let a = entry r .args in checkedNumber (r .transition-rule .result) ≡ transitionRule (pillarFaults (now (a .times)) (now (a .sigmas))) (eqb (length (now (a .times))) 0) (a .alpha) (a .steps) (length (now (a .out))) (a .time-step)
 rule r =
-    let a = r .before .before .before .before .before .args in
+    let a = entry r .args in
     r .transition-rule .ensures ∙ ap (λ (f : Faults). transitionRule f (eqb (length (now (a .times))) 0) (a .alpha) (a .steps) (length (now (a .out))) (a .time-step)) (r .before .pillar-faults .ensures)
 
-fit : (e : tie.After-enum-told) → let a = e .before .before .before .before .before .before .before .args in (a .steps ≤ 1024) × (a .steps ≤ length (now (a .out)))
+fit : (e : tie.After-enum-told) → let a = entry (e .before .before) .args in (a .steps ≤ 1024) × (a .steps ≤ length (now (a .out)))
 fit e = steps-fit _ _ _ _ _ _ (e .enum-told .given .1) (e .before .before .transition-rule .ensures)
 
 abbrev worked : tie.After-variances → List Float
@@ -47,7 +49,7 @@ returns : tie.Need-returns
 unfolding transitionOutcome
 returns c =
     let r = c .before .before .before in
-    let a = r .before .before .before .before .before .args in
+    let a = entry r .args in
     rw (turned-down (finishingList (served (variancesOf (a .alpha) (now (a .times)) (now (a .sigmas)) (a .time-step) 0 (a .steps)))) (c .before .checked .given .1) (rule r)) (refl, refl)
 
 enum-told : tie.Need-enum-told
@@ -81,7 +83,7 @@ unfolding transitionOutcome
 returns-2 c =
     let v = c .before .before .before .before .before .before in
     let e = v .before .before in
-    let a = e .before .before .before .before .before .before .before .args in
+    let a = entry (e .before .before) .args in
     let all = variancesOf (a .alpha) (now (a .times)) (now (a .sigmas)) (a .time-step) 0 in
     let w = values-are work _ (fit e .0) (worked v) (v .variances .kept .1 .1 .1 .1 .0) ∙ v .variances .ensures ∙ ap all (sym (lent-is work _ (fit e .0))) in
     rw (let-through (finishingList (served (all (a .steps)))) (e .enum-told .given .1) (rule (e .before .before)), ← w) (c .before .before .finish .ensures)

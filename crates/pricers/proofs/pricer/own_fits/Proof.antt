@@ -1,0 +1,17 @@
+-- `pricers::own_fits` meets its contract. Assumes nothing.
+use mathlib.Core.Path.{_≡_}
+use borrow.Author.Needs.{needs}
+use Rattle.pricers.proofs.pricer.own_fits.Statement.{statement}
+use Rattle.pricers.proofs.pricer.own_fits.Tie as tie
+
+all-requires : tie.Need-all-requires
+all-requires c κs = search needs
+
+all-requires-2 : tie.Need-all-requires-2
+all-requires-2 c κs = search needs
+
+returns : tie.Need-returns
+returns c = cc
+
+pub own-fits-spec : {M : Type 1} → statement M
+own-fits-spec = tie.close (tie.spec all-requires all-requires-2 returns)

@@ -1,0 +1,306 @@
+// swaption_value: kinds 6 and 7.
+ghost use mathlib.Core.Path.{_≡_};
+ghost use Prim.Native.Nat.{_≤_};
+ghost use lib.ListN.{length};
+ghost use Rattle.lists.specs.Refusals.{checkedNumber};
+ghost use Rattle.lists.specs.Faults.{curveFaults};
+ghost use Rattle.pricers.specs.Pricer.{valuationOutcome, ownFits, pricerRule, pricedBy, pricerPriced, pricerOutcome, finishingValuation};
+ghost use Rattle.pricers.specs.Demand3.{Rooted};
+use super::bond_option::SwaptionType;
+use super::components;
+use super::newton;
+use super::newton::Step;
+use super::variance;
+use lists::Checked;
+use lists::Faults;
+use lists::Found;
+use lists::Refusal;
+use lists::Test;
+use search::Bracket;
+use search::Critical;
+
+// The value, the critical rate after and before the Newton step, the final bracket, and the rungs.
+pub enum Valuation {
+    Served {
+        value: f64,
+        stepped: f64,
+        rate: f64,
+        bracket: Bracket,
+        below: u64,
+        above: u64,
+    },
+    Refused(Refusal),
+}
+
+// Kinds 6 (payer) and 7 (receiver). Pillars are times and sigmas; coupons are payment times, accruals
+// and own discount factors, all 0 where the curve's own serve.
+pub fn swaption_value(
+    option: SwaptionType,
+    alpha: f64,
+    pillars: &[f64],
+    sigmas: &[f64],
+    times: &[f64],
+    factors: &[f64],
+    payments: &[f64],
+    accruals: &[f64],
+    own_dfs: &[f64],
+    strike: f64,
+    t: f64,
+    notional: f64,
+    side: f64,
+) -> Valuation
+    ensures answer { λ r. ⌜ valuationOutcome r ≡ pricerOutcome option alpha (now (pillars .entry)) (now (sigmas .entry)) (now (times .entry)) (now (factors .entry)) (now (payments .entry)) (now (accruals .entry)) (now («own_dfs» .entry)) strike t notional side ⌝ }
+    ensures rooted { λ r. ⌜ Rooted alpha (now (pillars .entry)) (now (sigmas .entry)) (now (times .entry)) (now (factors .entry)) (now (payments .entry)) (now (accruals .entry)) strike t r ⌝ }
+{
+    let curve = lists::curve_faults(times, factors);
+    swaption_value_on(
+        option,
+        curve,
+        alpha,
+        pillars,
+        sigmas,
+        times,
+        factors,
+        payments,
+        accruals,
+        own_dfs,
+        strike,
+        t,
+        notional,
+        side,
+    )
+}
+
+// The same on a curve whose faults are known: the call above shows it, and so does whoever works them
+// once for many jobs.
+pub fn swaption_value_on(
+    option: SwaptionType,
+    curve: Faults,
+    alpha: f64,
+    pillars: &[f64],
+    sigmas: &[f64],
+    times: &[f64],
+    factors: &[f64],
+    payments: &[f64],
+    accruals: &[f64],
+    own_dfs: &[f64],
+    strike: f64,
+    t: f64,
+    notional: f64,
+    side: f64,
+) -> Valuation
+    requires { ⌜ curve ≡ curveFaults (now times) (now factors) ⌝ }
+    ensures answer { λ r. ⌜ valuationOutcome r ≡ pricerOutcome option alpha (now (pillars .entry)) (now (sigmas .entry)) (now (times .entry)) (now (factors .entry)) (now (payments .entry)) (now (accruals .entry)) (now («own_dfs» .entry)) strike t notional side ⌝ }
+    ensures rooted { λ r. ⌜ Rooted alpha (now (pillars .entry)) (now (sigmas .entry)) (now (times .entry)) (now (factors .entry)) (now (payments .entry)) (now (accruals .entry)) strike t r ⌝ }
+{
+    let schedule = lists::pillar_faults(pillars, sigmas);
+    let coupons = lists::coupon_faults(payments, accruals);
+    let checked = pricer_rule(
+        curve,
+        schedule,
+        coupons,
+        payments.len() != own_dfs.len(),
+        lists::all(own_dfs, Test::Finite),
+        own_fits(own_dfs),
+        lists::all(payments, Test::Above(t)),
+        (payments.len() == 0) | (pillars.len() == 0),
+        alpha,
+        strike,
+        t,
+        notional,
+        side,
+    );
+    if let Checked::Refused(refusal) = checked {
+        return Valuation::Refused(refusal);
+    }
+    pricer_priced(
+        option,
+        alpha,
+        pillars,
+        sigmas,
+        times,
+        factors,
+        payments,
+        accruals,
+        own_dfs,
+        strike,
+        t,
+        notional,
+        side,
+    )
+}
+
+// Own factors are all 0, or all above 0.
+fn own_fits(own_dfs: &[f64]) -> bool
+    ensures { λ r. ⌜ r ≡ ownFits (now («own_dfs» .entry)) ⌝ }
+{
+    lists::all(own_dfs, Test::Zero) | lists::all(own_dfs, Test::Above(0.0))
+}
+
+fn pricer_rule(
+    curve: Faults,
+    schedule: Faults,
+    coupons: Faults,
+    unpaired: bool,
+    own_finite: bool,
+    own_fit: bool,
+    after: bool,
+    empty: bool,
+    alpha: f64,
+    strike: f64,
+    t: f64,
+    notional: f64,
+    side: f64,
+) -> Checked
+    ensures { λ r. ⌜ checkedNumber r ≡ pricerRule curve schedule coupons unpaired «own_finite» «own_fit» after empty alpha strike t notional side ⌝ }
+{
+    let finite = elementary::is_finite(alpha)
+        & elementary::is_finite(strike)
+        & elementary::is_finite(t)
+        & elementary::is_finite(notional)
+        & elementary::is_finite(side);
+    lists::first_rule(
+        curve.size | schedule.size | coupons.size | unpaired,
+        curve.not_finite | schedule.not_finite | coupons.not_finite | !own_finite | !finite,
+        alpha <= 0.0,
+        curve.order | schedule.order,
+        (t < 0.0) | !after,
+        schedule.domain | curve.domain | !own_fit | ((side != 1.0) & (side != -1.0)),
+        empty,
+    )
+}
+
+// The factors and the terms. The rules have passed: the coupons' lists are of one length of at most 64.
+fn pricer_priced(
+    option: SwaptionType,
+    alpha: f64,
+    pillars: &[f64],
+    sigmas: &[f64],
+    times: &[f64],
+    factors: &[f64],
+    payments: &[f64],
+    accruals: &[f64],
+    own_dfs: &[f64],
+    strike: f64,
+    t: f64,
+    notional: f64,
+    side: f64,
+) -> Valuation
+    requires { ⌜ (length (now payments) ≤ 64) × (length (now accruals) ≡ length (now payments)) × (length (now «own_dfs») ≡ length (now payments)) ⌝ }
+    ensures { λ r. ⌜ valuationOutcome r ≡ pricerPriced option alpha (now (pillars .entry)) (now (sigmas .entry)) (now (times .entry)) (now (factors .entry)) (now (payments .entry)) (now (accruals .entry)) (now («own_dfs» .entry)) strike t notional side ⌝ }
+{
+    let Found::At(p_t) = lists::factor(times, factors, t) else {
+        return Valuation::Refused(Refusal::OffCurve);
+    };
+    let Found::At(p_plus) = lists::factor(times, factors, t + formulas::day()) else {
+        return Valuation::Refused(Refusal::OffCurve);
+    };
+    let n = payments.len();
+    let mut p = [0.0; 64];
+    let fetched = terms::fetch(times, factors, payments, &mut p[..n]);
+    if let terms::Fetched::Missing = fetched {
+        return Valuation::Refused(Refusal::OffCurve);
+    }
+    let mut c = [0.0; 64];
+    terms::coefficients(strike, accruals, &mut c[..n]);
+    let mut b = [0.0; 64];
+    terms::bs(alpha, t, payments, &mut b[..n]);
+    let state_variance = formulas::variance_of(alpha, pillars, sigmas, 0.0, t);
+    let forward = formulas::forward_of(p_t, p_plus);
+    let mut a = [0.0; 64];
+    variance::affines(state_variance, forward, p_t, &b[..n], &p[..n], &mut a[..n]);
+    priced_by(
+        option,
+        variance::deviation(state_variance),
+        p_t,
+        &c[..n],
+        &a[..n],
+        &b[..n],
+        &p[..n],
+        own_dfs,
+        notional,
+        side,
+    )
+}
+
+// The search, the Newton step, the components.
+fn priced_by(
+    option: SwaptionType,
+    deviation: f64,
+    p_t: f64,
+    c: &[f64],
+    a: &[f64],
+    b: &[f64],
+    p: &[f64],
+    own_dfs: &[f64],
+    notional: f64,
+    side: f64,
+) -> Valuation
+    requires { ⌜ (length (now c) ≤ 64) × (length (now a) ≡ length (now c)) × (length (now b) ≡ length (now c)) × (length (now p) ≡ length (now c)) × (length (now «own_dfs») ≡ length (now c)) ⌝ }
+    ensures { λ r. ⌜ valuationOutcome r ≡ pricedBy option deviation «p_t» (now (c .entry)) (now (a .entry)) (now (b .entry)) (now (p .entry)) (now («own_dfs» .entry)) notional side ⌝ }
+{
+    let n = c.len();
+    let mut w = [0.0; 64];
+    terms::weights(c, a, &mut w[..n]);
+    let found = search::critical_rate(&w[..n], b);
+    match found {
+        Critical::NotANumber => Valuation::Refused(Refusal::NanReached),
+        Critical::NoBracket => Valuation::Refused(Refusal::NoBracket),
+        Critical::Found {
+            bracket,
+            below,
+            above,
+            rate,
+        } => {
+            let Step::To(stepped) = newton::implicit_critical_rate(rate, c, a, b) else {
+                return Valuation::Refused(Refusal::FlatDerivative);
+            };
+            let own = !lists::all(own_dfs, Test::Zero);
+            let sum = components::components(
+                option,
+                own,
+                deviation,
+                p_t,
+                stepped,
+                c,
+                a,
+                b,
+                p,
+                own_dfs,
+            );
+            finished(sum * notional * side, stepped, rate, bracket, below, above)
+        }
+    }
+}
+
+// Rule 13 looks at every float of the answer.
+fn finished(
+    value: f64,
+    stepped: f64,
+    rate: f64,
+    bracket: Bracket,
+    below: u64,
+    above: u64,
+) -> Valuation
+    ensures { λ r. ⌜ valuationOutcome r ≡ finishingValuation value stepped rate bracket below above ⌝ }
+{
+    let finite = elementary::is_finite(value)
+        & elementary::is_finite(stepped)
+        & elementary::is_finite(rate)
+        & elementary::is_finite(bracket.lower)
+        & elementary::is_finite(bracket.upper)
+        & elementary::is_finite(bracket.lower_sum)
+        & elementary::is_finite(bracket.upper_sum);
+    if finite {
+        Valuation::Served {
+            value,
+            stepped,
+            rate,
+            bracket,
+            below,
+            above,
+        }
+    } else {
+        Valuation::Refused(Refusal::Overflow)
+    }
+}

@@ -1,0 +1,221 @@
+// hullwhitemodel.rs, swaption_price (kind 5).
+ghost use mathlib.Core.Path.{_≡_};
+ghost use Prim.Native.Nat.{_≤_};
+ghost use lib.ListN.{length};
+ghost use Rattle.lists.specs.Refusals.{checkedNumber};
+ghost use Rattle.lists.specs.Faults.{curveFaults};
+ghost use Rattle.swaptions.specs.Price.{swaptionOutcome, finishingSwaption};
+ghost use Rattle.swaptions.specs.Model.{modelRule, noCoupons, termsPriced, modelPriced, modelOutcome};
+ghost use Rattle.swaptions.specs.Demand3.{Rooted};
+use super::price;
+use super::price::Root;
+use super::price::Swaption;
+use lists::Checked;
+use lists::Faults;
+use lists::Found;
+use lists::Refusal;
+use lists::Test;
+use search::Bracket;
+
+// Kind 5: the coupons are payment times and accruals.
+pub fn swaption_price(
+    alpha: f64,
+    times: &[f64],
+    factors: &[f64],
+    payments: &[f64],
+    accruals: &[f64],
+    strike: f64,
+    t: f64,
+    sigma: f64,
+) -> Swaption
+    ensures answer { λ r. ⌜ swaptionOutcome r ≡ modelOutcome alpha (now (times .entry)) (now (factors .entry)) (now (payments .entry)) (now (accruals .entry)) strike t sigma ⌝ }
+    ensures rooted { λ r. ⌜ Rooted alpha (now (times .entry)) (now (factors .entry)) (now (payments .entry)) (now (accruals .entry)) strike t sigma r ⌝ }
+{
+    let curve = lists::curve_faults(times, factors);
+    swaption_price_on(
+        curve,
+        alpha,
+        times,
+        factors,
+        payments,
+        accruals,
+        strike,
+        t,
+        sigma,
+    )
+}
+
+// The same on a curve whose faults are known: the call above shows it, and so does whoever works them
+// once for many jobs.
+pub fn swaption_price_on(
+    curve: Faults,
+    alpha: f64,
+    times: &[f64],
+    factors: &[f64],
+    payments: &[f64],
+    accruals: &[f64],
+    strike: f64,
+    t: f64,
+    sigma: f64,
+) -> Swaption
+    requires { ⌜ curve ≡ curveFaults (now times) (now factors) ⌝ }
+    ensures answer { λ r. ⌜ swaptionOutcome r ≡ modelOutcome alpha (now (times .entry)) (now (factors .entry)) (now (payments .entry)) (now (accruals .entry)) strike t sigma ⌝ }
+    ensures rooted { λ r. ⌜ Rooted alpha (now (times .entry)) (now (factors .entry)) (now (payments .entry)) (now (accruals .entry)) strike t sigma r ⌝ }
+{
+    let coupons = lists::coupon_faults(payments, accruals);
+    let after = lists::all(payments, Test::Above(t));
+    let checked = model_rule(curve, coupons, after, alpha, strike, t, sigma);
+    if let Checked::Refused(refusal) = checked {
+        return Swaption::Refused(refusal);
+    }
+    if payments.len() == 0 {
+        return nothing();
+    }
+    model_priced(alpha, times, factors, payments, accruals, strike, t, sigma)
+}
+
+fn model_rule(
+    curve: Faults,
+    coupons: Faults,
+    after: bool,
+    alpha: f64,
+    strike: f64,
+    t: f64,
+    sigma: f64,
+) -> Checked
+    ensures { λ r. ⌜ checkedNumber r ≡ modelRule curve coupons after alpha strike t sigma ⌝ }
+{
+    let finite = elementary::is_finite(alpha)
+        & elementary::is_finite(strike)
+        & elementary::is_finite(t)
+        & elementary::is_finite(sigma);
+    lists::first_rule(
+        curve.size | coupons.size,
+        curve.not_finite | coupons.not_finite | !finite,
+        alpha <= 0.0,
+        curve.order,
+        (t < 0.0) | !after,
+        (sigma < 0.0) | curve.domain,
+        false,
+    )
+}
+
+// A swap without coupons is worth 0, and has no root.
+fn nothing() -> Swaption
+    ensures { λ r. ⌜ swaptionOutcome r ≡ noCoupons ⌝ }
+{
+    Swaption::Served(
+        0.0,
+        Root {
+            rate: 0.0,
+            bracket: Bracket {
+                lower: 0.0,
+                upper: 0.0,
+                lower_sum: 0.0,
+                upper_sum: 0.0,
+            },
+            below: 0,
+            above: 0,
+        },
+    )
+}
+
+// The factors, then the terms and the price. The rules have passed: the coupons' lists are of one length
+// of at most 64.
+fn model_priced(
+    alpha: f64,
+    times: &[f64],
+    factors: &[f64],
+    payments: &[f64],
+    accruals: &[f64],
+    strike: f64,
+    t: f64,
+    sigma: f64,
+) -> Swaption
+    requires { ⌜ (length (now payments) ≤ 64) × (length (now accruals) ≡ length (now payments)) ⌝ }
+    ensures { λ r. ⌜ swaptionOutcome r ≡ modelPriced alpha (now (times .entry)) (now (factors .entry)) (now (payments .entry)) (now (accruals .entry)) strike t sigma ⌝ }
+{
+    let Found::At(p_t) = lists::factor(times, factors, t) else {
+        return Swaption::Refused(Refusal::OffCurve);
+    };
+    let Found::At(p_plus) = lists::factor(times, factors, t + formulas::day()) else {
+        return Swaption::Refused(Refusal::OffCurve);
+    };
+    let n = payments.len();
+    let mut p = [0.0; 64];
+    let fetched = terms::fetch(times, factors, payments, &mut p[..n]);
+    if let terms::Fetched::Missing = fetched {
+        return Swaption::Refused(Refusal::OffCurve);
+    }
+    terms_priced(
+        alpha,
+        payments,
+        accruals,
+        strike,
+        t,
+        sigma,
+        p_t,
+        p_plus,
+        &p[..n],
+    )
+}
+
+// The terms and the price, on the factors at t, t + h and the payment times.
+fn terms_priced(
+    alpha: f64,
+    payments: &[f64],
+    accruals: &[f64],
+    strike: f64,
+    t: f64,
+    sigma: f64,
+    p_t: f64,
+    p_plus: f64,
+    p: &[f64],
+) -> Swaption
+    requires { ⌜ (length (now payments) ≤ 64) × (length (now accruals) ≡ length (now payments)) × (length (now p) ≡ length (now payments)) ⌝ }
+    ensures { λ r. ⌜ swaptionOutcome r ≡ termsPriced alpha (now (payments .entry)) (now (accruals .entry)) strike t sigma «p_t» «p_plus» (now (p .entry)) ⌝ }
+{
+    let n = payments.len();
+    let mut c = [0.0; 64];
+    terms::coefficients(strike, accruals, &mut c[..n]);
+    let mut b = [0.0; 64];
+    terms::bs(alpha, t, payments, &mut b[..n]);
+    let mut drift = [0.0; 64];
+    let forward = formulas::forward_of(p_t, p_plus);
+    terms::drifts(forward, p_t, &b[..n], p, &mut drift[..n]);
+    let decay = formulas::decay_of(alpha, t);
+    let deviation = formulas::deviation_of(alpha, t);
+    let swaption = price::price_at(
+        alpha,
+        sigma,
+        decay,
+        deviation,
+        p_t,
+        &c[..n],
+        &b[..n],
+        &drift[..n],
+        p,
+    );
+    finished(swaption)
+}
+
+// Rule 13 looks at every float of the answer.
+fn finished(swaption: Swaption) -> Swaption
+    ensures { λ r. ⌜ swaptionOutcome r ≡ finishingSwaption (swaptionOutcome swaption) ⌝ }
+{
+    let Swaption::Served(value, root) = swaption else {
+        return swaption;
+    };
+    let bracket = root.bracket;
+    let finite = elementary::is_finite(value)
+        & elementary::is_finite(root.rate)
+        & elementary::is_finite(bracket.lower)
+        & elementary::is_finite(bracket.upper)
+        & elementary::is_finite(bracket.lower_sum)
+        & elementary::is_finite(bracket.upper_sum);
+    if finite {
+        swaption
+    } else {
+        Swaption::Refused(Refusal::Overflow)
+    }
+}
