@@ -1,5 +1,5 @@
 -- One turn and the end of a walk along the terms: what `sumsFrom` and `componentsOnto` say of the lists from place i on. Assumes nothing.
-use mathlib.Core.Path.{_≡_, refl, sym, _∙_}
+use mathlib.Core.Path.{_≡_}
 use mathlib.Core.Bool.{Bool}
 use mathlib.Core.List.{List}
 use Prim.Native.Nat.{ℕ, _+_, _≤_, _<_}

@@ -1,6 +1,5 @@
 // The components of the value: a bond option a coupon.
 ghost use mathlib.Core.Path.{_≡_};
-ghost use mathlib.Core.Bool.{Bool};
 ghost use lib.ListN.{length};
 ghost use Rattle.pricers.specs.Components.{componentOf, discountedOf, componentsOf};
 use super::bond_option;

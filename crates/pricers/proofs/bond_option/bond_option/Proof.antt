@@ -1,5 +1,4 @@
 -- `pricers::bond_option` meets its contract: the intrinsic value where the bond hardly moves, else the option on it. Assumes nothing.
-use mathlib.Core.Path.{_≡_}
 use Rattle.pricers.specs.BondOption.{bondOptionOf}
 use Rattle.pricers.proofs.Literals.{still-is}
 use borrow.Author.Needs.{needs}

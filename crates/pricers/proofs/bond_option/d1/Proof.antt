@@ -1,5 +1,4 @@
 -- `pricers::d1` meets its contract. Assumes nothing.
-use mathlib.Core.Path.{_≡_}
 use Rattle.pricers.specs.BondOption.{d1Of}
 use borrow.Author.Needs.{needs}
 use Rattle.pricers.proofs.bond_option.d1.Statement.{statement}

@@ -1,5 +1,4 @@
 -- `pricers::moving` meets its contract: each arm is what `optionOf` says of its variant. Assumes nothing.
-use mathlib.Core.Path.{_≡_}
 use Rattle.pricers.specs.BondOption.{movingOf}
 use borrow.Author.Needs.{needs}
 use Rattle.pricers.proofs.bond_option.moving.Statement.{statement}

@@ -1,5 +1,4 @@
 -- `pricers::component` meets its contract. Assumes nothing.
-use mathlib.Core.Path.{_≡_}
 use Rattle.pricers.specs.Components.{componentOf}
 use borrow.Author.Needs.{needs}
 use Rattle.pricers.proofs.components.component.Statement.{statement}

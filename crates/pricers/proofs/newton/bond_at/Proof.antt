@@ -1,5 +1,4 @@
 -- `pricers::bond_at` meets its contract. Assumes nothing.
-use mathlib.Core.Path.{_≡_}
 use Rattle.pricers.specs.Newton.{bondAt}
 use borrow.Author.Needs.{needs}
 use Rattle.pricers.proofs.newton.bond_at.Statement.{statement}

@@ -1,5 +1,4 @@
 -- `pricers::sums_after` meets its contract. Assumes nothing.
-use mathlib.Core.Path.{_≡_}
 use Rattle.pricers.specs.Newton.{sumsAfter}
 use borrow.Author.Needs.{needs}
 use Rattle.pricers.proofs.newton.sums_after.Statement.{statement}

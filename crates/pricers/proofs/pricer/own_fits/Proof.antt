@@ -1,5 +1,4 @@
 -- `pricers::own_fits` meets its contract. Assumes nothing.
-use mathlib.Core.Path.{_≡_}
 use borrow.Author.Needs.{needs}
 use Rattle.pricers.proofs.pricer.own_fits.Statement.{statement}
 use Rattle.pricers.proofs.pricer.own_fits.Tie as tie

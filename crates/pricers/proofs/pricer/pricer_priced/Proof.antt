@@ -1,5 +1,5 @@
 -- `pricers::pricer_priced` meets its contract: each factor is found or the call is refused by rule 8, and then the terms are worked and priced. Assumes nothing.
-use mathlib.Core.Path.{_≡_, sym, _∙_, subst}
+use mathlib.Core.Path.{sym, _∙_, subst}
 use Prim.Native.Nat.{ℕ, _≤_}
 use Rattle.terms.proofs.Entries.{coefficients-length, bs-length}
 use Rattle.pricers.proofs.Entries.{affines-length}
@@ -34,22 +34,38 @@ enum-told-2 : tie.Need-enum-told-2
 enum-told-2 c = search needs
 
 returns-2 : tie.Need-returns-2
-returns-2 c = off-day _ _ _ _ _ _ _ _ _ _ _ _ _ (at _ (c .before .before .before .before .before .p-t .given .1) (c .before .before .before .before .before .before .before .factor .ensures)) (c .before .before .before .day .ensures) (missing _ (c .enum-told2 .given .1) (c .before .before .factor2 .ensures))
+returns-2 c =
+    let at-factor2 = c .before .before in
+    let at-day = at-factor2 .before in
+    let at-p-t = at-day .before .before in
+    let at-factor = at-p-t .before .before in
+    off-day _ _ _ _ _ _ _ _ _ _ _ _ _ (at _ (at-p-t .p-t .given .1) (at-factor .factor .ensures)) (at-day .day .ensures) (missing _ (c .enum-told2 .given .1) (at-factor2 .factor2 .ensures))
 
 array-borrow-prefix-p : tie.Need-array-borrow-prefix-p
 array-borrow-prefix-p c = search needs
 
 slice-aggregate-fetch : tie.Need-slice-aggregate-fetch
-slice-aggregate-fetch c = lent _ _ (c .before .before .before .before .before .before .before .before .before .before .before .before .before .before .before .before .before .pre .0)
+slice-aggregate-fetch c =
+    let start = c .before .before .before .before .before .before .before .before .before .before .before .before .before .before .before .before .before in
+    lent _ _ (start .pre .0)
 
 fetch-requires : tie.Need-fetch-requires
-fetch-requires c κs = sym (lent _ _ (c .before .before .before .before .before .before .before .before .before .before .before .before .before .before .before .before .before .pre .0))
+fetch-requires c κs =
+    let start = c .before .before .before .before .before .before .before .before .before .before .before .before .before .before .before .before .before in
+    sym (lent _ _ (start .pre .0))
 
 enum-told-3 : tie.Need-enum-told-3
 enum-told-3 c = search needs
 
 returns-3 : tie.Need-returns-3
-returns-3 c = off-payments _ _ _ _ _ _ _ _ _ _ _ _ _ (at _ (c .before .before .before .before .before .before .before .before .before .before .before .p-t .given .1) (c .before .before .before .before .before .before .before .before .before .before .before .before .before .factor .ensures)) (c .before .before .before .before .before .before .before .before .before .day .ensures) (at _ (c .before .before .before .before .before .before .p-plus .given .1) (c .before .before .before .before .before .before .before .before .factor2 .ensures)) (none-fetched _ _ _ (c .enum-told3 .given .1) (c .before .before .before .fetch .ensures))
+returns-3 c =
+    let at-fetch = c .before .before .before in
+    let at-p-plus = at-fetch .before .before .before in
+    let at-factor2 = at-p-plus .before .before in
+    let at-day = at-factor2 .before in
+    let at-p-t = at-day .before .before in
+    let at-factor = at-p-t .before .before in
+    off-payments _ _ _ _ _ _ _ _ _ _ _ _ _ (at _ (at-p-t .p-t .given .1) (at-factor .factor .ensures)) (at-day .day .ensures) (at _ (at-p-plus .p-plus .given .1) (at-factor2 .factor2 .ensures)) (none-fetched _ _ _ (c .enum-told3 .given .1) (at-fetch .fetch .ensures))
 
 enum-told-4 : tie.Need-enum-told-4
 enum-told-4 c = search needs
@@ -58,19 +74,27 @@ array-borrow-prefix-c : tie.Need-array-borrow-prefix-c
 array-borrow-prefix-c c = search needs
 
 slice-aggregate-coefficients : tie.Need-slice-aggregate-coefficients
-slice-aggregate-coefficients c = lent _ _ (c .before .before .before .before .before .before .before .before .before .before .before .before .before .before .before .before .before .before .before .before .before .before .pre .0)
+slice-aggregate-coefficients c =
+    let start = c .before .before .before .before .before .before .before .before .before .before .before .before .before .before .before .before .before .before .before .before .before .before in
+    lent _ _ (start .pre .0)
 
 coefficients-requires : tie.Need-coefficients-requires
-coefficients-requires c κs = sym (lent _ _ (c .before .before .before .before .before .before .before .before .before .before .before .before .before .before .before .before .before .before .before .before .before .before .pre .0)) ∙ sym (c .before .before .before .before .before .before .before .before .before .before .before .before .before .before .before .before .before .before .before .before .before .before .pre .1)
+coefficients-requires c κs =
+    let start = c .before .before .before .before .before .before .before .before .before .before .before .before .before .before .before .before .before .before .before .before .before .before in
+    sym (lent _ _ (start .pre .0)) ∙ sym (start .pre .1)
 
 array-borrow-prefix-b : tie.Need-array-borrow-prefix-b
 array-borrow-prefix-b c = search needs
 
 slice-aggregate-bs : tie.Need-slice-aggregate-bs
-slice-aggregate-bs c = lent _ _ (c .before .before .before .before .before .before .before .before .before .before .before .before .before .before .before .before .before .before .before .before .before .before .before .before .before .pre .0)
+slice-aggregate-bs c =
+    let start = c .before .before .before .before .before .before .before .before .before .before .before .before .before .before .before .before .before .before .before .before .before .before .before .before .before in
+    lent _ _ (start .pre .0)
 
 bs-requires : tie.Need-bs-requires
-bs-requires c κs = sym (lent _ _ (c .before .before .before .before .before .before .before .before .before .before .before .before .before .before .before .before .before .before .before .before .before .before .before .before .before .pre .0))
+bs-requires c κs =
+    let start = c .before .before .before .before .before .before .before .before .before .before .before .before .before .before .before .before .before .before .before .before .before .before .before .before .before in
+    sym (lent _ _ (start .pre .0))
 
 variance-of-requires : tie.Need-variance-of-requires
 variance-of-requires c κs = search needs
@@ -79,66 +103,143 @@ forward-of-requires : tie.Need-forward-of-requires
 forward-of-requires c κs = search needs
 
 array-share-prefix-b : tie.Need-array-share-prefix-b
-array-share-prefix-b c = within _ (c .before .before .before .bs .ensures) (bs-length _ _ _)
+array-share-prefix-b c =
+    let at-bs = c .before .before .before in
+    within _ (at-bs .bs .ensures) (bs-length _ _ _)
 
 slice-aggregate-affines : tie.Need-slice-aggregate-affines
-slice-aggregate-affines c = sized _ (c .before .before .before .before .bs .ensures) (bs-length _ _ _)
+slice-aggregate-affines c =
+    let at-bs = c .before .before .before .before in
+    sized _ (at-bs .bs .ensures) (bs-length _ _ _)
 
 array-share-prefix-p : tie.Need-array-share-prefix-p
-array-share-prefix-p c = factors-within _ _ _ _ (all-fetched _ _ _ (c .before .before .before .before .before .before .before .before .before .enum-told4 .given .1) (c .before .before .before .before .before .before .before .before .before .before .before .before .fetch .ensures))
+array-share-prefix-p c =
+    let at-enum-told4 = c .before .before .before .before .before .before .before .before .before in
+    let at-fetch = at-enum-told4 .before .before .before in
+    factors-within _ _ _ _ (all-fetched _ _ _ (at-enum-told4 .enum-told4 .given .1) (at-fetch .fetch .ensures))
 
 slice-aggregate-affines-2 : tie.Need-slice-aggregate-affines-2
-slice-aggregate-affines-2 c = factors-sized _ _ _ _ (all-fetched _ _ _ (c .before .before .before .before .before .before .before .before .before .before .enum-told4 .given .1) (c .before .before .before .before .before .before .before .before .before .before .before .before .before .fetch .ensures))
+slice-aggregate-affines-2 c =
+    let at-enum-told4 = c .before .before .before .before .before .before .before .before .before .before in
+    let at-fetch = at-enum-told4 .before .before .before in
+    factors-sized _ _ _ _ (all-fetched _ _ _ (at-enum-told4 .enum-told4 .given .1) (at-fetch .fetch .ensures))
 
 array-borrow-prefix-a : tie.Need-array-borrow-prefix-a
-array-borrow-prefix-a c = c .before .before .before .before .before .before .before .before .before .before .before .before .before .before .before .before .before .before .before .before .before .before .before .before .before .before .before .before .before .before .before .pre .0
+array-borrow-prefix-a c =
+    let start = c .before .before .before .before .before .before .before .before .before .before .before .before .before .before .before .before .before .before .before .before .before .before .before .before .before .before .before .before .before .before .before in
+    start .pre .0
 
 slice-aggregate-affines-3 : tie.Need-slice-aggregate-affines-3
-slice-aggregate-affines-3 c = lent _ _ (c .before .before .before .before .before .before .before .before .before .before .before .before .before .before .before .before .before .before .before .before .before .before .before .before .before .before .before .before .before .before .before .before .pre .0)
+slice-aggregate-affines-3 c =
+    let start = c .before .before .before .before .before .before .before .before .before .before .before .before .before .before .before .before .before .before .before .before .before .before .before .before .before .before .before .before .before .before .before .before in
+    lent _ _ (start .pre .0)
 
 affines-requires : tie.Need-affines-requires
-affines-requires c κs = (sym (lent _ _ (c .before .before .before .before .before .before .before .before .before .before .before .before .before .before .before .before .before .before .before .before .before .before .before .before .before .before .before .before .before .before .before .before .pre .0)) ∙ sized _ (c .before .before .before .before .before .before .bs .ensures) (bs-length _ _ _), sym (factors-sized _ _ _ _ (all-fetched _ _ _ (c .before .before .before .before .before .before .before .before .before .before .before .enum-told4 .given .1) (c .before .before .before .before .before .before .before .before .before .before .before .before .before .before .fetch .ensures))) ∙ sized _ (c .before .before .before .before .before .before .bs .ensures) (bs-length _ _ _))
+affines-requires c κs =
+    let at-bs = c .before .before .before .before .before .before in
+    let at-enum-told4 = at-bs .before .before .before .before .before in
+    let at-fetch = at-enum-told4 .before .before .before in
+    let start = at-fetch .before .before .before .before .before .before .before .before .before .before .before .before .before .before .before .before .before .before in
+    (sym (lent _ _ (start .pre .0)) ∙ sized _ (at-bs .bs .ensures) (bs-length _ _ _), sym (factors-sized _ _ _ _ (all-fetched _ _ _ (at-enum-told4 .enum-told4 .given .1) (at-fetch .fetch .ensures))) ∙ sized _ (at-bs .bs .ensures) (bs-length _ _ _))
 
 deviation-requires : tie.Need-deviation-requires
 deviation-requires c κs = search needs
 
 array-share-prefix-c : tie.Need-array-share-prefix-c
-array-share-prefix-c c = within _ (c .before .before .before .before .before .before .before .before .before .before .before .before .coefficients .ensures) (coefficients-length _ _ ∙ (c .before .before .before .before .before .before .before .before .before .before .before .before .before .before .before .before .before .before .before .before .before .before .before .before .before .before .before .before .before .before .before .before .before .before .before .pre .1))
+array-share-prefix-c c =
+    let at-coefficients = c .before .before .before .before .before .before .before .before .before .before .before .before in
+    let start = at-coefficients .before .before .before .before .before .before .before .before .before .before .before .before .before .before .before .before .before .before .before .before .before .before .before in
+    within _ (at-coefficients .coefficients .ensures) (coefficients-length _ _ ∙ (start .pre .1))
 
 slice-aggregate-priced-by : tie.Need-slice-aggregate-priced-by
-slice-aggregate-priced-by c = sized _ (c .before .before .before .before .before .before .before .before .before .before .before .before .before .coefficients .ensures) (coefficients-length _ _ ∙ (c .before .before .before .before .before .before .before .before .before .before .before .before .before .before .before .before .before .before .before .before .before .before .before .before .before .before .before .before .before .before .before .before .before .before .before .before .pre .1))
+slice-aggregate-priced-by c =
+    let at-coefficients = c .before .before .before .before .before .before .before .before .before .before .before .before .before in
+    let start = at-coefficients .before .before .before .before .before .before .before .before .before .before .before .before .before .before .before .before .before .before .before .before .before .before .before in
+    sized _ (at-coefficients .coefficients .ensures) (coefficients-length _ _ ∙ (start .pre .1))
 
 array-share-prefix-a : tie.Need-array-share-prefix-a
-array-share-prefix-a c = within _ (c .before .before .before .affines .ensures) (affines-length _ _ _ _ _ (sym (factors-sized _ _ _ _ (all-fetched _ _ _ (c .before .before .before .before .before .before .before .before .before .before .before .before .before .before .before .enum-told4 .given .1) (c .before .before .before .before .before .before .before .before .before .before .before .before .before .before .before .before .before .before .fetch .ensures))) ∙ sized _ (c .before .before .before .before .before .before .before .before .before .before .bs .ensures) (bs-length _ _ _)) ∙ sym (sized _ (c .before .before .before .before .before .before .before .before .before .before .bs .ensures) (bs-length _ _ _)))
+array-share-prefix-a c =
+    let at-affines = c .before .before .before in
+    let at-bs = at-affines .before .before .before .before .before .before .before in
+    let at-enum-told4 = at-bs .before .before .before .before .before in
+    let at-fetch = at-enum-told4 .before .before .before in
+    within _ (at-affines .affines .ensures) (affines-length _ _ _ _ _ (sym (factors-sized _ _ _ _ (all-fetched _ _ _ (at-enum-told4 .enum-told4 .given .1) (at-fetch .fetch .ensures))) ∙ sized _ (at-bs .bs .ensures) (bs-length _ _ _)) ∙ sym (sized _ (at-bs .bs .ensures) (bs-length _ _ _)))
 
 slice-aggregate-priced-by-2 : tie.Need-slice-aggregate-priced-by-2
-slice-aggregate-priced-by-2 c = sized _ (c .before .before .before .before .affines .ensures) (affines-length _ _ _ _ _ (sym (factors-sized _ _ _ _ (all-fetched _ _ _ (c .before .before .before .before .before .before .before .before .before .before .before .before .before .before .before .before .enum-told4 .given .1) (c .before .before .before .before .before .before .before .before .before .before .before .before .before .before .before .before .before .before .before .fetch .ensures))) ∙ sized _ (c .before .before .before .before .before .before .before .before .before .before .before .bs .ensures) (bs-length _ _ _)) ∙ sym (sized _ (c .before .before .before .before .before .before .before .before .before .before .before .bs .ensures) (bs-length _ _ _)))
+slice-aggregate-priced-by-2 c =
+    let at-affines = c .before .before .before .before in
+    let at-bs = at-affines .before .before .before .before .before .before .before in
+    let at-enum-told4 = at-bs .before .before .before .before .before in
+    let at-fetch = at-enum-told4 .before .before .before in
+    sized _ (at-affines .affines .ensures) (affines-length _ _ _ _ _ (sym (factors-sized _ _ _ _ (all-fetched _ _ _ (at-enum-told4 .enum-told4 .given .1) (at-fetch .fetch .ensures))) ∙ sized _ (at-bs .bs .ensures) (bs-length _ _ _)) ∙ sym (sized _ (at-bs .bs .ensures) (bs-length _ _ _)))
 
 array-share-prefix-b-2 : tie.Need-array-share-prefix-b-2
-array-share-prefix-b-2 c = within _ (c .before .before .before .before .before .before .before .before .before .before .before .bs .ensures) (bs-length _ _ _)
+array-share-prefix-b-2 c =
+    let at-bs = c .before .before .before .before .before .before .before .before .before .before .before in
+    within _ (at-bs .bs .ensures) (bs-length _ _ _)
 
 slice-aggregate-priced-by-3 : tie.Need-slice-aggregate-priced-by-3
-slice-aggregate-priced-by-3 c = sized _ (c .before .before .before .before .before .before .before .before .before .before .before .before .bs .ensures) (bs-length _ _ _)
+slice-aggregate-priced-by-3 c =
+    let at-bs = c .before .before .before .before .before .before .before .before .before .before .before .before in
+    sized _ (at-bs .bs .ensures) (bs-length _ _ _)
 
 array-share-prefix-p-2 : tie.Need-array-share-prefix-p-2
-array-share-prefix-p-2 c = factors-within _ _ _ _ (all-fetched _ _ _ (c .before .before .before .before .before .before .before .before .before .before .before .before .before .before .before .before .before .enum-told4 .given .1) (c .before .before .before .before .before .before .before .before .before .before .before .before .before .before .before .before .before .before .before .before .fetch .ensures))
+array-share-prefix-p-2 c =
+    let at-enum-told4 = c .before .before .before .before .before .before .before .before .before .before .before .before .before .before .before .before .before in
+    let at-fetch = at-enum-told4 .before .before .before in
+    factors-within _ _ _ _ (all-fetched _ _ _ (at-enum-told4 .enum-told4 .given .1) (at-fetch .fetch .ensures))
 
 slice-aggregate-priced-by-4 : tie.Need-slice-aggregate-priced-by-4
-slice-aggregate-priced-by-4 c = factors-sized _ _ _ _ (all-fetched _ _ _ (c .before .before .before .before .before .before .before .before .before .before .before .before .before .before .before .before .before .before .enum-told4 .given .1) (c .before .before .before .before .before .before .before .before .before .before .before .before .before .before .before .before .before .before .before .before .before .fetch .ensures))
+slice-aggregate-priced-by-4 c =
+    let at-enum-told4 = c .before .before .before .before .before .before .before .before .before .before .before .before .before .before .before .before .before .before in
+    let at-fetch = at-enum-told4 .before .before .before in
+    factors-sized _ _ _ _ (all-fetched _ _ _ (at-enum-told4 .enum-told4 .given .1) (at-fetch .fetch .ensures))
 
 priced-by-requires : tie.Need-priced-by-requires
 priced-by-requires c κs =
-    let l = sized _ (c .before .before .before .before .before .before .before .before .before .before .before .before .before .before .before .before .coefficients .ensures) (coefficients-length _ _ ∙ (c .before .before .before .before .before .before .before .before .before .before .before .before .before .before .before .before .before .before .before .before .before .before .before .before .before .before .before .before .before .before .before .before .before .before .before .before .before .before .before .pre .1)) in (
-      subst (λ (k : ℕ). k ≤ 64) l (c .before .before .before .before .before .before .before .before .before .before .before .before .before .before .before .before .before .before .before .before .before .before .before .before .before .before .before .before .before .before .before .before .before .before .before .before .before .before .before .pre .0),
-      sym (sized _ (c .before .before .before .before .before .before .affines .ensures) (affines-length _ _ _ _ _ (sym (factors-sized _ _ _ _ (all-fetched _ _ _ (c .before .before .before .before .before .before .before .before .before .before .before .before .before .before .before .before .before .before .enum-told4 .given .1) (c .before .before .before .before .before .before .before .before .before .before .before .before .before .before .before .before .before .before .before .before .before .fetch .ensures))) ∙ sized _ (c .before .before .before .before .before .before .before .before .before .before .before .before .before .bs .ensures) (bs-length _ _ _)) ∙ sym (sized _ (c .before .before .before .before .before .before .before .before .before .before .before .before .before .bs .ensures) (bs-length _ _ _)))) ∙ l,
-      sym (sized _ (c .before .before .before .before .before .before .before .before .before .before .before .before .before .bs .ensures) (bs-length _ _ _)) ∙ l,
-      sym (factors-sized _ _ _ _ (all-fetched _ _ _ (c .before .before .before .before .before .before .before .before .before .before .before .before .before .before .before .before .before .before .enum-told4 .given .1) (c .before .before .before .before .before .before .before .before .before .before .before .before .before .before .before .before .before .before .before .before .before .fetch .ensures))) ∙ l,
-      (c .before .before .before .before .before .before .before .before .before .before .before .before .before .before .before .before .before .before .before .before .before .before .before .before .before .before .before .before .before .before .before .before .before .before .before .before .before .before .before .pre .2) ∙ l,
+    let at-affines = c .before .before .before .before .before .before in
+    let at-bs = at-affines .before .before .before .before .before .before .before in
+    let at-coefficients = at-bs .before .before .before in
+    let at-enum-told4 = at-coefficients .before .before in
+    let at-fetch = at-enum-told4 .before .before .before in
+    let start = at-fetch .before .before .before .before .before .before .before .before .before .before .before .before .before .before .before .before .before .before in
+    let l = sized _ (at-coefficients .coefficients .ensures) (coefficients-length _ _ ∙ (start .pre .1)) in (
+      subst (λ (k : ℕ). k ≤ 64) l (start .pre .0),
+      sym (sized _ (at-affines .affines .ensures) (affines-length _ _ _ _ _ (sym (factors-sized _ _ _ _ (all-fetched _ _ _ (at-enum-told4 .enum-told4 .given .1) (at-fetch .fetch .ensures))) ∙ sized _ (at-bs .bs .ensures) (bs-length _ _ _)) ∙ sym (sized _ (at-bs .bs .ensures) (bs-length _ _ _)))) ∙ l,
+      sym (sized _ (at-bs .bs .ensures) (bs-length _ _ _)) ∙ l,
+      sym (factors-sized _ _ _ _ (all-fetched _ _ _ (at-enum-told4 .enum-told4 .given .1) (at-fetch .fetch .ensures))) ∙ l,
+      (start .pre .2) ∙ l,
     )
 
 returns-4 : tie.Need-returns-4
 returns-4 c =
-    on-curve _ _ _ _ _ _ _ _ _ _ _ _ _ (at _ (c .before .before .before .before .before .before .before .before .before .before .before .before .before .before .before .before .before .before .before .before .before .before .before .before .before .before .before .before .before .before .p-t .given .1) (c .before .before .before .before .before .before .before .before .before .before .before .before .before .before .before .before .before .before .before .before .before .before .before .before .before .before .before .before .before .before .before .before .factor .ensures)) (c .before .before .before .before .before .before .before .before .before .before .before .before .before .before .before .before .before .before .before .before .before .before .before .before .before .before .before .before .day .ensures) (at _ (c .before .before .before .before .before .before .before .before .before .before .before .before .before .before .before .before .before .before .before .before .before .before .before .before .before .p-plus .given .1) (c .before .before .before .before .before .before .before .before .before .before .before .before .before .before .before .before .before .before .before .before .before .before .before .before .before .before .before .factor2 .ensures)) (all-fetched _ _ _ (c .before .before .before .before .before .before .before .before .before .before .before .before .before .before .before .before .before .before .before .enum-told4 .given .1) (c .before .before .before .before .before .before .before .before .before .before .before .before .before .before .before .before .before .before .before .before .before .before .fetch .ensures)) (factors-front _ _ _ _ (all-fetched _ _ _ (c .before .before .before .before .before .before .before .before .before .before .before .before .before .before .before .before .before .before .before .enum-told4 .given .1) (c .before .before .before .before .before .before .before .before .before .before .before .before .before .before .before .before .before .before .before .before .before .before .fetch .ensures))) (front _ (c .before .before .before .before .before .before .before .before .before .before .before .before .before .before .before .before .before .coefficients .ensures) (coefficients-length _ _ ∙ (c .before .before .before .before .before .before .before .before .before .before .before .before .before .before .before .before .before .before .before .before .before .before .before .before .before .before .before .before .before .before .before .before .before .before .before .before .before .before .before .before .pre .1))) (front _ (c .before .before .before .before .before .before .before .before .before .before .before .before .before .before .bs .ensures) (bs-length _ _ _)) (c .before .before .before .before .before .before .before .before .before .before .before .before .variance-of .ensures) (c .before .before .before .before .before .before .before .before .before .before .before .forward-of .ensures) (front _ (c .before .before .before .before .before .before .before .affines .ensures) (affines-length _ _ _ _ _ (sym (factors-sized _ _ _ _ (all-fetched _ _ _ (c .before .before .before .before .before .before .before .before .before .before .before .before .before .before .before .before .before .before .before .enum-told4 .given .1) (c .before .before .before .before .before .before .before .before .before .before .before .before .before .before .before .before .before .before .before .before .before .before .fetch .ensures))) ∙ sized _ (c .before .before .before .before .before .before .before .before .before .before .before .before .before .before .bs .ensures) (bs-length _ _ _)) ∙ sym (sized _ (c .before .before .before .before .before .before .before .before .before .before .before .before .before .before .bs .ensures) (bs-length _ _ _)))) (c .before .before .before .before .before .deviation .ensures) (c .priced-by .ensures)
+    let at-deviation = c .before .before .before .before .before in
+    let at-affines = at-deviation .before .before in
+    let at-forward-of = at-affines .before .before .before .before in
+    let at-variance-of = at-forward-of .before in
+    let at-bs = at-variance-of .before .before in
+    let at-coefficients = at-bs .before .before .before in
+    let at-enum-told4 = at-coefficients .before .before in
+    let at-fetch = at-enum-told4 .before .before .before in
+    let at-p-plus = at-fetch .before .before .before in
+    let at-factor2 = at-p-plus .before .before in
+    let at-day = at-factor2 .before in
+    let at-p-t = at-day .before .before in
+    let at-factor = at-p-t .before .before in
+    let start = at-factor .before .before .before .before .before .before .before .before in
+    on-curve _ _ _ _ _ _ _ _ _ _ _ _ _
+    (at _ (at-p-t .p-t .given .1) (at-factor .factor .ensures))
+    (at-day .day .ensures)
+    (at _ (at-p-plus .p-plus .given .1) (at-factor2 .factor2 .ensures))
+    (all-fetched _ _ _ (at-enum-told4 .enum-told4 .given .1) (at-fetch .fetch .ensures))
+    (factors-front _ _ _ _ (all-fetched _ _ _ (at-enum-told4 .enum-told4 .given .1) (at-fetch .fetch .ensures)))
+    (front _ (at-coefficients .coefficients .ensures) (coefficients-length _ _ ∙ (start .pre .1)))
+    (front _ (at-bs .bs .ensures) (bs-length _ _ _))
+    (at-variance-of .variance-of .ensures)
+    (at-forward-of .forward-of .ensures)
+    (front _ (at-affines .affines .ensures) (affines-length _ _ _ _ _ (sym (factors-sized _ _ _ _ (all-fetched _ _ _ (at-enum-told4 .enum-told4 .given .1) (at-fetch .fetch .ensures))) ∙ sized _ (at-bs .bs .ensures) (bs-length _ _ _)) ∙ sym (sized _ (at-bs .bs .ensures) (bs-length _ _ _))))
+    (at-deviation .deviation .ensures)
+    (c .priced-by .ensures)
 
 pub pricer-priced-spec : {M : Type 1} → statement M
 pricer-priced-spec =

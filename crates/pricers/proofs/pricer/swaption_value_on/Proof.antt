@@ -30,21 +30,41 @@ enum-known-checked c = search needs
 returns : tie.Need-returns
 unfolding pricerOutcome
 returns c =
-    let a = c .before .before .before .before .before .before .before .before .before .before .before .before .before .before .before .before .args in
-    let e = refusing _ _ (c .before .checked .given .1) (same-rule _ _ _ _ _ _ _ (c .before .before .before .before .before .before .before .before .before .before .before .before .before .before .before .before .pre) (c .before .before .before .before .before .before .before .before .pillar-faults .ensures) (c .before .before .before .before .before .before .before .coupon-faults .ensures) (c .before .before .before .before .before .before .all .ensures) (c .before .before .before .before .before .own-fits .ensures) (c .before .before .before .before .all2 .ensures) (c .before .before .before .pricer-rule .ensures)) in
+    let at-checked = c .before in
+    let at-pricer-rule = at-checked .before .before in
+    let at-all2 = at-pricer-rule .before in
+    let at-own-fits = at-all2 .before in
+    let at-all = at-own-fits .before in
+    let at-coupon-faults = at-all .before in
+    let at-pillar-faults = at-coupon-faults .before in
+    let start = at-pillar-faults .before .before .before .before .before .before .before .before in
+    let a = start .args in
+    let e = refusing _ _ (at-checked .checked .given .1) (same-rule _ _ _ _ _ _ _ (start .pre) (at-pillar-faults .pillar-faults .ensures) (at-coupon-faults .coupon-faults .ensures) (at-all .all .ensures) (at-own-fits .own-fits .ensures) (at-all2 .all2 .ensures) (at-pricer-rule .pricer-rule .ensures)) in
     (e, rooted (a .option) _ _ _ _ _ _ _ (a .own-dfs .now) _ _ (a .notional) (a .side) e)
 
 enum-told : tie.Need-enum-told
 enum-told c = search needs
 
 pricer-priced-requires : tie.Need-pricer-priced-requires
-pricer-priced-requires c κs = paired _ _ _ _ _ _ (c .before .before .before .before .before .before .before .before .before .before .before .before .before .before .before .args .own-dfs .now) _ _ _ _ _ _ _ _ _ (c .before .before .before .before .before .before .coupon-faults .ensures) (c .enum-told .given .1) (c .before .before .pricer-rule .ensures)
+pricer-priced-requires c κs =
+    let at-pricer-rule = c .before .before in
+    let at-coupon-faults = at-pricer-rule .before .before .before .before in
+    let start = at-coupon-faults .before .before .before .before .before .before .before .before .before in
+    paired _ _ _ _ _ _ (start .args .own-dfs .now) _ _ _ _ _ _ _ _ _ (at-coupon-faults .coupon-faults .ensures) (c .enum-told .given .1) (at-pricer-rule .pricer-rule .ensures)
 
 returns-2 : tie.Need-returns-2
 unfolding pricerOutcome
 returns-2 c =
-    let a = c .before .before .before .before .before .before .before .before .before .before .before .before .before .before .before .before .args in
-    let e = passing _ (c .before .enum-told .given .1) (same-rule _ _ _ _ _ _ _ (c .before .before .before .before .before .before .before .before .before .before .before .before .before .before .before .before .pre) (c .before .before .before .before .before .before .before .before .pillar-faults .ensures) (c .before .before .before .before .before .before .before .coupon-faults .ensures) (c .before .before .before .before .before .before .all .ensures) (c .before .before .before .before .before .own-fits .ensures) (c .before .before .before .before .all2 .ensures) (c .before .before .before .pricer-rule .ensures)) (c .pricer-priced .ensures) in
+    let at-enum-told = c .before in
+    let at-pricer-rule = at-enum-told .before .before in
+    let at-all2 = at-pricer-rule .before in
+    let at-own-fits = at-all2 .before in
+    let at-all = at-own-fits .before in
+    let at-coupon-faults = at-all .before in
+    let at-pillar-faults = at-coupon-faults .before in
+    let start = at-pillar-faults .before .before .before .before .before .before .before .before in
+    let a = start .args in
+    let e = passing _ (at-enum-told .enum-told .given .1) (same-rule _ _ _ _ _ _ _ (start .pre) (at-pillar-faults .pillar-faults .ensures) (at-coupon-faults .coupon-faults .ensures) (at-all .all .ensures) (at-own-fits .own-fits .ensures) (at-all2 .all2 .ensures) (at-pricer-rule .pricer-rule .ensures)) (c .pricer-priced .ensures) in
     (e, rooted (a .option) _ _ _ _ _ _ _ (a .own-dfs .now) _ _ (a .notional) (a .side) e)
 
 pub swaption-value-on-spec : {M : Type 1} → statement M

@@ -1,5 +1,4 @@
 -- `pricers::affine` meets its contract. Assumes nothing.
-use mathlib.Core.Path.{_≡_}
 use Rattle.pricers.specs.Affine.{affineOf}
 use borrow.Author.Needs.{needs}
 use Rattle.pricers.proofs.variance.affine.Statement.{statement}

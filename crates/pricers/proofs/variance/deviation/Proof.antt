@@ -1,5 +1,4 @@
 -- `pricers::deviation` meets its contract. Assumes nothing.
-use mathlib.Core.Path.{_≡_}
 use Rattle.pricers.specs.Affine.{deviationOf}
 use borrow.Author.Needs.{needs}
 use Rattle.pricers.proofs.variance.deviation.Statement.{statement}
