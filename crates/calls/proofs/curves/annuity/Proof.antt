@@ -1,0 +1,33 @@
+-- `calls::curves::annuity` meets its contract: the call's arguments are those of the record. Assumes nothing.
+use borrow.Author.Needs.{needs}
+use Rattle.calls.proofs.curves.annuity.Statement.{statement}
+use Rattle.calls.proofs.curves.annuity.Tie as tie
+
+part-requires : tie.Need-part-requires
+part-requires c κs = search needs
+
+part-requires-2 : tie.Need-part-requires-2
+part-requires-2 c κs = search needs
+
+part-requires-3 : tie.Need-part-requires-3
+part-requires-3 c κs = search needs
+
+part-requires-4 : tie.Need-part-requires-4
+part-requires-4 c κs = search needs
+
+annuity-requires : tie.Need-annuity-requires
+annuity-requires c κs = search needs
+
+returns : tie.Need-returns
+returns c = cc
+
+pub annuity-spec : {M : Type 1} → statement M
+annuity-spec =
+    tie.close
+    (tie.spec
+    part-requires
+    part-requires-2
+    part-requires-3
+    part-requires-4
+    annuity-requires
+    returns)

@@ -1,0 +1,24 @@
+-- `calls::curves::forward_rate` meets its contract: the call's arguments are those of the record. Assumes nothing.
+use borrow.Author.Needs.{needs}
+use Rattle.calls.proofs.curves.forward_rate.Statement.{statement}
+use Rattle.calls.proofs.curves.forward_rate.Tie as tie
+
+part-requires : tie.Need-part-requires
+part-requires c κs = search needs
+
+part-requires-2 : tie.Need-part-requires-2
+part-requires-2 c κs = search needs
+
+float-of-requires : tie.Need-float-of-requires
+float-of-requires c κs = search needs
+
+forward-rate-requires : tie.Need-forward-rate-requires
+forward-rate-requires c κs = search needs
+
+returns : tie.Need-returns
+returns c = cc
+
+pub forward-rate-spec : {M : Type 1} → statement M
+forward-rate-spec =
+    tie.close
+    (tie.spec part-requires part-requires-2 float-of-requires forward-rate-requires returns)

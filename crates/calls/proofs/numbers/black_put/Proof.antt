@@ -1,0 +1,33 @@
+-- `calls::numbers::black_put` meets its contract: the call's arguments are those of the record. Assumes nothing.
+use borrow.Author.Needs.{needs}
+use Rattle.calls.proofs.numbers.black_put.Statement.{statement}
+use Rattle.calls.proofs.numbers.black_put.Tie as tie
+
+float-of-requires : tie.Need-float-of-requires
+float-of-requires c κs = search needs
+
+float-of-requires-2 : tie.Need-float-of-requires-2
+float-of-requires-2 c κs = search needs
+
+float-of-requires-3 : tie.Need-float-of-requires-3
+float-of-requires-3 c κs = search needs
+
+float-of-requires-4 : tie.Need-float-of-requires-4
+float-of-requires-4 c κs = search needs
+
+black-put-requires : tie.Need-black-put-requires
+black-put-requires c κs = search needs
+
+returns : tie.Need-returns
+returns c = cc
+
+pub black-put-spec : {M : Type 1} → statement M
+black-put-spec =
+    tie.close
+    (tie.spec
+    float-of-requires
+    float-of-requires-2
+    float-of-requires-3
+    float-of-requires-4
+    black-put-requires
+    returns)

@@ -1,0 +1,124 @@
+// The calls on a curve.
+ghost use mathlib.Core.Path.{_≡_};
+ghost use Rattle.lists.specs.Refusals.{outcomeOf};
+ghost use Rattle.calls.specs.Calls.{aCall, zcbCall, thetaCall, forwardCall, bondPutCall, bondCallCall, capletCall, floorletCall, annuityCall};
+use crate::record::Record;
+use crate::store;
+use crate::value;
+use lists::Price;
+
+pub fn a(r: Record, s: &[f64]) -> Price
+    ensures { λ p. ⌜ outcomeOf p ≡ aCall r (now (s .entry)) ⌝ }
+{
+    models::A(
+        value::float_of(r.a),
+        store::part(s, r.times),
+        store::part(s, r.factors),
+        value::float_of(r.b),
+        value::float_of(r.c),
+        value::float_of(r.d),
+    )
+}
+
+pub fn zcb_price(r: Record, s: &[f64]) -> Price
+    ensures { λ p. ⌜ outcomeOf p ≡ zcbCall r (now (s .entry)) ⌝ }
+{
+    models::zcb_price(
+        value::float_of(r.a),
+        store::part(s, r.times),
+        store::part(s, r.factors),
+        value::float_of(r.b),
+        value::float_of(r.c),
+        value::float_of(r.d),
+        value::float_of(r.e),
+    )
+}
+
+pub fn theta(r: Record, s: &[f64]) -> Price
+    ensures { λ p. ⌜ outcomeOf p ≡ thetaCall r (now (s .entry)) ⌝ }
+{
+    models::theta(
+        value::float_of(r.a),
+        store::part(s, r.times),
+        store::part(s, r.factors),
+        value::float_of(r.b),
+        value::float_of(r.c),
+    )
+}
+
+pub fn forward_rate(r: Record, s: &[f64]) -> Price
+    ensures { λ p. ⌜ outcomeOf p ≡ forwardCall r (now (s .entry)) ⌝ }
+{
+    models::forward_rate(
+        store::part(s, r.times),
+        store::part(s, r.factors),
+        value::float_of(r.a),
+    )
+}
+
+pub fn bond_put_price(r: Record, s: &[f64]) -> Price
+    ensures { λ p. ⌜ outcomeOf p ≡ bondPutCall r (now (s .entry)) ⌝ }
+{
+    models::bond_put_price(
+        value::float_of(r.a),
+        store::part(s, r.times),
+        store::part(s, r.factors),
+        value::float_of(r.b),
+        value::float_of(r.c),
+        value::float_of(r.d),
+        value::float_of(r.e),
+    )
+}
+
+pub fn bond_call_price(r: Record, s: &[f64]) -> Price
+    ensures { λ p. ⌜ outcomeOf p ≡ bondCallCall r (now (s .entry)) ⌝ }
+{
+    models::bond_call_price(
+        value::float_of(r.a),
+        store::part(s, r.times),
+        store::part(s, r.factors),
+        value::float_of(r.b),
+        value::float_of(r.c),
+        value::float_of(r.d),
+        value::float_of(r.e),
+    )
+}
+
+pub fn caplet_price(r: Record, s: &[f64]) -> Price
+    ensures { λ p. ⌜ outcomeOf p ≡ capletCall r (now (s .entry)) ⌝ }
+{
+    models::caplet_price(
+        value::float_of(r.a),
+        store::part(s, r.times),
+        store::part(s, r.factors),
+        value::float_of(r.b),
+        value::float_of(r.c),
+        value::float_of(r.d),
+        value::float_of(r.e),
+    )
+}
+
+pub fn floorlet_price(r: Record, s: &[f64]) -> Price
+    ensures { λ p. ⌜ outcomeOf p ≡ floorletCall r (now (s .entry)) ⌝ }
+{
+    models::floorlet_price(
+        value::float_of(r.a),
+        store::part(s, r.times),
+        store::part(s, r.factors),
+        value::float_of(r.b),
+        value::float_of(r.c),
+        value::float_of(r.d),
+        value::float_of(r.e),
+    )
+}
+
+pub fn annuity(r: Record, s: &[f64]) -> Price
+    ensures { λ p. ⌜ outcomeOf p ≡ annuityCall r (now (s .entry)) ⌝ }
+{
+    models::annuity(
+        store::part(s, r.times),
+        store::part(s, r.factors),
+        store::part(s, r.grid),
+        store::part(s, r.draws),
+    )
+}

@@ -1,0 +1,119 @@
+// The functions under test, by the numbers that records give them: 1 to 21.
+ghost use mathlib.Core.Path.{_≡_};
+ghost use Prim.Native.Nat.{_≤_};
+ghost use Rattle.lists.specs.Refusals.{outcomeOf};
+ghost use Rattle.models.specs.Quotes.{pairOutcome};
+ghost use Rattle.calls.specs.Calls.{onNumbersOf, onListsOf};
+ghost use Rattle.calls.specs.Agree.{tellsOf, tellsBothOf, reachesOf, malformedOf, othersOf, agreesOf};
+use crate::curves;
+use crate::numbers;
+use crate::outputs;
+use crate::record::Record;
+use crate::schedules;
+use crate::store;
+use crate::value;
+use lists::Price;
+use models::Pair;
+
+// Whether the function that the record names gives what the record expects. A malformed record never
+// agrees.
+pub fn agrees(r: Record, s: &[f64]) -> bool
+    ensures { λ ok. ⌜ ok ≡ agreesOf r (now (s .entry)) ⌝ }
+{
+    let function = r.function;
+    if malformed(r, s) {
+        return false;
+    }
+    if function < 7 {
+        return tells(on_numbers(function, r), r);
+    }
+    if function < 18 {
+        return tells(on_lists(function, r, s), r);
+    }
+    others(function, r, s)
+}
+
+// Whether the record names no function, a list that the store has not, or more room than there is.
+fn malformed(r: Record, s: &[f64]) -> bool
+    ensures { λ bad. ⌜ bad ≡ malformedOf r (now (s .entry)) ⌝ }
+{
+    let stored = store::has(s, r.times)
+        & store::has(s, r.factors)
+        & store::has(s, r.pillars)
+        & store::has(s, r.sigmas)
+        & store::has(s, r.grid)
+        & store::has(s, r.draws);
+    !(!(r.function < 1) & !(21 < r.function) & stored & !(1026 < r.room))
+}
+
+fn on_numbers(function: u64, r: Record) -> Price
+    ensures { λ p. ⌜ outcomeOf p ≡ onNumbersOf function r ⌝ }
+{
+    match function {
+        1 => numbers::b(r),
+        2 => numbers::zcb_price_volatility(r),
+        3 => numbers::short_rate_variance(r),
+        4 => numbers::black_call(r),
+        5 => numbers::black_put(r),
+        _ => numbers::bachelier_call(r),
+    }
+}
+
+fn on_lists(function: u64, r: Record, s: &[f64]) -> Price
+    ensures { λ p. ⌜ outcomeOf p ≡ onListsOf function r (now (s .entry)) ⌝ }
+{
+    match function {
+        7 => curves::a(r, s),
+        8 => curves::zcb_price(r, s),
+        9 => curves::theta(r, s),
+        10 => curves::forward_rate(r, s),
+        11 => curves::bond_put_price(r, s),
+        12 => curves::bond_call_price(r, s),
+        13 => curves::caplet_price(r, s),
+        14 => curves::floorlet_price(r, s),
+        15 => curves::annuity(r, s),
+        16 => schedules::piecewise_variance(r, s),
+        _ => schedules::volatility(r, s),
+    }
+}
+
+fn others(function: u64, r: Record, s: &[f64]) -> bool
+    requires { ⌜ r .room ≤ 1026 ⌝ }
+    ensures { λ ok. ⌜ ok ≡ othersOf function r (now (s .entry)) ⌝ }
+{
+    match function {
+        18 => tells_both(numbers::d1_d2(r), r),
+        19 => reaches(schedules::pillars_reached(r, s), r, s),
+        20 => outputs::transition_variances(r, s),
+        _ => outputs::generate(r, s),
+    }
+}
+
+// Whether the answer is told as the record says: its number, and its value or +0.
+fn tells(price: Price, r: Record) -> bool
+    ensures { λ ok. ⌜ ok ≡ tellsOf (outcomeOf price) r ⌝ }
+{
+    let reply = lists::told(price);
+    (reply.answer == r.answer) & value::matches(reply.value, r.first)
+}
+
+fn tells_both(pair: Pair, r: Record) -> bool
+    ensures { λ ok. ⌜ ok ≡ tellsBothOf (pairOutcome pair) r ⌝ }
+{
+    match pair {
+        Pair::Served(x, y) => {
+            (r.answer == 0) & value::matches(x, r.first) & value::matches(y, r.second)
+        }
+        Pair::Refused(refusal) => {
+            (lists::number(refusal) == r.answer) & (r.first == 0) & (r.second == 0)
+        }
+    }
+}
+
+// Whether the part handed back is the list that the record expects. The call has no answer number.
+fn reaches(part: &[f64], r: Record, s: &[f64]) -> bool
+    ensures { λ ok. ⌜ ok ≡ reachesOf (now (part .entry)) r (now (s .entry)) ⌝ }
+{
+    let expected = store::part(s, r.first);
+    (part.len() == expected.len()) & store::has(s, r.first) & outputs::holds(part, expected)
+}

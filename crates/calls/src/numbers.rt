@@ -1,0 +1,85 @@
+// The calls on plain numbers alone.
+ghost use mathlib.Core.Path.{_≡_};
+ghost use Rattle.lists.specs.Refusals.{outcomeOf};
+ghost use Rattle.models.specs.Quotes.{pairOutcome};
+ghost use Rattle.calls.specs.Calls.{bCall, zcbVolatilityCall, shortRateVarianceCall, blackCallCall, blackPutCall, bachelierCallCall, d1d2Call};
+use crate::record::Record;
+use crate::value;
+use lists::Price;
+use models::Pair;
+
+pub fn b(r: Record) -> Price
+    ensures { λ p. ⌜ outcomeOf p ≡ bCall r ⌝ }
+{
+    models::B(
+        value::float_of(r.a),
+        value::float_of(r.b),
+        value::float_of(r.c),
+    )
+}
+
+pub fn zcb_price_volatility(r: Record) -> Price
+    ensures { λ p. ⌜ outcomeOf p ≡ zcbVolatilityCall r ⌝ }
+{
+    models::zcb_price_volatility(
+        value::float_of(r.a),
+        value::float_of(r.b),
+        value::float_of(r.c),
+        value::float_of(r.d),
+    )
+}
+
+pub fn short_rate_variance(r: Record) -> Price
+    ensures { λ p. ⌜ outcomeOf p ≡ shortRateVarianceCall r ⌝ }
+{
+    models::short_rate_variance(
+        value::float_of(r.a),
+        value::float_of(r.b),
+        value::float_of(r.c),
+        value::float_of(r.d),
+    )
+}
+
+pub fn black_call(r: Record) -> Price
+    ensures { λ p. ⌜ outcomeOf p ≡ blackCallCall r ⌝ }
+{
+    models::black_call(
+        value::float_of(r.a),
+        value::float_of(r.b),
+        value::float_of(r.c),
+        value::float_of(r.d),
+    )
+}
+
+pub fn black_put(r: Record) -> Price
+    ensures { λ p. ⌜ outcomeOf p ≡ blackPutCall r ⌝ }
+{
+    models::black_put(
+        value::float_of(r.a),
+        value::float_of(r.b),
+        value::float_of(r.c),
+        value::float_of(r.d),
+    )
+}
+
+pub fn bachelier_call(r: Record) -> Price
+    ensures { λ p. ⌜ outcomeOf p ≡ bachelierCallCall r ⌝ }
+{
+    models::bachelier_call(
+        value::float_of(r.a),
+        value::float_of(r.b),
+        value::float_of(r.c),
+        value::float_of(r.d),
+    )
+}
+
+pub fn d1_d2(r: Record) -> Pair
+    ensures { λ p. ⌜ pairOutcome p ≡ d1d2Call r ⌝ }
+{
+    models::d1_d2(
+        value::float_of(r.a),
+        value::float_of(r.b),
+        value::float_of(r.c),
+        value::float_of(r.d),
+    )
+}
