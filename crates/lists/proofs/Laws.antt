@@ -18,6 +18,7 @@ use Rattle.lists.specs.Checks.{passesOf, allOf, inOrder}
 use Rattle.lists.specs.Lookups.{Maybe, just, nothing, factorAt, lastAt, volatilityAt}
 use Rattle.lists.specs.Faults.{curveFaults}
 use Rattle.lists.proofs.Order.{both, holds}
+use Rattle.lists.proofs.Outcomes.{neither}
 
 -- ---- taking answers apart
 none-found : {p : Float} → nothing ≡ just p → ⊥
@@ -90,10 +91,6 @@ missing-unequal (x ∷ ts) (f ∷ fs) t l h (suc k) b =
     missing-unequal ts fs t (omega arith) (not-here (eq x t) f (factorAt ts fs t) h .1) k (le-of-suc-le-suc b)
 
 -- ---- what a curve shows that breaks none of rules 1, 2, 4, 6
-neither : (a b : Bool) → (a || b) ≡ false → (a ≡ false) × (b ≡ false)
-neither true b h = let z : _≡_ {A = ℕ} 0 1 = cc in absurd (let y : ⊥ = omega arith in y)
-neither false b h = (refl, h)
-
 module _ (ts fs : List Float) where
   -- rule 1: its lists are within the limit, and of equal length
   pub curve-paired : curveFaults ts fs .size ≡ false → (length ts ≤ 2048) × (length ts ≡ length fs)
@@ -105,7 +102,7 @@ module _ (ts fs : List Float) where
   pub curve-finite : curveFaults ts fs .«not_finite» ≡ false → (allOf Finite ts ≡ true) × (allOf Finite fs ≡ true)
   curve-finite h = both (allOf Finite ts) (allOf Finite fs) (not-false (allOf Finite ts && allOf Finite fs) h)
 
-  -- rule 4: its times strictly rise, which `factor_sorted` requires
+  -- rule 4: its times strictly rise, which `factor` requires
   pub curve-rises : curveFaults ts fs .order ≡ false → inOrder true ts ≡ true
   curve-rises h = not-false (inOrder true ts) h
 

@@ -4,6 +4,8 @@ use mathlib.Core.List.{List, [], _∷_}
 use lib.Ieee.{Float, eq, le}
 use Rattle.lists.specs.declared.lookups.Found.{Found}
 use Rattle.lists.specs.declared.lookups.Found.the-variants as F
+use Rattle.lists.specs.declared.refusals.Refusal.{Refusal}
+use Rattle.lists.specs.declared.refusals.Refusal.the-variants as R
 use Rattle.lists.specs.Refusals.{Outcome, refused}
 
 -- what a list may lack
@@ -21,10 +23,14 @@ factorAt [] fs t = nothing
 factorAt (x ∷ xs) [] t = nothing
 factorAt (x ∷ xs) (f ∷ fs) t = cond (eq x t) (just f) (factorAt xs fs t)
 
--- "A time that the call needs is not among the curve's times": refused by 8, or as the rest says of the factor
+-- what a list lacks turns the call down; else it is as the rest says of what was found
+abbrev pub required : {A : Type 0} → Refusal → Maybe → (Float → Outcome A) → Outcome A
+required r (just x) rest = rest x
+required r nothing rest = refused r
+
+-- rule 8: "A time that the call needs is not among the curve's times"
 abbrev pub needing : {A : Type 0} → Maybe → (Float → Outcome A) → Outcome A
-needing (just p) rest = rest p
-needing nothing rest = refused 8
+needing = required R.OffCurve
 
 -- "the last pillar at or before t, else the first": `best` is the answer so far
 unfoldable pub lastAt : Float → List Float → List Float → Float → Float

@@ -1,23 +1,26 @@
--- Document 01, "How a call is turned down". An outcome is what a call gives by document 01: a value, or a refusal's number; each enum of the code has the definition here that turns its cases into an outcome.
+-- Document 01, "How a call is turned down". An outcome is what a call gives by document 01, a value or a refusal; each enum of the code has the definition here, or in its own crate, that turns its cases into an outcome.
 use mathlib.Core.Bool.{Bool, cond}
-use Prim.Native.Nat.{ℕ, zero, suc}
+use mathlib.Core.List.{List, [], _∷_}
+use Prim.Native.Nat.{ℕ}
 use lib.Ieee.{Float}
 use lib.Ieee.Scale.{finite}
 use Rattle.ieee.specs.Numbers as Numbers
 use Rattle.lists.specs.declared.refusals.Refusal.{Refusal}
 use Rattle.lists.specs.declared.refusals.Refusal.the-variants as R
-use Rattle.lists.specs.declared.refusals.Checked.{Checked}
-use Rattle.lists.specs.declared.refusals.Checked.the-variants as C
+use Rattle.lists.specs.declared.refusals.Answer.{Answer}
+use Rattle.lists.specs.declared.refusals.Answer.the-variants as A
 use Rattle.lists.specs.declared.refusals.Price.{Price}
 use Rattle.lists.specs.declared.refusals.Price.the-variants as P
 use Rattle.lists.specs.declared.refusals.Reply.{Reply}
 
--- "Answer 0 is served. A refused call returns the first number below that applies"
+-- what a call gives
 pub data Outcome (A : Type 0) : Type 0 where
   served : A → Outcome A
-  refused : ℕ → Outcome A
+  refused : Refusal → Outcome A
 
--- document 01's numbers
+-- ---- an outcome's number and values
+
+-- document 01's numbers; they stand here alone
 abbrev pub numberOf : Refusal → ℕ
 numberOf R.Size = 1
 numberOf R.NotFinite = 2
@@ -33,32 +36,74 @@ numberOf R.FlatDerivative = 11
 numberOf R.NoSignChange = 12
 numberOf R.Overflow = 13
 
--- ---- rules 1 to 7: the first that applies, by whether each does; 0 where none does
-unfoldable pub firstRule : Bool → Bool → Bool → Bool → Bool → Bool → Bool → ℕ
-firstRule r1 r2 r3 r4 r5 r6 r7 = cond r1 1 (cond r2 2 (cond r3 3 (cond r4 4 (cond r5 5 (cond r6 6 (cond r7 7 0))))))
+-- "Answer 0 is served."
+abbrev pub answerNumber : Answer → ℕ
+answerNumber A.Served = 0
+answerNumber (A.Refused r) = numberOf r
 
-abbrev pub checkedNumber : Checked → ℕ
-checkedNumber C.Passed = 0
-checkedNumber (C.Refused r) = numberOf r
+-- an outcome without its values
+abbrev pub answerOf : {A : Type 0} → Outcome A → Answer
+answerOf (served v) = A.Served
+answerOf (refused r) = A.Refused r
 
--- turned down by the rule of that number, or, where it is 0, as the rest says
-abbrev pub unless : {A : Type 0} → ℕ → Outcome A → Outcome A
-unless zero rest = rest
-unless (suc n) rest = refused (suc n)
+-- "with value +0, every other result field 0 and any returned part empty": the values, or those of a refusal, `none`
+abbrev pub valueOr : {A : Type 0} → A → Outcome A → A
+valueOr none (served v) = v
+valueOr none (refused r) = none
 
--- ---- rule 13: "A float of the answer .. is not finite"
+-- ---- rules 1 to 7: "the first number below that applies"
+
+-- a rule, and whether it applies to the call
+pub record Rule : Type 0 where
+  pub refusal : Refusal
+  pub applies : Bool
+
+abbrev pub rule : Refusal → Bool → Rule
+rule r b = record { refusal = r; applies = b }
+
+unfoldable pub firstOf : List Rule → Answer
+firstOf [] = A.Served
+firstOf (x ∷ xs) = cond (x .applies) (A.Refused (x .refusal)) (firstOf xs)
+
+-- the same, rule after rule: one more rule turns down what those before it have let through
+unfoldable pub andRule : Answer → Rule → Answer
+andRule A.Served x = cond (x .applies) (A.Refused (x .refusal)) A.Served
+andRule (A.Refused r) x = A.Refused r
+
+-- ---- from one step of a call to the next
+
+-- refused as the answer says, or as the rest says
+abbrev pub after : {A : Type 0} → Answer → Outcome A → Outcome A
+after A.Served rest = rest
+after (A.Refused r) rest = refused r
+
+-- turned down by the first of the rules that applies, or as the rest says
+abbrev pub unless : {A : Type 0} → List Rule → Outcome A → Outcome A
+unless rules rest = after (firstOf rules) rest
+
+-- a refusal met on the way is the call's own
+abbrev pub following : {A B : Type 0} → Outcome A → (A → Outcome B) → Outcome B
+following (served v) rest = rest v
+following (refused r) rest = refused r
+
+-- a list one value longer, where there is one
+abbrev pub prepend : Float → Outcome (List Float) → Outcome (List Float)
+prepend x (served xs) = served (x ∷ xs)
+prepend x (refused r) = refused r
+
+-- rule 13: "A float of the answer .. is not finite"
 abbrev pub finishing : Float → Outcome Float
-finishing v = cond (finite v) (served v) (refused 13)
+finishing v = cond (finite v) (served v) (refused R.Overflow)
 
--- ---- the outcome of a call with one value, from the code's answer
+-- ---- a call with one value
+
 abbrev pub outcomeOf : Price → Outcome Float
 outcomeOf (P.Served v) = served v
-outcomeOf (P.Refused r) = refused (numberOf r)
+outcomeOf (P.Refused r) = refused r
 
--- "with value +0": what is told outside, of an outcome and of the code's answer
+-- what is told outside of an outcome, and of the code's answer
 abbrev pub toldOutcome : Outcome Float → Reply
-toldOutcome (served v) = record { answer = 0; value = v }
-toldOutcome (refused n) = record { answer = n; value = Numbers.zero }
+toldOutcome o = record { answer = answerNumber (answerOf o); value = valueOr Numbers.zero o }
 
 abbrev pub toldOf : Price → Reply
 toldOf p = toldOutcome (outcomeOf p)

@@ -11,26 +11,9 @@ pub enum Found {
     Missing,
 }
 
-// The factor at a time that is on the curve, numbers compared.
+// The factor at a time that is on the curve, numbers compared. It is looked for by halves: the times
+// strictly rise in every call that rule 4 lets through.
 pub fn factor(times: &[f64], factors: &[f64], t: f64) -> Found
-    ensures { λ r. ⌜ foundOf r ≡ factorAt (now (times .entry)) (now (factors .entry)) t ⌝ }
-{
-    let mut i = 0;
-    while i < times.len() {
-        if factors.len() <= i {
-            return Found::Missing;
-        }
-        if times[i] == t {
-            let found = factors[i];
-            return Found::At(found);
-        }
-        i += 1;
-    }
-    Found::Missing
-}
-
-// The same factor by halves, where the times strictly rise: every call that rule 4 lets through shows it.
-pub fn factor_sorted(times: &[f64], factors: &[f64], t: f64) -> Found
     requires { ⌜ inOrder true (now times) ≡ true ⌝ }
     ensures { λ r. ⌜ foundOf r ≡ factorAt (now (times .entry)) (now (factors .entry)) t ⌝ }
 {

@@ -1,6 +1,6 @@
 // How a call is turned down: the refusals of document 01, each under its number.
 ghost use mathlib.Core.Path.{_≡_};
-ghost use Rattle.lists.specs.Refusals.{numberOf, checkedNumber, firstRule, outcomeOf, toldOf, finishing};
+ghost use Rattle.lists.specs.Refusals.{numberOf, rule, andRule, outcomeOf, toldOf, finishing};
 
 // Why a call is turned down, in document 01's order.
 pub enum Refusal {
@@ -19,9 +19,9 @@ pub enum Refusal {
     Overflow,
 }
 
-// What the rules on the inputs come to.
-pub enum Checked {
-    Passed,
+// Whether a call is served, without its values: what its rules come to, or whether a lent list was filled.
+pub enum Answer {
+    Served,
     Refused(Refusal),
 }
 
@@ -58,34 +58,19 @@ pub fn number(refusal: Refusal) -> u64
     }
 }
 
-// The first of rules 1 to 7 that applies, given whether each does.
-pub fn first_rule(
-    size: bool,
-    not_finite: bool,
-    mean_reversion: bool,
-    order: bool,
-    times: bool,
-    domain: bool,
-    empty: bool,
-) -> Checked
-    ensures { λ r. ⌜ checkedNumber r ≡ firstRule size «not_finite» «mean_reversion» order times domain empty ⌝ }
+// One rule more, after those that came to `earlier`: the first that applies is the answer.
+pub fn and_rule(earlier: Answer, refusal: Refusal, applies: bool) -> Answer
+    ensures { λ r. ⌜ r ≡ andRule earlier (rule refusal applies) ⌝ }
 {
-    if size {
-        Checked::Refused(Refusal::Size)
-    } else if not_finite {
-        Checked::Refused(Refusal::NotFinite)
-    } else if mean_reversion {
-        Checked::Refused(Refusal::MeanReversion)
-    } else if order {
-        Checked::Refused(Refusal::Order)
-    } else if times {
-        Checked::Refused(Refusal::Times)
-    } else if domain {
-        Checked::Refused(Refusal::Domain)
-    } else if empty {
-        Checked::Refused(Refusal::Empty)
-    } else {
-        Checked::Passed
+    match earlier {
+        Answer::Refused(first) => Answer::Refused(first),
+        Answer::Served => {
+            if applies {
+                Answer::Refused(refusal)
+            } else {
+                Answer::Served
+            }
+        }
     }
 }
 

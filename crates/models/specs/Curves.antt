@@ -9,16 +9,16 @@ use Rattle.lists.specs.Refusals.{Outcome, unless, finishing}
 use Rattle.lists.specs.Lookups.{factorAt, needing}
 use Rattle.lists.specs.Faults.{curveFaults}
 use Rattle.formulas.specs.HullWhite.{h, bOf, forwardOf, aOf, zcbOf, volatilityOf, slopeOf, thetaOf, shortRateVarianceOf}
-use Rattle.models.specs.Rules.{noFaults, optionRule, forwardRule, thetaRule}
+use Rattle.models.specs.Rules.{noFaults, optionRules, forwardRules, thetaRules}
 
 unfoldable pub bOutcome : Float → Float → Float → Outcome Float
-bOutcome alpha t T = unless (optionRule noFaults alpha t T zero zero) (finishing (bOf alpha t T))
+bOutcome alpha t T = unless (optionRules noFaults alpha t T zero zero) (finishing (bOf alpha t T))
 
 unfoldable pub volatilityOutcome : Float → Float → Float → Float → Outcome Float
-volatilityOutcome alpha sigma t T = unless (optionRule noFaults alpha t T sigma zero) (finishing (volatilityOf alpha sigma t T))
+volatilityOutcome alpha sigma t T = unless (optionRules noFaults alpha t T sigma zero) (finishing (volatilityOf alpha sigma t T))
 
 unfoldable pub shortRateVarianceOutcome : Float → Float → Float → Float → Outcome Float
-shortRateVarianceOutcome alpha t T sigma = unless (optionRule noFaults alpha t T sigma zero) (finishing (shortRateVarianceOf alpha t T sigma))
+shortRateVarianceOutcome alpha t T sigma = unless (optionRules noFaults alpha t T sigma zero) (finishing (shortRateVarianceOf alpha t T sigma))
 
 -- A(t, T) wants the factors at t, T and t + h
 unfoldable pub aPriced : Float → List Float → List Float → Float → Float → Float → Outcome Float
@@ -29,7 +29,7 @@ aPriced alpha ts fs t T sigma =
     finishing (aOf alpha t sigma (bOf alpha t T) (forwardOf pt pPlus) pt pT))))
 
 unfoldable pub aOutcome : Float → List Float → List Float → Float → Float → Float → Outcome Float
-aOutcome alpha ts fs t T sigma = unless (optionRule (curveFaults ts fs) alpha t T sigma zero) (aPriced alpha ts fs t T sigma)
+aOutcome alpha ts fs t T sigma = unless (optionRules (curveFaults ts fs) alpha t T sigma zero) (aPriced alpha ts fs t T sigma)
 
 -- the price at t of a bond that ends at T, at the short rate r
 unfoldable pub zcbPriced : Float → List Float → List Float → Float → Float → Float → Float → Outcome Float
@@ -40,7 +40,7 @@ zcbPriced alpha ts fs r t T sigma =
     finishing (zcbOf (aOf alpha t sigma (bOf alpha t T) (forwardOf pt pPlus) pt pT) (bOf alpha t T) r))))
 
 unfoldable pub zcbOutcome : Float → List Float → List Float → Float → Float → Float → Float → Outcome Float
-zcbOutcome alpha ts fs r t T sigma = unless (optionRule (curveFaults ts fs) alpha t T sigma r) (zcbPriced alpha ts fs r t T sigma)
+zcbOutcome alpha ts fs r t T sigma = unless (optionRules (curveFaults ts fs) alpha t T sigma r) (zcbPriced alpha ts fs r t T sigma)
 
 -- the forward rate at t wants the factors at t and t + h
 unfoldable pub forwardPriced : List Float → List Float → Float → Outcome Float
@@ -50,7 +50,7 @@ forwardPriced ts fs t =
     finishing (forwardOf p pPlus)))
 
 unfoldable pub forwardOutcome : List Float → List Float → Float → Outcome Float
-forwardOutcome ts fs t = unless (forwardRule (curveFaults ts fs) t) (forwardPriced ts fs t)
+forwardOutcome ts fs t = unless (forwardRules (curveFaults ts fs) t) (forwardPriced ts fs t)
 
 -- theta: where t is above h the forward's slope is taken back to t - h, else ahead to t + 2 × h, that sum fused
 unfoldable pub thetaFrom : Float → List Float → List Float → Float → Float → Float → Float → Outcome Float
@@ -67,4 +67,4 @@ thetaPriced alpha ts fs t sigma =
     thetaFrom alpha ts fs t sigma p pPlus))
 
 unfoldable pub thetaOutcome : Float → List Float → List Float → Float → Float → Outcome Float
-thetaOutcome alpha ts fs t sigma = unless (thetaRule (curveFaults ts fs) alpha t sigma) (thetaPriced alpha ts fs t sigma)
+thetaOutcome alpha ts fs t sigma = unless (thetaRules (curveFaults ts fs) alpha t sigma) (thetaPriced alpha ts fs t sigma)

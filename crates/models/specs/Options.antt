@@ -8,7 +8,7 @@ use Rattle.lists.specs.Faults.{curveFaults}
 use Rattle.formulas.specs.HullWhite.{volatilityOf, bondPutOf, bondCallOf, optionletStrikeOf, optionletOf}
 use Rattle.models.specs.declared.options.BondOption.{BondOption}
 use Rattle.models.specs.declared.options.BondOption.the-variants.{Put, Call}
-use Rattle.models.specs.Rules.{optionRule}
+use Rattle.models.specs.Rules.{optionRules}
 
 abbrev pub bondOptionOf : BondOption → Float → Float → Float → Float → Float
 bondOptionOf Put sigmaP strike pt pT = bondPutOf sigmaP strike pt pT
@@ -23,7 +23,7 @@ bondOptionPriced option alpha ts fs t T strike sigma =
 
 -- kinds 3 and 4: option time, bond time, strike, sigma
 unfoldable pub bondOptionOutcome : BondOption → Float → List Float → List Float → Float → Float → Float → Float → Outcome Float
-bondOptionOutcome option alpha ts fs t T strike sigma = unless (optionRule (curveFaults ts fs) alpha t T sigma strike) (bondOptionPriced option alpha ts fs t T strike sigma)
+bondOptionOutcome option alpha ts fs t T strike sigma = unless (optionRules (curveFaults ts fs) alpha t T sigma strike) (bondOptionPriced option alpha ts fs t T strike sigma)
 
 -- a caplet from a bond put, a floorlet from a bond call
 unfoldable pub optionletPriced : BondOption → Float → List Float → List Float → Float → Float → Float → Float → Outcome Float
@@ -34,4 +34,4 @@ optionletPriced option alpha ts fs strike t S sigma =
 
 -- kinds 1 and 2: strike, start, end, sigma
 unfoldable pub optionletOutcome : BondOption → Float → List Float → List Float → Float → Float → Float → Float → Outcome Float
-optionletOutcome option alpha ts fs strike t S sigma = unless (optionRule (curveFaults ts fs) alpha t S sigma strike) (optionletPriced option alpha ts fs strike t S sigma)
+optionletOutcome option alpha ts fs strike t S sigma = unless (optionRules (curveFaults ts fs) alpha t S sigma strike) (optionletPriced option alpha ts fs strike t S sigma)

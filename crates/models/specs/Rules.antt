@@ -1,96 +1,84 @@
--- Document 01's rules 1 to 7 for each sort of call, a line a rule, in its order: whether the rule applies to what the call uses. `firstRule` takes the first that does.
+-- Document 01's rules 1 to 7 for each sort of call, a line a rule, in its order: whether the rule applies to what the call uses. A rule that the call cannot break has no line. `firstOf` takes the first that applies.
 use mathlib.Core.Bool.{Bool, false, not, _&&_, _||_}
-use Prim.Native.Nat.{ℕ}
+use mathlib.Core.List.{List, [], _∷_}
 use lib.Ieee.{Float, lt, le}
 use lib.Ieee.Scale.{finite}
 use Rattle.ieee.specs.Numbers.{zero}
 use Rattle.lists.specs.declared.curves.Faults.{Faults}
-use Rattle.lists.specs.Refusals.{firstRule}
+use Rattle.lists.specs.declared.refusals.Answer.{Answer}
+use Rattle.lists.specs.declared.refusals.Refusal.the-variants as R
+use Rattle.lists.specs.Refusals.{Rule, rule, firstOf}
 
 -- a list that the call does not use breaks no rule
 abbrev pub noFaults : Faults
 noFaults = record { size = false; «not_finite» = false; order = false; domain = false }
 
 -- Kinds 1 to 4, and B, A, zcb_price, zcb_price_volatility, short_rate_variance: an option time t and a bond or end time T. `other` is a further number that the call uses, 0 where there is none.
-unfoldable pub optionRule : Faults → Float → Float → Float → Float → Float → ℕ
-optionRule curve alpha t T sigma other =
-    firstRule
-    (curve .size)
-    (curve .«not_finite» || not (finite alpha && finite t && finite T && finite sigma && finite other))
-    (le alpha zero)
-    (curve .order)
-    (lt t zero || le T t)
-    (lt sigma zero || curve .domain)
-    false
+abbrev pub optionRules : Faults → Float → Float → Float → Float → Float → List Rule
+optionRules curve alpha t T sigma other =
+    rule R.Size (curve .size)
+    ∷ rule R.NotFinite (curve .«not_finite» || not (finite alpha && finite t && finite T && finite sigma && finite other))
+    ∷ rule R.MeanReversion (le alpha zero)
+    ∷ rule R.Order (curve .order)
+    ∷ rule R.Times (lt t zero || le T t)
+    ∷ rule R.Domain (lt sigma zero || curve .domain)
+    ∷ []
 
 -- theta: an option time alone
-unfoldable pub thetaRule : Faults → Float → Float → Float → ℕ
-thetaRule curve alpha t sigma =
-    firstRule
-    (curve .size)
-    (curve .«not_finite» || not (finite alpha && finite t && finite sigma))
-    (le alpha zero)
-    (curve .order)
-    (lt t zero)
-    (lt sigma zero || curve .domain)
-    false
+abbrev pub thetaRules : Faults → Float → Float → Float → List Rule
+thetaRules curve alpha t sigma =
+    rule R.Size (curve .size)
+    ∷ rule R.NotFinite (curve .«not_finite» || not (finite alpha && finite t && finite sigma))
+    ∷ rule R.MeanReversion (le alpha zero)
+    ∷ rule R.Order (curve .order)
+    ∷ rule R.Times (lt t zero)
+    ∷ rule R.Domain (lt sigma zero || curve .domain)
+    ∷ []
 
 -- the forward rate: the curve and an option time
-unfoldable pub forwardRule : Faults → Float → ℕ
-forwardRule curve t =
-    firstRule
-    (curve .size)
-    (curve .«not_finite» || not (finite t))
-    false
-    (curve .order)
-    (lt t zero)
-    (curve .domain)
-    false
+abbrev pub forwardRules : Faults → Float → List Rule
+forwardRules curve t =
+    rule R.Size (curve .size)
+    ∷ rule R.NotFinite (curve .«not_finite» || not (finite t))
+    ∷ rule R.Order (curve .order)
+    ∷ rule R.Times (lt t zero)
+    ∷ rule R.Domain (curve .domain)
+    ∷ []
 
 -- d1_d2, Black and Bachelier: tau is a fit's option time, which is above 0; a Black strike is above 0, a normal one need not be
-unfoldable pub quoteRule : Bool → Float → Float → Float → Float → ℕ
-quoteRule black fwd strike vol tau =
-    firstRule
-    false
-    (not (finite fwd && finite strike && finite vol && finite tau))
-    false
-    false
-    (le tau zero)
-    (le vol zero || (black && le strike zero))
-    false
+abbrev pub quoteRules : Bool → Float → Float → Float → Float → List Rule
+quoteRules black fwd strike vol tau =
+    rule R.NotFinite (not (finite fwd && finite strike && finite vol && finite tau))
+    ∷ rule R.Times (le tau zero)
+    ∷ rule R.Domain (le vol zero || (black && le strike zero))
+    ∷ []
 
 -- the annuity: the curve and the coupons' payment times and accruals
-unfoldable pub annuityRule : Faults → Faults → ℕ
-annuityRule curve coupons =
-    firstRule
-    (curve .size || coupons .size)
-    (curve .«not_finite» || coupons .«not_finite»)
-    false
-    (curve .order)
-    false
-    (curve .domain)
-    false
+abbrev pub annuityRules : Faults → Faults → List Rule
+annuityRules curve coupons =
+    rule R.Size (curve .size || coupons .size)
+    ∷ rule R.NotFinite (curve .«not_finite» || coupons .«not_finite»)
+    ∷ rule R.Order (curve .order)
+    ∷ rule R.Domain (curve .domain)
+    ∷ []
 
 -- the piecewise variance alone: any finite alpha, and no pillars too
-unfoldable pub varianceRule : Faults → Float → Float → Float → ℕ
-varianceRule pillars alpha start end =
-    firstRule
-    (pillars .size)
-    (pillars .«not_finite» || not (finite alpha && finite start && finite end))
-    false
-    (pillars .order)
-    (lt start zero || le end start)
-    (pillars .domain)
-    false
+abbrev pub varianceRules : Faults → Float → Float → Float → List Rule
+varianceRules pillars alpha start end =
+    rule R.Size (pillars .size)
+    ∷ rule R.NotFinite (pillars .«not_finite» || not (finite alpha && finite start && finite end))
+    ∷ rule R.Order (pillars .order)
+    ∷ rule R.Times (lt start zero || le end start)
+    ∷ rule R.Domain (pillars .domain)
+    ∷ []
 
 -- the volatility at a time: rule 7 wants a pillar
-unfoldable pub volatilityRule : Faults → Bool → Float → ℕ
-volatilityRule pillars empty t =
-    firstRule
-    (pillars .size)
-    (pillars .«not_finite» || not (finite t))
-    false
-    (pillars .order)
-    (lt t zero)
-    (pillars .domain)
-    empty
+abbrev pub volatilityRules : Faults → Bool → Float → List Rule
+volatilityRules pillars empty t =
+    rule R.Size (pillars .size)
+    ∷ rule R.NotFinite (pillars .«not_finite» || not (finite t))
+    ∷ rule R.Order (pillars .order)
+    ∷ rule R.Times (lt t zero)
+    ∷ rule R.Domain (pillars .domain)
+    ∷ rule R.Empty empty
+    ∷ []

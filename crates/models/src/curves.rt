@@ -6,7 +6,7 @@ ghost use Rattle.lists.specs.Checks.{inOrder};
 ghost use Rattle.lists.specs.Refusals.{outcomeOf};
 ghost use Rattle.models.specs.Curves.{bOutcome, volatilityOutcome, shortRateVarianceOutcome, aPriced, aOutcome, zcbPriced, zcbOutcome, forwardPriced, forwardOutcome, thetaPriced, thetaFrom, thetaOutcome};
 use super::rules;
-use lists::Checked;
+use lists::Answer;
 use lists::Found;
 use lists::Price;
 use lists::Refusal;
@@ -14,30 +14,30 @@ use lists::Refusal;
 pub fn B(alpha: f64, t: f64, bond: f64) -> Price
     ensures { λ r. ⌜ outcomeOf r ≡ bOutcome alpha t bond ⌝ }
 {
-    let checked = rules::option_rule(rules::no_faults(), alpha, t, bond, 0.0, 0.0);
-    match checked {
-        Checked::Refused(refusal) => Price::Refused(refusal),
-        Checked::Passed => lists::served(formulas::b_of(alpha, t, bond)),
+    let answer = rules::option_rules(rules::no_faults(), alpha, t, bond, 0.0, 0.0);
+    match answer {
+        Answer::Refused(refusal) => Price::Refused(refusal),
+        Answer::Served => lists::served(formulas::b_of(alpha, t, bond)),
     }
 }
 
 pub fn zcb_price_volatility(alpha: f64, sigma: f64, t: f64, bond: f64) -> Price
     ensures { λ r. ⌜ outcomeOf r ≡ volatilityOutcome alpha sigma t bond ⌝ }
 {
-    let checked = rules::option_rule(rules::no_faults(), alpha, t, bond, sigma, 0.0);
-    match checked {
-        Checked::Refused(refusal) => Price::Refused(refusal),
-        Checked::Passed => lists::served(formulas::volatility_of(alpha, sigma, t, bond)),
+    let answer = rules::option_rules(rules::no_faults(), alpha, t, bond, sigma, 0.0);
+    match answer {
+        Answer::Refused(refusal) => Price::Refused(refusal),
+        Answer::Served => lists::served(formulas::volatility_of(alpha, sigma, t, bond)),
     }
 }
 
 pub fn short_rate_variance(alpha: f64, t: f64, bond: f64, sigma: f64) -> Price
     ensures { λ r. ⌜ outcomeOf r ≡ shortRateVarianceOutcome alpha t bond sigma ⌝ }
 {
-    let checked = rules::option_rule(rules::no_faults(), alpha, t, bond, sigma, 0.0);
-    match checked {
-        Checked::Refused(refusal) => Price::Refused(refusal),
-        Checked::Passed => lists::served(formulas::short_rate_variance_of(alpha, t, bond, sigma)),
+    let answer = rules::option_rules(rules::no_faults(), alpha, t, bond, sigma, 0.0);
+    match answer {
+        Answer::Refused(refusal) => Price::Refused(refusal),
+        Answer::Served => lists::served(formulas::short_rate_variance_of(alpha, t, bond, sigma)),
     }
 }
 
@@ -45,10 +45,10 @@ pub fn A(alpha: f64, times: &[f64], factors: &[f64], t: f64, bond: f64, sigma: f
     ensures { λ r. ⌜ outcomeOf r ≡ aOutcome alpha (now (times .entry)) (now (factors .entry)) t bond sigma ⌝ }
 {
     let curve = lists::curve_faults(times, factors);
-    let checked = rules::option_rule(curve, alpha, t, bond, sigma, 0.0);
-    match checked {
-        Checked::Refused(refusal) => Price::Refused(refusal),
-        Checked::Passed => a_priced(alpha, times, factors, t, bond, sigma),
+    let answer = rules::option_rules(curve, alpha, t, bond, sigma, 0.0);
+    match answer {
+        Answer::Refused(refusal) => Price::Refused(refusal),
+        Answer::Served => a_priced(alpha, times, factors, t, bond, sigma),
     }
 }
 
@@ -56,13 +56,13 @@ fn a_priced(alpha: f64, times: &[f64], factors: &[f64], t: f64, bond: f64, sigma
     requires { ⌜ inOrder true (now times) ≡ true ⌝ }
     ensures { λ r. ⌜ outcomeOf r ≡ aPriced alpha (now (times .entry)) (now (factors .entry)) t bond sigma ⌝ }
 {
-    let Found::At(p_t) = lists::factor_sorted(times, factors, t) else {
+    let Found::At(p_t) = lists::factor(times, factors, t) else {
         return Price::Refused(Refusal::OffCurve);
     };
-    let Found::At(p_bond) = lists::factor_sorted(times, factors, bond) else {
+    let Found::At(p_bond) = lists::factor(times, factors, bond) else {
         return Price::Refused(Refusal::OffCurve);
     };
-    let Found::At(p_plus) = lists::factor_sorted(times, factors, t + formulas::day()) else {
+    let Found::At(p_plus) = lists::factor(times, factors, t + formulas::day()) else {
         return Price::Refused(Refusal::OffCurve);
     };
     let b = formulas::b_of(alpha, t, bond);
@@ -82,10 +82,10 @@ pub fn zcb_price(
     ensures { λ r. ⌜ outcomeOf r ≡ zcbOutcome alpha (now (times .entry)) (now (factors .entry)) rate t bond sigma ⌝ }
 {
     let curve = lists::curve_faults(times, factors);
-    let checked = rules::option_rule(curve, alpha, t, bond, sigma, rate);
-    match checked {
-        Checked::Refused(refusal) => Price::Refused(refusal),
-        Checked::Passed => zcb_priced(alpha, times, factors, rate, t, bond, sigma),
+    let answer = rules::option_rules(curve, alpha, t, bond, sigma, rate);
+    match answer {
+        Answer::Refused(refusal) => Price::Refused(refusal),
+        Answer::Served => zcb_priced(alpha, times, factors, rate, t, bond, sigma),
     }
 }
 
@@ -101,13 +101,13 @@ fn zcb_priced(
     requires { ⌜ inOrder true (now times) ≡ true ⌝ }
     ensures { λ r. ⌜ outcomeOf r ≡ zcbPriced alpha (now (times .entry)) (now (factors .entry)) rate t bond sigma ⌝ }
 {
-    let Found::At(p_t) = lists::factor_sorted(times, factors, t) else {
+    let Found::At(p_t) = lists::factor(times, factors, t) else {
         return Price::Refused(Refusal::OffCurve);
     };
-    let Found::At(p_bond) = lists::factor_sorted(times, factors, bond) else {
+    let Found::At(p_bond) = lists::factor(times, factors, bond) else {
         return Price::Refused(Refusal::OffCurve);
     };
-    let Found::At(p_plus) = lists::factor_sorted(times, factors, t + formulas::day()) else {
+    let Found::At(p_plus) = lists::factor(times, factors, t + formulas::day()) else {
         return Price::Refused(Refusal::OffCurve);
     };
     let b = formulas::b_of(alpha, t, bond);
@@ -120,10 +120,10 @@ pub fn forward_rate(times: &[f64], factors: &[f64], t: f64) -> Price
     ensures { λ r. ⌜ outcomeOf r ≡ forwardOutcome (now (times .entry)) (now (factors .entry)) t ⌝ }
 {
     let curve = lists::curve_faults(times, factors);
-    let checked = rules::forward_rule(curve, t);
-    match checked {
-        Checked::Refused(refusal) => Price::Refused(refusal),
-        Checked::Passed => forward_priced(times, factors, t),
+    let answer = rules::forward_rules(curve, t);
+    match answer {
+        Answer::Refused(refusal) => Price::Refused(refusal),
+        Answer::Served => forward_priced(times, factors, t),
     }
 }
 
@@ -131,10 +131,10 @@ fn forward_priced(times: &[f64], factors: &[f64], t: f64) -> Price
     requires { ⌜ inOrder true (now times) ≡ true ⌝ }
     ensures { λ r. ⌜ outcomeOf r ≡ forwardPriced (now (times .entry)) (now (factors .entry)) t ⌝ }
 {
-    let Found::At(p) = lists::factor_sorted(times, factors, t) else {
+    let Found::At(p) = lists::factor(times, factors, t) else {
         return Price::Refused(Refusal::OffCurve);
     };
-    let Found::At(p_plus) = lists::factor_sorted(times, factors, t + formulas::day()) else {
+    let Found::At(p_plus) = lists::factor(times, factors, t + formulas::day()) else {
         return Price::Refused(Refusal::OffCurve);
     };
     lists::served(formulas::forward_of(p, p_plus))
@@ -144,10 +144,10 @@ pub fn theta(alpha: f64, times: &[f64], factors: &[f64], t: f64, sigma: f64) -> 
     ensures { λ r. ⌜ outcomeOf r ≡ thetaOutcome alpha (now (times .entry)) (now (factors .entry)) t sigma ⌝ }
 {
     let curve = lists::curve_faults(times, factors);
-    let checked = rules::theta_rule(curve, alpha, t, sigma);
-    match checked {
-        Checked::Refused(refusal) => Price::Refused(refusal),
-        Checked::Passed => theta_priced(alpha, times, factors, t, sigma),
+    let answer = rules::theta_rules(curve, alpha, t, sigma);
+    match answer {
+        Answer::Refused(refusal) => Price::Refused(refusal),
+        Answer::Served => theta_priced(alpha, times, factors, t, sigma),
     }
 }
 
@@ -155,10 +155,10 @@ fn theta_priced(alpha: f64, times: &[f64], factors: &[f64], t: f64, sigma: f64) 
     requires { ⌜ inOrder true (now times) ≡ true ⌝ }
     ensures { λ r. ⌜ outcomeOf r ≡ thetaPriced alpha (now (times .entry)) (now (factors .entry)) t sigma ⌝ }
 {
-    let Found::At(p) = lists::factor_sorted(times, factors, t) else {
+    let Found::At(p) = lists::factor(times, factors, t) else {
         return Price::Refused(Refusal::OffCurve);
     };
-    let Found::At(p_plus) = lists::factor_sorted(times, factors, t + formulas::day()) else {
+    let Found::At(p_plus) = lists::factor(times, factors, t + formulas::day()) else {
         return Price::Refused(Refusal::OffCurve);
     };
     theta_from(alpha, times, factors, t, sigma, p, p_plus)
@@ -180,13 +180,13 @@ fn theta_from(
     let h = formulas::day();
     let forward = formulas::forward_of(p, p_plus);
     if t > h {
-        let Found::At(p_minus) = lists::factor_sorted(times, factors, t - h) else {
+        let Found::At(p_minus) = lists::factor(times, factors, t - h) else {
             return Price::Refused(Refusal::OffCurve);
         };
         let slope = formulas::forward_slope_of(forward, formulas::forward_of(p_minus, p));
         lists::served(formulas::theta_of(alpha, t, sigma, forward, slope))
     } else {
-        let Found::At(p_plus2) = lists::factor_sorted(times, factors, ieee::fused(2.0, h, t)) else {
+        let Found::At(p_plus2) = lists::factor(times, factors, ieee::fused(2.0, h, t)) else {
             return Price::Refused(Refusal::OffCurve);
         };
         let slope = formulas::forward_slope_of(formulas::forward_of(p_plus, p_plus2), forward);

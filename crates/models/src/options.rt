@@ -8,7 +8,7 @@ ghost use Rattle.lists.specs.Faults.{curveFaults};
 ghost use Rattle.models.specs.Options.{bondOptionOf, bondOptionPriced, optionletPriced, bondOptionOutcome, optionletOutcome};
 ghost use Rattle.models.specs.declared.options.BondOption.the-variants as Option;
 use super::rules;
-use lists::Checked;
+use lists::Answer;
 use lists::Faults;
 use lists::Found;
 use lists::Price;
@@ -139,10 +139,10 @@ pub fn bond_option_on(
     requires { ⌜ curve ≡ curveFaults (now times) (now factors) ⌝ }
     ensures { λ r. ⌜ outcomeOf r ≡ bondOptionOutcome option alpha (now (times .entry)) (now (factors .entry)) t bond strike sigma ⌝ }
 {
-    let checked = rules::option_rule(curve, alpha, t, bond, sigma, strike);
-    match checked {
-        Checked::Refused(refusal) => Price::Refused(refusal),
-        Checked::Passed => {
+    let answer = rules::option_rules(curve, alpha, t, bond, sigma, strike);
+    match answer {
+        Answer::Refused(refusal) => Price::Refused(refusal),
+        Answer::Served => {
             bond_option_priced(option, alpha, times, factors, t, bond, strike, sigma)
         }
     }
@@ -162,12 +162,10 @@ pub fn optionlet_on(
     requires { ⌜ curve ≡ curveFaults (now times) (now factors) ⌝ }
     ensures { λ r. ⌜ outcomeOf r ≡ optionletOutcome option alpha (now (times .entry)) (now (factors .entry)) strike t end sigma ⌝ }
 {
-    let checked = rules::option_rule(curve, alpha, t, end, sigma, strike);
-    match checked {
-        Checked::Refused(refusal) => Price::Refused(refusal),
-        Checked::Passed => {
-            optionlet_priced(option, alpha, times, factors, strike, t, end, sigma)
-        }
+    let answer = rules::option_rules(curve, alpha, t, end, sigma, strike);
+    match answer {
+        Answer::Refused(refusal) => Price::Refused(refusal),
+        Answer::Served => { optionlet_priced(option, alpha, times, factors, strike, t, end, sigma) }
     }
 }
 
@@ -184,10 +182,10 @@ fn bond_option_priced(
     requires { ⌜ inOrder true (now times) ≡ true ⌝ }
     ensures { λ r. ⌜ outcomeOf r ≡ bondOptionPriced option alpha (now (times .entry)) (now (factors .entry)) t bond strike sigma ⌝ }
 {
-    let Found::At(p_t) = lists::factor_sorted(times, factors, t) else {
+    let Found::At(p_t) = lists::factor(times, factors, t) else {
         return Price::Refused(Refusal::OffCurve);
     };
-    let Found::At(p_bond) = lists::factor_sorted(times, factors, bond) else {
+    let Found::At(p_bond) = lists::factor(times, factors, bond) else {
         return Price::Refused(Refusal::OffCurve);
     };
     let sigma_p = formulas::volatility_of(alpha, sigma, t, bond);
@@ -207,10 +205,10 @@ fn optionlet_priced(
     requires { ⌜ inOrder true (now times) ≡ true ⌝ }
     ensures { λ r. ⌜ outcomeOf r ≡ optionletPriced option alpha (now (times .entry)) (now (factors .entry)) strike t end sigma ⌝ }
 {
-    let Found::At(p_t) = lists::factor_sorted(times, factors, t) else {
+    let Found::At(p_t) = lists::factor(times, factors, t) else {
         return Price::Refused(Refusal::OffCurve);
     };
-    let Found::At(p_end) = lists::factor_sorted(times, factors, end) else {
+    let Found::At(p_end) = lists::factor(times, factors, end) else {
         return Price::Refused(Refusal::OffCurve);
     };
     let sigma_p = formulas::volatility_of(alpha, sigma, t, end);

@@ -6,7 +6,7 @@ ghost use Rattle.lists.specs.Checks.{inOrder};
 ghost use Rattle.lists.specs.Refusals.{outcomeOf};
 ghost use Rattle.models.specs.Quotes.{pairOutcome, d1d2Worked, d1d2Outcome, blackCallOutcome, blackPutOutcome, bachelierCallOutcome, annuityPriced, annuityOutcome};
 use super::rules;
-use lists::Checked;
+use lists::Answer;
 use lists::Found;
 use lists::Price;
 use lists::Refusal;
@@ -20,10 +20,10 @@ pub enum Pair {
 pub fn d1_d2(fwd: f64, strike: f64, vol: f64, tau: f64) -> Pair
     ensures { λ r. ⌜ pairOutcome r ≡ d1d2Outcome fwd strike vol tau ⌝ }
 {
-    let checked = rules::quote_rule(true, fwd, strike, vol, tau);
-    match checked {
-        Checked::Refused(refusal) => Pair::Refused(refusal),
-        Checked::Passed => d1_d2_worked(fwd, strike, vol, tau),
+    let answer = rules::quote_rules(true, fwd, strike, vol, tau);
+    match answer {
+        Answer::Refused(refusal) => Pair::Refused(refusal),
+        Answer::Served => d1_d2_worked(fwd, strike, vol, tau),
     }
 }
 
@@ -42,30 +42,30 @@ fn d1_d2_worked(fwd: f64, strike: f64, vol: f64, tau: f64) -> Pair
 pub fn black_call(fwd: f64, strike: f64, vol: f64, tau: f64) -> Price
     ensures { λ r. ⌜ outcomeOf r ≡ blackCallOutcome fwd strike vol tau ⌝ }
 {
-    let checked = rules::quote_rule(true, fwd, strike, vol, tau);
-    match checked {
-        Checked::Refused(refusal) => Price::Refused(refusal),
-        Checked::Passed => lists::served(formulas::black_call_of(fwd, strike, vol, tau)),
+    let answer = rules::quote_rules(true, fwd, strike, vol, tau);
+    match answer {
+        Answer::Refused(refusal) => Price::Refused(refusal),
+        Answer::Served => lists::served(formulas::black_call_of(fwd, strike, vol, tau)),
     }
 }
 
 pub fn black_put(fwd: f64, strike: f64, vol: f64, tau: f64) -> Price
     ensures { λ r. ⌜ outcomeOf r ≡ blackPutOutcome fwd strike vol tau ⌝ }
 {
-    let checked = rules::quote_rule(true, fwd, strike, vol, tau);
-    match checked {
-        Checked::Refused(refusal) => Price::Refused(refusal),
-        Checked::Passed => lists::served(formulas::black_put_of(fwd, strike, vol, tau)),
+    let answer = rules::quote_rules(true, fwd, strike, vol, tau);
+    match answer {
+        Answer::Refused(refusal) => Price::Refused(refusal),
+        Answer::Served => lists::served(formulas::black_put_of(fwd, strike, vol, tau)),
     }
 }
 
 pub fn bachelier_call(fwd: f64, strike: f64, vol: f64, tau: f64) -> Price
     ensures { λ r. ⌜ outcomeOf r ≡ bachelierCallOutcome fwd strike vol tau ⌝ }
 {
-    let checked = rules::quote_rule(false, fwd, strike, vol, tau);
-    match checked {
-        Checked::Refused(refusal) => Price::Refused(refusal),
-        Checked::Passed => lists::served(formulas::bachelier_call_of(fwd, strike, vol, tau)),
+    let answer = rules::quote_rules(false, fwd, strike, vol, tau);
+    match answer {
+        Answer::Refused(refusal) => Price::Refused(refusal),
+        Answer::Served => lists::served(formulas::bachelier_call_of(fwd, strike, vol, tau)),
     }
 }
 
@@ -75,10 +75,10 @@ pub fn annuity(times: &[f64], factors: &[f64], payments: &[f64], accruals: &[f64
 {
     let curve = lists::curve_faults(times, factors);
     let coupons = lists::coupon_faults(payments, accruals);
-    let checked = rules::annuity_rule(curve, coupons);
-    match checked {
-        Checked::Refused(refusal) => Price::Refused(refusal),
-        Checked::Passed => annuity_priced(times, factors, payments, accruals),
+    let answer = rules::annuity_rules(curve, coupons);
+    match answer {
+        Answer::Refused(refusal) => Price::Refused(refusal),
+        Answer::Served => annuity_priced(times, factors, payments, accruals),
     }
 }
 
@@ -93,7 +93,7 @@ fn annuity_priced(times: &[f64], factors: &[f64], payments: &[f64], accruals: &[
         if accruals.len() <= i {
             return lists::served(sum);
         }
-        let Found::At(p) = lists::factor_sorted(times, factors, payments[i]) else {
+        let Found::At(p) = lists::factor(times, factors, payments[i]) else {
             return Price::Refused(Refusal::OffCurve);
         };
         sum = formulas::annuity_step(sum, accruals[i], p);

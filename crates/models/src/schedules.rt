@@ -1,10 +1,11 @@
 // parameters.rs: what a schedule of pillars gives: the volatility at a time, the pillars up to it, and
 // the variance over an interval.
 ghost use mathlib.Core.Path.{_≡_};
-ghost use Rattle.lists.specs.Refusals.{outcomeOf};
-ghost use Rattle.models.specs.Schedules.{volatilityFound, volatilityOutcome, reachedOf, varianceOutcome};
+ghost use mathlib.Core.List.{[]};
+ghost use Rattle.lists.specs.Refusals.{outcomeOf, valueOr};
+ghost use Rattle.models.specs.Schedules.{volatilityFound, volatilityOutcome, reachedOutcome, varianceOutcome};
 use super::rules;
-use lists::Checked;
+use lists::Answer;
 use lists::Found;
 use lists::Price;
 use lists::Refusal;
@@ -13,10 +14,10 @@ pub fn volatility(times: &[f64], sigmas: &[f64], t: f64) -> Price
     ensures { λ r. ⌜ outcomeOf r ≡ volatilityOutcome (now (times .entry)) (now (sigmas .entry)) t ⌝ }
 {
     let pillars = lists::pillar_faults(times, sigmas);
-    let checked = rules::volatility_rule(pillars, times.len() == 0, t);
-    match checked {
-        Checked::Refused(refusal) => Price::Refused(refusal),
-        Checked::Passed => volatility_found(times, sigmas, t),
+    let answer = rules::volatility_rules(pillars, times.len() == 0, t);
+    match answer {
+        Answer::Refused(refusal) => Price::Refused(refusal),
+        Answer::Served => volatility_found(times, sigmas, t),
     }
 }
 
@@ -29,16 +30,16 @@ fn volatility_found(times: &[f64], sigmas: &[f64], t: f64) -> Price
     lists::served(sigma)
 }
 
-// The pillar times at or before t, as a part of the caller's own list; none where the volatility at t is
-// refused.
+// The pillar times at or before t, as a part of the caller's own list; none where the call is refused,
+// and its number is then that of `volatility` (docs/DECISIONS.md).
 pub fn pillars_reached<'a>(times: &'a [f64], sigmas: &[f64], t: f64) -> &'a [f64]
-    ensures { λ r. ⌜ now r ≡ reachedOf (now (times .entry)) (now (sigmas .entry)) t ⌝ }
+    ensures { λ r. ⌜ now r ≡ valueOr [] (reachedOutcome (now (times .entry)) (now (sigmas .entry)) t) ⌝ }
 {
     let pillars = lists::pillar_faults(times, sigmas);
-    let checked = rules::volatility_rule(pillars, times.len() == 0, t);
-    match checked {
-        Checked::Refused(_) => &times[..0],
-        Checked::Passed => lists::reached(times, t),
+    let answer = rules::volatility_rules(pillars, times.len() == 0, t);
+    match answer {
+        Answer::Refused(_) => &times[..0],
+        Answer::Served => lists::reached(times, t),
     }
 }
 
@@ -46,11 +47,9 @@ pub fn piecewise_variance(alpha: f64, times: &[f64], sigmas: &[f64], start: f64,
     ensures { λ r. ⌜ outcomeOf r ≡ varianceOutcome alpha (now (times .entry)) (now (sigmas .entry)) start end ⌝ }
 {
     let pillars = lists::pillar_faults(times, sigmas);
-    let checked = rules::variance_rule(pillars, alpha, start, end);
-    match checked {
-        Checked::Refused(refusal) => Price::Refused(refusal),
-        Checked::Passed => {
-            lists::served(formulas::variance_of(alpha, times, sigmas, start, end))
-        }
+    let answer = rules::variance_rules(pillars, alpha, start, end);
+    match answer {
+        Answer::Refused(refusal) => Price::Refused(refusal),
+        Answer::Served => { lists::served(formulas::variance_of(alpha, times, sigmas, start, end)) }
     }
 }

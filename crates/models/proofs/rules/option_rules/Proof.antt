@@ -1,0 +1,60 @@
+-- `models::option_rules` meets its contract: whether each rule applies is what specs/ says, line by line. Assumes nothing.
+use mathlib.Core.Path.{_∙_}
+use borrow.Author.Needs.{needs}
+use Rattle.lists.specs.Order.{inTurn, in-turn}
+use Rattle.models.proofs.rules.option_rules.Statement.{statement}
+use Rattle.models.proofs.rules.option_rules.Tie as tie
+
+is-finite-requires : tie.Need-is-finite-requires
+is-finite-requires c κs = search needs
+
+is-finite-requires-2 : tie.Need-is-finite-requires-2
+is-finite-requires-2 c κs = search needs
+
+is-finite-requires-3 : tie.Need-is-finite-requires-3
+is-finite-requires-3 c κs = search needs
+
+is-finite-requires-4 : tie.Need-is-finite-requires-4
+is-finite-requires-4 c κs = search needs
+
+is-finite-requires-5 : tie.Need-is-finite-requires-5
+is-finite-requires-5 c κs = search needs
+
+and-rule-requires : tie.Need-and-rule-requires
+and-rule-requires c κs = search needs
+
+and-rule-requires-2 : tie.Need-and-rule-requires-2
+and-rule-requires-2 c κs = search needs
+
+and-rule-requires-3 : tie.Need-and-rule-requires-3
+and-rule-requires-3 c κs = search needs
+
+and-rule-requires-4 : tie.Need-and-rule-requires-4
+and-rule-requires-4 c κs = search needs
+
+and-rule-requires-5 : tie.Need-and-rule-requires-5
+and-rule-requires-5 c κs = search needs
+
+and-rule-requires-6 : tie.Need-and-rule-requires-6
+and-rule-requires-6 c κs = search needs
+
+returns : tie.Need-returns
+unfolding inTurn
+returns c = cc ∙ in-turn _
+
+pub option-rules-spec : {M : Type 1} → statement M
+option-rules-spec =
+    tie.close
+    (tie.spec
+    is-finite-requires
+    is-finite-requires-2
+    is-finite-requires-3
+    is-finite-requires-4
+    is-finite-requires-5
+    and-rule-requires
+    and-rule-requires-2
+    and-rule-requires-3
+    and-rule-requires-4
+    and-rule-requires-5
+    and-rule-requires-6
+    returns)
