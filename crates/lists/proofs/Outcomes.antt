@@ -9,7 +9,7 @@ use Rattle.lists.specs.declared.lookups.Found.the-variants as F
 use Rattle.lists.specs.declared.refusals.Refusal.{Refusal}
 use Rattle.lists.specs.declared.refusals.Answer.{Answer}
 use Rattle.lists.specs.declared.refusals.Answer.the-variants as A
-use Rattle.lists.specs.Refusals.{Outcome, refused, after}
+use Rattle.lists.specs.Refusals.{Outcome, served, refused, after}
 use Rattle.lists.specs.Lookups.{Maybe, just, nothing, foundOf}
 
 -- ---- neither of two rules applies
@@ -30,3 +30,10 @@ turned-down answer rest e h = rw (← h, e) refl
 
 pub let-through : {B : Type 0} (answer : Answer) {a : Answer} (rest : Outcome B) → answer ≡ A.Served → answer ≡ a → after a rest ≡ rest
 let-through answer rest e h = rw (← h, e) refl
+
+-- ---- an outcome is served or refused, and not both
+pub not-both : {B : Type 0} {v : B} {q : Refusal} → refused q ≡ served v → ⊥
+not-both h = let z : _≡_ {A = ℕ} 0 1 = cc in omega arith
+
+pub served-is : {B : Type 0} {v w : B} → served v ≡ served w → v ≡ w
+served-is h = cc

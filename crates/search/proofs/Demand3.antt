@@ -17,7 +17,9 @@ use Rattle.search.specs.declared.ladder.Ladder.{Ladder}
 use Rattle.search.specs.declared.halving.Halving.{Halving}
 use Rattle.search.specs.Halving.{raised, lowered, Halvings, none, one-more, Start}
 use Rattle.search.specs.Rate.{rateAt, good, rungOf, orRung, ladderOf, movedTo, thenHalve, halvingsOf, finish, joined, criticalOf}
-use Rattle.search.specs.Values.{numberOf, valuesOf}
+use Rattle.lists.specs.Refusals.{served}
+use Rattle.lists.proofs.Outcomes.{not-both, served-is}
+use Rattle.search.specs.Values.{Values, criticalOutcome}
 use Rattle.search.specs.Facts.{FirstGood, Located}
 use Rattle.search.proofs.Every.{every, every-at}
 use Rattle.search.proofs.HalvingLaw.{halving-law}
@@ -235,13 +237,13 @@ start-of i j h k =
 -- ---- the facts
 module _ (sum : Float → Float) where
   abbrev Accepted : Critical → Type 0
-  Accepted r = numberOf r ≡ 0 → Located sum (valuesOf r)
+  Accepted r = (v : Values) → criticalOutcome r ≡ served v → Located sum v
 
   located : (i j : ℕ) (r s r' s' : Float) → Rung sum true 61 i r s → Rung sum false 61 j r' s' → (o : Halving)
       → halvingsOf sum 200 (record { lower = r; upper = r'; «lower_sum» = s; «upper_sum» = s' }) ≡ o → Accepted (finish i j o)
   unfolding finish
-  located i j r s r' s' a b Halving.Stopped h z = absurd (omega arith)
-  located i j r s r' s' a b (Halving.Next x) h z =
+  located i j r s r' s' a b Halving.Stopped h v z = absurd (not-both z)
+  located i j r s r' s' a b (Halving.Next x) h v z =
       let first : Bracket = record { lower = r; upper = r'; «lower_sum» = s; «upper_sum» = s' } in
       let low : FirstGood sum true i = first-good sum true i r s a in
       let high : FirstGood sum false j = first-good sum false j r' s' b in
@@ -253,7 +255,7 @@ module _ (sum : Float → Float) where
       subst (λ (z : Float). Halvings 200 z (rateAt false j) (x .lower) (x .upper)) (a .rate-is) (subst (λ (z : Float). Halvings 200 r z (x .lower) (x .upper)) (b .rate-is) (o .halved)) in
       let start = start-of i j (low .within) (high .within) in
       let t = halving-law .between start halved in
-      record {
+      subst (Located sum) (served-is z) (record {
         first-low = low;
         first-high = high;
         halved = halved;
@@ -270,19 +272,19 @@ module _ (sum : Float → Float) where
         rate-is = refl;
         above = t .mid-above;
         below = t .mid-below;
-      }
+      })
 
   accepted-joined : (l h : Ladder) → ladderOf sum true 61 ≡ l → ladderOf sum false 61 ≡ h → Accepted (joined sum l h)
   unfolding joined
-  accepted-joined (Ladder.At i r s) (Ladder.At j r' s') e g z =
-      located i j r s r' s' (rung-of sum true 61 i r s e) (rung-of sum false 61 j r' s' g) (halvingsOf sum 200 (record { lower = r; upper = r'; «lower_sum» = s; «upper_sum» = s' })) refl z
-  accepted-joined (Ladder.At i r s) Ladder.NotANumber e g z = absurd (omega arith)
-  accepted-joined (Ladder.At i r s) Ladder.Nothing e g z = absurd (omega arith)
-  accepted-joined Ladder.NotANumber h e g z = absurd (omega arith)
-  accepted-joined Ladder.Nothing (Ladder.At j r s) e g z = absurd (omega arith)
-  accepted-joined Ladder.Nothing Ladder.NotANumber e g z = absurd (omega arith)
-  accepted-joined Ladder.Nothing Ladder.Nothing e g z = absurd (omega arith)
+  accepted-joined (Ladder.At i r s) (Ladder.At j r' s') e g v z =
+      located i j r s r' s' (rung-of sum true 61 i r s e) (rung-of sum false 61 j r' s' g) (halvingsOf sum 200 (record { lower = r; upper = r'; «lower_sum» = s; «upper_sum» = s' })) refl v z
+  accepted-joined (Ladder.At i r s) Ladder.NotANumber e g v z = absurd (not-both z)
+  accepted-joined (Ladder.At i r s) Ladder.Nothing e g v z = absurd (not-both z)
+  accepted-joined Ladder.NotANumber h e g v z = absurd (not-both z)
+  accepted-joined Ladder.Nothing (Ladder.At j r s) e g v z = absurd (not-both z)
+  accepted-joined Ladder.Nothing Ladder.NotANumber e g v z = absurd (not-both z)
+  accepted-joined Ladder.Nothing Ladder.Nothing e g v z = absurd (not-both z)
 
   pub accepted : Accepted (criticalOf sum)
   unfolding criticalOf
-  accepted z = accepted-joined (ladderOf sum true 61) (ladderOf sum false 61) refl refl z
+  accepted v z = accepted-joined (ladderOf sum true 61) (ladderOf sum false 61) refl refl v z

@@ -14,8 +14,9 @@ use Rattle.search.specs.declared.Critical.{Critical}
 use Rattle.search.specs.declared.ladder.Ladder.{Ladder}
 use Rattle.search.specs.declared.halving.Halving.{Halving}
 use Rattle.search.specs.Rate.{rateAt, good, rungOf, orRung, ladderOf, movedTo, halveOf, thenHalve, halvingsOf, finish, joined, criticalOf}
-use Rattle.search.specs.Reached.{ratesFrom, ladderRates, upToGood, fromGood, midpoints, onceBoth, reached, someNan, someGood, hasGood, Outcome}
-use Rattle.search.specs.Values.{numberOf}
+use Rattle.search.specs.Reached.{ratesFrom, ladderRates, upToGood, fromGood, midpoints, onceBoth, reached, someNan, someGood, hasGood, Exactly}
+use Rattle.lists.specs.Refusals.{answerNumber, answerOf}
+use Rattle.search.specs.Values.{criticalOutcome}
 use Rattle.search.proofs.LadderSteps.{ladder-zero, ladder-suc, last-at, last-nan, ladder-stays}
 use Rattle.search.proofs.HalvingSteps.{mid, halvings-zero, halvings-suc}
 
@@ -225,22 +226,22 @@ module _ (sum : Float → Float) where
   no : (b : Bool) → b ≡ false → T (not b)
   no b e = subst (λ (x : Bool). T (not x)) (sym e) tt
 
-  outcome-of : (r : Critical) → Judged r → Outcome sum (numberOf r)
-  outcome-of (Critical.Found b i j rate) (n, g, k) = record {
-    not-a-number = (λ e. absurd (omega arith), λ h. yes-no (someNan sum (reached sum)) h n);
-    no-bracket = (λ e. absurd (omega arith), λ (h, w). ⊎-elim (λ a. no-yes (hasGood sum true) a g) (λ a. no-yes (hasGood sum false) a k) w);
+  exactly-of : (r : Critical) → Judged r → Exactly sum (answerOf (criticalOutcome r))
+  exactly-of (Critical.Found b i j rate) (n, g, k) = record {
+    not-a-number = (λ e. absurd (let z = ap answerNumber e in omega arith), λ h. yes-no (someNan sum (reached sum)) h n);
+    no-bracket = (λ e. absurd (let z = ap answerNumber e in omega arith), λ (h, w). ⊎-elim (λ a. no-yes (hasGood sum true) a g) (λ a. no-yes (hasGood sum false) a k) w);
     served = (λ e. (no (someNan sum (reached sum)) n, yes (hasGood sum true) g, yes (hasGood sum false) k), λ h. refl);
   }
-  outcome-of Critical.NotANumber n = record {
+  exactly-of Critical.NotANumber n = record {
     not-a-number = (λ e. yes (someNan sum (reached sum)) n, λ h. refl);
-    no-bracket = (λ e. absurd (omega arith), λ (h, w). no-yes (someNan sum (reached sum)) h n);
-    served = (λ e. absurd (omega arith), λ (h, a, b). no-yes (someNan sum (reached sum)) h n);
+    no-bracket = (λ e. absurd (let z = ap answerNumber e in omega arith), λ (h, w). no-yes (someNan sum (reached sum)) h n);
+    served = (λ e. absurd (let z = ap answerNumber e in omega arith), λ (h, a, b). no-yes (someNan sum (reached sum)) h n);
   }
-  outcome-of Critical.NoBracket (n, w) = record {
-    not-a-number = (λ e. absurd (omega arith), λ h. yes-no (someNan sum (reached sum)) h n);
+  exactly-of Critical.NoBracket (n, w) = record {
+    not-a-number = (λ e. absurd (let z = ap answerNumber e in omega arith), λ h. yes-no (someNan sum (reached sum)) h n);
     no-bracket = (λ e. (no (someNan sum (reached sum)) n, ⊎-elim (λ a. inl (no (hasGood sum true) a)) (λ a. inr (no (hasGood sum false) a)) w), λ h. refl);
-    served = (λ e. absurd (omega arith), λ (h, a, b). ⊎-elim (λ g. yes-no (hasGood sum true) a g) (λ g. yes-no (hasGood sum false) b g) w);
+    served = (λ e. absurd (let z = ap answerNumber e in omega arith), λ (h, a, b). ⊎-elim (λ g. yes-no (hasGood sum true) a g) (λ g. yes-no (hasGood sum false) b g) w);
   }
 
-  pub outcome : Outcome sum (numberOf (criticalOf sum))
-  outcome = outcome-of (criticalOf sum) judged
+  pub exactly : Exactly sum (answerOf (criticalOutcome (criticalOf sum)))
+  exactly = exactly-of (criticalOf sum) judged

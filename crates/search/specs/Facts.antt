@@ -13,8 +13,9 @@ use Rattle.search.specs.declared.Critical.{Critical}
 use Rattle.search.specs.Line.{Tight}
 use Rattle.search.specs.Halving.{Halvings}
 use Rattle.search.specs.Rate.{rateAt, good, criticalOf}
-use Rattle.search.specs.Values.{Values, numberOf, valuesOf}
-use Rattle.search.specs.Reached.{Outcome}
+use Rattle.lists.specs.Refusals.{served, answerOf}
+use Rattle.search.specs.Values.{Values, criticalOutcome}
+use Rattle.search.specs.Reached.{Exactly}
 
 -- "a rung number fixes the rate it names": i is the ladder's first good rung, with none before it good or NaN
 pub record FirstGood (sum : Float → Float) (below : Bool) (i : ℕ) : Type 0 where
@@ -48,9 +49,8 @@ pub record Located (sum : Float → Float) (v : Values) : Type 0 where
   pub above : T (le (v .bracket .lower) (v .rate))
   pub below : T (le (v .rate) (v .bracket .upper))
 
--- the answer r of a search: it is the one defined, it is a refusal exactly when it is to be one, and where it is accepted, which
--- "means answer 0", the facts hold of its values
-pub record Answer (sum : Float → Float) (r : Critical) : Type 0 where
+-- the answer r of a search: it is the one defined, it is a refusal exactly when it is to be one, and where it is served, the facts hold of its values
+pub record Searched (sum : Float → Float) (r : Critical) : Type 0 where
   pub is : r ≡ criticalOf sum
-  pub outcome : Outcome sum (numberOf r)
-  pub accepted : numberOf r ≡ 0 → Located sum (valuesOf r)
+  pub exactly : Exactly sum (answerOf (criticalOutcome r))
+  pub accepted : (v : Values) → criticalOutcome r ≡ served v → Located sum v

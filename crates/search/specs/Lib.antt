@@ -6,4 +6,3 @@ pub mod Rate
 pub mod Values
 pub mod Reached
 pub mod Facts
-pub mod Cases

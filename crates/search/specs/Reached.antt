@@ -9,6 +9,9 @@ use lib.Dec.{T}
 use lib.Ieee.{Float, isNan, lt}
 use Rattle.ieee.specs.Numbers.{one}
 use Rattle.elementary.specs.Simple.{midpointOf}
+use Rattle.lists.specs.declared.refusals.Answer.{Answer}
+use Rattle.lists.specs.declared.refusals.Answer.the-variants as A
+use Rattle.lists.specs.declared.refusals.Refusal.the-variants as R
 use Rattle.search.specs.Rate.{rateAt, good}
 
 -- n rungs of a ladder from rung i on; the whole ladder has 61 from rung 0 on
@@ -61,11 +64,15 @@ someGood sum below (r ∷ rs) = good below (sum r) || someGood sum below rs
 abbrev pub hasGood : (Float → Float) → Bool → Bool
 hasGood sum below = someGood sum below (ladderRates below)
 
--- When exactly each number is a search's answer. By these nothing else is refused, and nothing refused for any other reason.
-pub record Outcome (sum : Float → Float) (number : ℕ) : Type 0 where
+-- "no sum that it reaches is NaN and a ladder of 61 has no good rate"
+abbrev pub Unbracketed : (Float → Float) → Type 0
+Unbracketed sum = T (not (someNan sum (reached sum))) × (T (not (hasGood sum true)) ⊎ T (not (hasGood sum false)))
+
+-- When exactly a search has each answer. By these nothing else is refused, and nothing refused for any other reason.
+pub record Exactly (sum : Float → Float) (answer : Answer) : Type 0 where
   -- 9: "A critical-rate evaluation .. that is reached is NaN"
-  pub not-a-number : (number ≡ 9) ↔ T (someNan sum (reached sum))
+  pub not-a-number : (answer ≡ A.Refused R.NanReached) ↔ T (someNan sum (reached sum))
   -- 10: no sum reached is NaN, and at least one ladder has no good rate
-  pub no-bracket : (number ≡ 10) ↔ (T (not (someNan sum (reached sum))) × (T (not (hasGood sum true)) ⊎ T (not (hasGood sum false))))
+  pub no-bracket : (answer ≡ A.Refused R.NoBracket) ↔ Unbracketed sum
   -- 0, served: no sum reached is NaN, and both ladders have a good rate
-  pub served : (number ≡ 0) ↔ (T (not (someNan sum (reached sum))) × T (hasGood sum true) × T (hasGood sum false))
+  pub served : (answer ≡ A.Served) ↔ (T (not (someNan sum (reached sum))) × T (hasGood sum true) × T (hasGood sum false))

@@ -1,8 +1,9 @@
--- Document 01's number and values for each case of an answer: "Answer 0 is served. A refused call returns the first number below that
--- applies, with value +0, every other result field 0".
+-- Document 01's outcome for each case of a search's answer.
 use Prim.Native.Nat.{ℕ}
 use lib.Ieee.{Float}
 use Rattle.ieee.specs.Numbers.{zero}
+use Rattle.lists.specs.declared.refusals.Refusal.the-variants as R
+use Rattle.lists.specs.Refusals.{Outcome, served, refused}
 use Rattle.search.specs.declared.Bracket.{Bracket}
 use Rattle.search.specs.declared.Critical.{Critical}
 
@@ -13,16 +14,12 @@ pub record Values : Type 0 where
   pub low-rung : ℕ
   pub high-rung : ℕ
 
+-- beside a refusal's number: "every other result field 0"
+abbrev pub noValues : Values
+noValues = record { rate = zero; bracket = record { lower = zero; upper = zero; «lower_sum» = zero; «upper_sum» = zero }; low-rung = 0; high-rung = 0 }
+
 -- 9: "A critical-rate evaluation .. that is reached is NaN." 10: "One of the two ladders has no good rate, both having been run."
-abbrev pub numberOf : Critical → ℕ
-numberOf (Critical.Found b i j rate) = 0
-numberOf Critical.NotANumber = 9
-numberOf Critical.NoBracket = 10
-
-abbrev pub refused : Values
-refused = record { rate = zero; bracket = record { lower = zero; upper = zero; «lower_sum» = zero; «upper_sum» = zero }; low-rung = 0; high-rung = 0 }
-
-abbrev pub valuesOf : Critical → Values
-valuesOf (Critical.Found b i j rate) = record { rate = rate; bracket = b; low-rung = i; high-rung = j }
-valuesOf Critical.NotANumber = refused
-valuesOf Critical.NoBracket = refused
+abbrev pub criticalOutcome : Critical → Outcome Values
+criticalOutcome (Critical.Found b i j rate) = served (record { rate = rate; bracket = b; low-rung = i; high-rung = j })
+criticalOutcome Critical.NotANumber = refused R.NanReached
+criticalOutcome Critical.NoBracket = refused R.NoBracket

@@ -1,7 +1,7 @@
 // The critical rate of a list of coupon terms, `find_critical_rate` of the Rust: two ladders of
 // rates, and 200 halvings between their first good rungs. One search serves every kind of swaption.
 ghost use Rattle.search.specs.Sum.{weightedSum};
-ghost use Rattle.search.specs.Facts.{Answer};
+ghost use Rattle.search.specs.Facts.{Searched};
 
 mod coupons;
 mod halving;
@@ -33,7 +33,7 @@ pub enum Critical {
 // The search over terms that are given by their weights, coefficient × A, and their B. Both ladders
 // are run before a missing rung is refused, since a NaN on the upper one comes first.
 pub fn critical_rate(weights: &[f64], b: &[f64]) -> Critical
-    ensures { λ r. ⌜ Answer (weightedSum (now (weights .entry)) (now (b .entry))) r ⌝ }
+    ensures { λ r. ⌜ Searched (weightedSum (now (weights .entry)) (now (b .entry))) r ⌝ }
 {
     let low = ladder::climb(weights, b, true);
     if let ladder::Ladder::NotANumber = low {
