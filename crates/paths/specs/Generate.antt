@@ -12,12 +12,13 @@ use Rattle.ieee.specs.Fused.{fusedOf}
 use Rattle.ieee.specs.Sqrt.{sqrtOf}
 use Rattle.elementary.specs.Exp.{expOf}
 use Rattle.lists.specs.declared.curves.Faults.{Faults}
-use Rattle.lists.specs.Refusals.{Outcome, served, refused, firstRule, unless}
-use Rattle.lists.specs.Lookups.{Maybe, just, nothing, factorAt, needing, volatilityAt}
+use Rattle.lists.specs.declared.refusals.Refusal.the-variants as R
+use Rattle.lists.specs.Refusals.{Outcome, served, Rule, rule, unless, following, prepend}
+use Rattle.lists.specs.Lookups.{factorAt, needing, required, volatilityAt}
 use Rattle.lists.specs.Faults.{curveFaults, pillarFaults, gridFaults}
 use Rattle.formulas.specs.HullWhite.{h, forwardOf}
 use Rattle.paths.specs.declared.path.State.{State}
-use Rattle.paths.specs.Written.{prepend, finishingList}
+use Rattle.paths.specs.Written.{finishingList}
 
 -- ---- rules 1 to 7, a line a rule
 
@@ -27,16 +28,16 @@ startsBelow [] = false
 startsBelow (t ∷ grid) = lt t zero
 
 -- `short`: the output is shorter than its grid; `empty`: there are no pillars
-unfoldable pub pathRule : Faults → Faults → Faults → Bool → Bool → Bool → Float → ℕ
-pathRule schedule curve points empty below short alpha =
-    firstRule
-    (schedule .size || curve .size || points .size || short)
-    (schedule .«not_finite» || curve .«not_finite» || points .«not_finite» || not (finite alpha))
-    (le alpha zero)
-    (schedule .order || curve .order || points .order)
-    below
-    (schedule .domain || curve .domain)
-    empty
+abbrev pub pathRules : Faults → Faults → Faults → Bool → Bool → Bool → Float → List Rule
+pathRules schedule curve points empty below short alpha =
+    rule R.Size (schedule .size || curve .size || points .size || short)
+    ∷ rule R.NotFinite (schedule .«not_finite» || curve .«not_finite» || points .«not_finite» || not (finite alpha))
+    ∷ rule R.MeanReversion (le alpha zero)
+    ∷ rule R.Order (schedule .order || curve .order || points .order)
+    ∷ rule R.Times below
+    ∷ rule R.Domain (schedule .domain || curve .domain)
+    ∷ rule R.Empty empty
+    ∷ []
 
 -- ---- the path
 
@@ -55,29 +56,24 @@ stateAfter alpha sigma t draw s =
       variance = fusedOf (s .variance) decay (sigma ⊗ sigma ⊗ (one ⊖ decay) ⊘ (two ⊗ alpha));
     }
 
--- the rate at a point: x + (0.5 × variance + forward), the inner sum fused
-unfoldable pub pointOf : Float → Float → Float → Float
-pointOf x variance forward = x ⊕ fusedOf half variance forward
+-- "the shift is the forward plus half the state variance": 0.5 × variance + forward, fused; the rate at a point is x and the shift
+unfoldable pub shiftOf : Float → Float → Float
+shiftOf variance forward = fusedOf half variance forward
 
--- no pillar: rule 7, which the rules above have met already
-abbrev pub withVolatility : Maybe → (Float → Outcome (List Float)) → Outcome (List Float)
-withVolatility (just sigma) rest = rest sigma
-withVolatility nothing rest = refused 7
-
--- the points of the grid that is left, from the state s: each wants the volatility at its time and the factors at t and t + h
+-- the points of the grid that is left, from the state s: each wants the volatility at its time (there is none without a pillar, rule 7) and the factors at t and t + h
 unfoldable pub pathFrom : Float → List Float → List Float → List Float → List Float → State → List Float → List Float → Outcome (List Float)
 pathFrom alpha ps ss ts fs s [] draws = served []
 pathFrom alpha ps ss ts fs s (t ∷ grid) [] = served []
 pathFrom alpha ps ss ts fs s (t ∷ grid) (draw ∷ draws) =
-    withVolatility (volatilityAt ps ss t) (λ sigma.
+    required R.Empty (volatilityAt ps ss t) (λ sigma.
     needing (factorAt ts fs t) (λ p.
     needing (factorAt ts fs (t ⊕ h)) (λ pPlus.
     let next = stateAfter alpha sigma t draw s in
-    prepend (pointOf (next .x) (next .variance) (forwardOf p pPlus)) (pathFrom alpha ps ss ts fs next grid draws))))
+    prepend (next .x ⊕ shiftOf (next .variance) (forwardOf p pPlus)) (pathFrom alpha ps ss ts fs next grid draws))))
 
 unfoldable pub generateOutcome : Float → List Float → List Float → List Float → List Float → List Float → List Float → ℕ → Outcome (List Float)
 unfolding pathFrom
 generateOutcome alpha ps ss ts fs grid draws room =
     unless
-    (pathRule (pillarFaults ps ss) (curveFaults ts fs) (gridFaults grid draws) (eqb (length ps) 0) (startsBelow grid) (ltb room (length grid)) alpha)
-    (finishingList (pathFrom alpha ps ss ts fs startState grid draws))
+    (pathRules (pillarFaults ps ss) (curveFaults ts fs) (gridFaults grid draws) (eqb (length ps) 0) (startsBelow grid) (ltb room (length grid)) alpha)
+    (following (pathFrom alpha ps ss ts fs startState grid draws) finishingList)

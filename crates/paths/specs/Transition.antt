@@ -11,22 +11,23 @@ use lib.Ieee.Scale.{finite}
 use Rattle.ieee.specs.Rounded.{_⊕_, _⊗_}
 use Rattle.ieee.specs.Numbers.{zero}
 use Rattle.lists.specs.declared.curves.Faults.{Faults}
-use Rattle.lists.specs.Refusals.{Outcome, served, firstRule, unless}
+use Rattle.lists.specs.declared.refusals.Refusal.the-variants as R
+use Rattle.lists.specs.Refusals.{Outcome, Rule, rule, unless}
 use Rattle.lists.specs.Faults.{pillarFaults}
 use Rattle.formulas.specs.Variance.{varianceOf}
 use Rattle.paths.specs.Written.{finishingList}
 
 -- rules 1 to 7, a line a rule. Rule 5: a step that is not above 0 ends at or before its start
-unfoldable pub transitionRule : Faults → Bool → Float → ℕ → ℕ → Float → ℕ
-transitionRule pillars empty alpha steps room timeStep =
-    firstRule
-    (pillars .size || ltb 1024 steps || ltb room steps)
-    (pillars .«not_finite» || not (finite alpha && finite timeStep))
-    (le alpha zero)
-    (pillars .order)
-    (le timeStep zero)
-    (pillars .domain)
-    empty
+abbrev pub transitionRules : Faults → Bool → Float → ℕ → ℕ → Float → List Rule
+transitionRules pillars empty alpha steps room timeStep =
+    rule R.Size (pillars .size || ltb 1024 steps || ltb room steps)
+    ∷ rule R.NotFinite (pillars .«not_finite» || not (finite alpha && finite timeStep))
+    ∷ rule R.MeanReversion (le alpha zero)
+    ∷ rule R.Order (pillars .order)
+    ∷ rule R.Times (le timeStep zero)
+    ∷ rule R.Domain (pillars .domain)
+    ∷ rule R.Empty empty
+    ∷ []
 
 -- the variance from step × timeStep to a timeStep later
 unfoldable pub stepVariance : Float → List Float → List Float → Float → ℕ → Float
@@ -39,5 +40,5 @@ variancesOf alpha ts ss timeStep i (suc n) = stepVariance alpha ts ss timeStep i
 
 unfoldable pub transitionOutcome : Float → List Float → List Float → ℕ → Float → ℕ → Outcome (List Float)
 transitionOutcome alpha ts ss steps timeStep room =
-    unless (transitionRule (pillarFaults ts ss) (eqb (length ts) 0) alpha steps room timeStep)
-    (finishingList (served (variancesOf alpha ts ss timeStep 0 steps)))
+    unless (transitionRules (pillarFaults ts ss) (eqb (length ts) 0) alpha steps room timeStep)
+    (finishingList (variancesOf alpha ts ss timeStep 0 steps))

@@ -5,7 +5,6 @@ mod output;
 mod path;
 mod transition;
 
-pub use output::Written;
 pub use path::generate;
 pub use path::generate_on;
 pub use transition::transition_variances;

@@ -1,31 +1,26 @@
-// What a call that writes a list answers, and the writing itself.
+// The writing of a list that was worked, last of all.
 ghost use mathlib.Core.Path.{_≡_};
 ghost use mathlib.Core.List.{_++_};
 ghost use Prim.Native.Nat.{_≤_};
 ghost use lib.ListN.{length, drop};
-ghost use Rattle.lists.specs.Refusals.{served};
-ghost use Rattle.paths.specs.Written.{writtenNumber, numberOfList, storedOf, finishingList};
+ghost use Rattle.lists.specs.Refusals.{answerOf};
+ghost use Rattle.paths.specs.Written.{storedOf, finishingList};
+use lists::Answer;
 use lists::Refusal;
 use lists::Test;
 
-// Whether the output was written.
-pub enum Written {
-    Served,
-    Refused(Refusal),
-}
-
 // Writes the values over the front of the output, unless one of them is not finite (rule 13). The output
-// has room for them: whoever calls has checked rule 1.
-pub fn finish(values: &[f64], out: &mut [f64]) -> Written
+// has room for them: `generate_on` and `transition_variances` have asked rule 1.
+pub fn finish(values: &[f64], out: &mut [f64]) -> Answer
     requires { ⌜ length (now values) ≤ length (now out) ⌝ }
-    ensures answer { λ r. ⌜ writtenNumber r ≡ numberOfList (finishingList (served (now (values .entry)))) ⌝ }
-    ensures output { λ r. ⌜ now (out .exit) ≡ storedOf (finishingList (served (now (values .entry)))) (now (out .entry)) ⌝ }
+    ensures answer { λ r. ⌜ r ≡ answerOf (finishingList (now (values .entry))) ⌝ }
+    ensures output { λ r. ⌜ now (out .exit) ≡ storedOf (finishingList (now (values .entry))) (now (out .entry)) ⌝ }
 {
     if lists::all(values, Test::Finite) {
         store(values, out);
-        Written::Served
+        Answer::Served
     } else {
-        Written::Refused(Refusal::Overflow)
+        Answer::Refused(Refusal::Overflow)
     }
 }
 

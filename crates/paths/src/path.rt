@@ -1,14 +1,15 @@
 // hullwhitemodel.rs, generate: a short-rate path over a grid of times, from one standard-normal draw a
 // point (kind 12).
 ghost use mathlib.Core.Path.{_≡_};
+ghost use mathlib.Core.Bool.{true};
 ghost use lib.ListN.{length};
-ghost use Rattle.lists.specs.Refusals.{checkedNumber};
+ghost use Rattle.lists.specs.Checks.{inOrder};
+ghost use Rattle.lists.specs.Refusals.{served, answerOf, firstOf, after};
 ghost use Rattle.lists.specs.Faults.{curveFaults, pillarFaults, gridFaults};
-ghost use Rattle.paths.specs.Written.{writtenNumber, numberOfList, storedOf, Worked};
-ghost use Rattle.paths.specs.Generate.{pathRule, startsBelow, stateAfter, pointOf, pathFrom, startState, generateOutcome};
+ghost use Rattle.paths.specs.Written.{storedOf};
+ghost use Rattle.paths.specs.Generate.{pathRules, startsBelow, stateAfter, shiftOf, pathFrom, startState, generateOutcome};
 use super::output;
-use super::output::Written;
-use lists::Checked;
+use lists::Answer;
 use lists::Faults;
 use lists::Found;
 use lists::Refusal;
@@ -18,12 +19,6 @@ pub struct State {
     pub x: f64,
     pub t: f64,
     pub variance: f64,
-}
-
-// Whether every point of a path was worked.
-enum Walk {
-    Done,
-    Refused(Refusal),
 }
 
 // Kind 12: pillars (times and sigmas), the curve, and the grid (times and draws); `out` receives a rate a
@@ -37,8 +32,8 @@ pub fn generate(
     grid: &[f64],
     draws: &[f64],
     out: &mut [f64],
-) -> Written
-    ensures answer { λ r. ⌜ writtenNumber r ≡ numberOfList (generateOutcome alpha (now (pillars .entry)) (now (sigmas .entry)) (now (times .entry)) (now (factors .entry)) (now (grid .entry)) (now (draws .entry)) (length (now (out .entry)))) ⌝ }
+) -> Answer
+    ensures answer { λ r. ⌜ r ≡ answerOf (generateOutcome alpha (now (pillars .entry)) (now (sigmas .entry)) (now (times .entry)) (now (factors .entry)) (now (grid .entry)) (now (draws .entry)) (length (now (out .entry)))) ⌝ }
     ensures output { λ r. ⌜ now (out .exit) ≡ storedOf (generateOutcome alpha (now (pillars .entry)) (now (sigmas .entry)) (now (times .entry)) (now (factors .entry)) (now (grid .entry)) (now (draws .entry)) (length (now (out .entry)))) (now (out .entry)) ⌝ }
 {
     let curve = lists::curve_faults(times, factors);
@@ -67,15 +62,15 @@ pub fn generate_on(
     grid: &[f64],
     draws: &[f64],
     out: &mut [f64],
-) -> Written
+) -> Answer
     requires { ⌜ curve ≡ curveFaults (now times) (now factors) ⌝ }
-    ensures answer { λ r. ⌜ writtenNumber r ≡ numberOfList (generateOutcome alpha (now (pillars .entry)) (now (sigmas .entry)) (now (times .entry)) (now (factors .entry)) (now (grid .entry)) (now (draws .entry)) (length (now (out .entry)))) ⌝ }
+    ensures answer { λ r. ⌜ r ≡ answerOf (generateOutcome alpha (now (pillars .entry)) (now (sigmas .entry)) (now (times .entry)) (now (factors .entry)) (now (grid .entry)) (now (draws .entry)) (length (now (out .entry)))) ⌝ }
     ensures output { λ r. ⌜ now (out .exit) ≡ storedOf (generateOutcome alpha (now (pillars .entry)) (now (sigmas .entry)) (now (times .entry)) (now (factors .entry)) (now (grid .entry)) (now (draws .entry)) (length (now (out .entry)))) (now (out .entry)) ⌝ }
 {
     let schedule = lists::pillar_faults(pillars, sigmas);
     let points = lists::grid_faults(grid, draws);
     let n = grid.len();
-    let checked = path_rule(
+    let answer = path_rules(
         schedule,
         curve,
         points,
@@ -84,8 +79,8 @@ pub fn generate_on(
         out.len() < n,
         alpha,
     );
-    if let Checked::Refused(refusal) = checked {
-        return Written::Refused(refusal);
+    if let Answer::Refused(refusal) = answer {
+        return Answer::Refused(refusal);
     }
     let mut work = [0.0; 1024];
     let walk = walk_grid(
@@ -98,8 +93,8 @@ pub fn generate_on(
         draws,
         &mut work[..n],
     );
-    if let Walk::Refused(refusal) = walk {
-        return Written::Refused(refusal);
+    if let Answer::Refused(refusal) = walk {
+        return Answer::Refused(refusal);
     }
     output::finish(&work[..n], out)
 }
@@ -115,7 +110,7 @@ fn starts_below(grid: &[f64]) -> bool
     }
 }
 
-fn path_rule(
+fn path_rules(
     schedule: Faults,
     curve: Faults,
     points: Faults,
@@ -123,18 +118,29 @@ fn path_rule(
     below: bool,
     short: bool,
     alpha: f64,
-) -> Checked
-    ensures { λ r. ⌜ checkedNumber r ≡ pathRule schedule curve points empty below short alpha ⌝ }
+) -> Answer
+    ensures { λ r. ⌜ r ≡ firstOf (pathRules schedule curve points empty below short alpha) ⌝ }
 {
-    lists::first_rule(
+    let finite = elementary::is_finite(alpha);
+    let mut answer = lists::and_rule(
+        Answer::Served,
+        Refusal::Size,
         schedule.size | curve.size | points.size | short,
-        schedule.not_finite | curve.not_finite | points.not_finite | !elementary::is_finite(alpha),
-        alpha <= 0.0,
+    );
+    answer = lists::and_rule(
+        answer,
+        Refusal::NotFinite,
+        schedule.not_finite | curve.not_finite | points.not_finite | !finite,
+    );
+    answer = lists::and_rule(answer, Refusal::MeanReversion, alpha <= 0.0);
+    answer = lists::and_rule(
+        answer,
+        Refusal::Order,
         schedule.order | curve.order | points.order,
-        below,
-        schedule.domain | curve.domain,
-        empty,
-    )
+    );
+    answer = lists::and_rule(answer, Refusal::Times, below);
+    answer = lists::and_rule(answer, Refusal::Domain, schedule.domain | curve.domain);
+    lists::and_rule(answer, Refusal::Empty, empty)
 }
 
 // One Euler step of the state to the time t.
@@ -153,14 +159,15 @@ fn state_after(alpha: f64, sigma: f64, t: f64, draw: f64, s: State) -> State
     State { x, t, variance }
 }
 
-// The rate at a point: the centred rate and its shift, the forward plus half the state variance.
-fn point_of(x: f64, variance: f64, forward: f64) -> f64
-    ensures { λ r. ⌜ r ≡ pointOf x variance forward ⌝ }
+// The shift of a point: the forward plus half the state variance.
+fn shift_of(variance: f64, forward: f64) -> f64
+    ensures { λ r. ⌜ r ≡ shiftOf variance forward ⌝ }
 {
-    x + ieee::fused(0.5, variance, forward)
+    ieee::fused(0.5, variance, forward)
 }
 
-// Works every point of the grid into `out`, or says why one cannot be worked.
+// Works every point of the grid into `out`, or says why one cannot be worked. `generate_on` has asked the
+// rules: the lists are of one length, and the curve's times strictly rise.
 fn walk_grid(
     alpha: f64,
     pillars: &[f64],
@@ -170,9 +177,9 @@ fn walk_grid(
     grid: &[f64],
     draws: &[f64],
     out: &mut [f64],
-) -> Walk
-    requires { ⌜ (length (now out) ≡ length (now grid)) × (length (now draws) ≡ length (now grid)) ⌝ }
-    ensures { λ r. ⌜ Worked r (pathFrom alpha (now (pillars .entry)) (now (sigmas .entry)) (now (times .entry)) (now (factors .entry)) startState (now (grid .entry)) (now (draws .entry))) (now (out .exit)) ⌝ }
+) -> Answer
+    requires { ⌜ (length (now out) ≡ length (now grid)) × (length (now draws) ≡ length (now grid)) × (inOrder true (now times) ≡ true) ⌝ }
+    ensures { λ r. ⌜ pathFrom alpha (now (pillars .entry)) (now (sigmas .entry)) (now (times .entry)) (now (factors .entry)) startState (now (grid .entry)) (now (draws .entry)) ≡ after r (served (now (out .exit))) ⌝ }
 {
     let mut s = State {
         x: 0.0,
@@ -183,17 +190,17 @@ fn walk_grid(
     while i < grid.len() {
         let t = grid[i];
         let Found::At(sigma) = lists::volatility(pillars, sigmas, t) else {
-            return Walk::Refused(Refusal::Empty);
+            return Answer::Refused(Refusal::Empty);
         };
         let Found::At(p) = lists::factor(times, factors, t) else {
-            return Walk::Refused(Refusal::OffCurve);
+            return Answer::Refused(Refusal::OffCurve);
         };
         let Found::At(p_plus) = lists::factor(times, factors, t + formulas::day()) else {
-            return Walk::Refused(Refusal::OffCurve);
+            return Answer::Refused(Refusal::OffCurve);
         };
         s = state_after(alpha, sigma, t, draws[i], s);
-        out[i] = point_of(s.x, s.variance, formulas::forward_of(p, p_plus));
+        out[i] = s.x + shift_of(s.variance, formulas::forward_of(p, p_plus));
         i += 1;
     }
-    Walk::Done
+    Answer::Served
 }

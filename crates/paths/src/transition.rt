@@ -2,13 +2,13 @@
 ghost use mathlib.Core.Path.{_≡_};
 ghost use Prim.Native.Nat.{_≤_};
 ghost use lib.ListN.{length};
-ghost use Rattle.lists.specs.Refusals.{checkedNumber};
-ghost use Rattle.paths.specs.Written.{writtenNumber, numberOfList, storedOf};
-ghost use Rattle.paths.specs.Transition.{transitionRule, stepVariance, variancesOf, transitionOutcome};
+ghost use Rattle.lists.specs.Refusals.{answerOf, firstOf};
+ghost use Rattle.paths.specs.Written.{storedOf};
+ghost use Rattle.paths.specs.Transition.{transitionRules, stepVariance, variancesOf, transitionOutcome};
 use super::output;
-use super::output::Written;
-use lists::Checked;
+use lists::Answer;
 use lists::Faults;
+use lists::Refusal;
 
 pub fn transition_variances(
     alpha: f64,
@@ -17,12 +17,12 @@ pub fn transition_variances(
     steps: usize,
     time_step: f64,
     out: &mut [f64],
-) -> Written
-    ensures answer { λ r. ⌜ writtenNumber r ≡ numberOfList (transitionOutcome alpha (now (times .entry)) (now (sigmas .entry)) steps «time_step» (length (now (out .entry)))) ⌝ }
+) -> Answer
+    ensures answer { λ r. ⌜ r ≡ answerOf (transitionOutcome alpha (now (times .entry)) (now (sigmas .entry)) steps «time_step» (length (now (out .entry)))) ⌝ }
     ensures output { λ r. ⌜ now (out .exit) ≡ storedOf (transitionOutcome alpha (now (times .entry)) (now (sigmas .entry)) steps «time_step» (length (now (out .entry)))) (now (out .entry)) ⌝ }
 {
     let pillars = lists::pillar_faults(times, sigmas);
-    let checked = transition_rule(
+    let answer = transition_rules(
         pillars,
         times.len() == 0,
         alpha,
@@ -30,34 +30,36 @@ pub fn transition_variances(
         out.len(),
         time_step,
     );
-    if let Checked::Refused(refusal) = checked {
-        return Written::Refused(refusal);
+    if let Answer::Refused(refusal) = answer {
+        return Answer::Refused(refusal);
     }
     let mut work = [0.0; 1024];
     variances(alpha, times, sigmas, time_step, &mut work[..steps]);
     output::finish(&work[..steps], out)
 }
 
-fn transition_rule(
+fn transition_rules(
     pillars: Faults,
     empty: bool,
     alpha: f64,
     steps: usize,
     room: usize,
     time_step: f64,
-) -> Checked
-    ensures { λ r. ⌜ checkedNumber r ≡ transitionRule pillars empty alpha steps room «time_step» ⌝ }
+) -> Answer
+    ensures { λ r. ⌜ r ≡ firstOf (transitionRules pillars empty alpha steps room «time_step») ⌝ }
 {
     let finite = elementary::is_finite(alpha) & elementary::is_finite(time_step);
-    lists::first_rule(
+    let mut answer = lists::and_rule(
+        Answer::Served,
+        Refusal::Size,
         pillars.size | (1024 < steps) | (room < steps),
-        pillars.not_finite | !finite,
-        alpha <= 0.0,
-        pillars.order,
-        time_step <= 0.0,
-        pillars.domain,
-        empty,
-    )
+    );
+    answer = lists::and_rule(answer, Refusal::NotFinite, pillars.not_finite | !finite);
+    answer = lists::and_rule(answer, Refusal::MeanReversion, alpha <= 0.0);
+    answer = lists::and_rule(answer, Refusal::Order, pillars.order);
+    answer = lists::and_rule(answer, Refusal::Times, time_step <= 0.0);
+    answer = lists::and_rule(answer, Refusal::Domain, pillars.domain);
+    lists::and_rule(answer, Refusal::Empty, empty)
 }
 
 // The variance over one step.

@@ -1,16 +1,13 @@
 -- The terms of a swaption on a swap with the strike K: coefficients, B, A and factors, a coupon at a time, as `HullWhite::swaption_price` makes them. (`swaption_value` has the same coefficients and B, and another A.)
-use mathlib.Core.Path.{_≡_}
 use mathlib.Core.Bool.{Bool, true, false}
 use mathlib.Core.List.{List, [], _∷_}
 use lib.Ieee.{Float}
 use Rattle.ieee.specs.Rounded.{_⊗_}
 use Rattle.ieee.specs.Numbers.{one}
 use Rattle.ieee.specs.Fused.{fusedOf}
-use Rattle.lists.specs.Refusals.{Outcome, served, refused}
+use Rattle.lists.specs.Refusals.{Outcome, served, prepend}
 use Rattle.lists.specs.Lookups.{factorAt, needing}
 use Rattle.formulas.specs.HullWhite.{bOf, driftOf, aAt}
-use Rattle.terms.specs.declared.factors.Fetched.{Fetched}
-use Rattle.terms.specs.declared.factors.Fetched.the-variants as F
 
 -- accrual × K; the last coupon's is accrual × K + 1, fused
 abbrev pub coefficientAt : Bool → Float → Float → Float
@@ -40,15 +37,6 @@ affinesOf alpha sigma decay (b ∷ bs) [] = []
 affinesOf alpha sigma decay (b ∷ bs) (drift ∷ drifts) = aAt alpha sigma decay b drift ∷ affinesOf alpha sigma decay bs drifts
 
 -- the factor at each payment time, or refusal 8
-abbrev pub onto : Float → Outcome (List Float) → Outcome (List Float)
-onto p (served ps) = served (p ∷ ps)
-onto p (refused n) = refused n
-
 unfoldable pub factorsAt : List Float → List Float → List Float → Outcome (List Float)
 factorsAt ts fs [] = served []
-factorsAt ts fs (payment ∷ payments) = needing (factorAt ts fs payment) (λ p. onto p (factorsAt ts fs payments))
-
--- what a fetch comes to: the factors in the list that was lent, or the refusal
-abbrev pub Fetches : Fetched → Outcome (List Float) → List Float → Type 0
-Fetches F.All outcome out = outcome ≡ served out
-Fetches F.Missing outcome out = outcome ≡ refused 8
+factorsAt ts fs (payment ∷ payments) = needing (factorAt ts fs payment) (λ p. prepend p (factorsAt ts fs payments))

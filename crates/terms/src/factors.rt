@@ -1,26 +1,27 @@
 // The factors at the payment times.
 ghost use mathlib.Core.Path.{_≡_};
+ghost use mathlib.Core.Bool.{true};
 ghost use lib.ListN.{length};
-ghost use Rattle.terms.specs.Terms.{Fetches, factorsAt};
+ghost use Rattle.lists.specs.Checks.{inOrder};
+ghost use Rattle.lists.specs.Refusals.{served, after};
+ghost use Rattle.terms.specs.Terms.{factorsAt};
+use lists::Answer;
 use lists::Found;
+use lists::Refusal;
 
-// Whether every factor was found.
-pub enum Fetched {
-    All,
-    Missing,
-}
-
-pub fn fetch(times: &[f64], factors: &[f64], payments: &[f64], out: &mut [f64]) -> Fetched
-    requires { ⌜ length (now out) ≡ length (now payments) ⌝ }
-    ensures { λ r. ⌜ Fetches r (factorsAt (now (times .entry)) (now (factors .entry)) (now (payments .entry))) (now (out .exit)) ⌝ }
+// Fetches the factor at every payment time, or says why one is not there. Whoever prices a swaption has
+// asked rule 4: the curve's times strictly rise.
+pub fn fetch(times: &[f64], factors: &[f64], payments: &[f64], out: &mut [f64]) -> Answer
+    requires { ⌜ (length (now out) ≡ length (now payments)) × (inOrder true (now times) ≡ true) ⌝ }
+    ensures { λ r. ⌜ factorsAt (now (times .entry)) (now (factors .entry)) (now (payments .entry)) ≡ after r (served (now (out .exit))) ⌝ }
 {
     let mut i = 0;
     while i < payments.len() {
         let Found::At(p) = lists::factor(times, factors, payments[i]) else {
-            return Fetched::Missing;
+            return Answer::Refused(Refusal::OffCurve);
         };
         out[i] = p;
         i += 1;
     }
-    Fetched::All
+    Answer::Served
 }

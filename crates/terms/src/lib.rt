@@ -8,5 +8,4 @@ pub use columns::bs;
 pub use columns::coefficients;
 pub use columns::drifts;
 pub use columns::weights;
-pub use factors::Fetched;
 pub use factors::fetch;
