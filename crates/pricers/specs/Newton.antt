@@ -7,6 +7,7 @@ use Rattle.ieee.specs.Decimal.{decimal}
 use Rattle.ieee.specs.Numbers.{zero, one}
 use Rattle.elementary.specs.Simple.{absOf}
 use Rattle.elementary.specs.Exp.{expOf}
+use Rattle.lists.specs.declared.refusals.Refusal.the-variants as R
 use Rattle.lists.specs.Refusals.{Outcome, served, refused}
 use Rattle.pricers.specs.declared.newton.Sums.{Sums}
 use Rattle.pricers.specs.declared.newton.Step.{Step}
@@ -36,8 +37,8 @@ flatLimit = decimal 1 14
 
 abbrev pub stepOutcome : Step → Outcome Float
 stepOutcome (S.To r) = served r
-stepOutcome S.Flat = refused 11
+stepOutcome S.Flat = refused R.FlatDerivative
 
 -- rule 11: "The critical-rate derivative is below 1e-14 in size"; else rate - objective/derivative
 unfoldable pub stepped : Float → Sums → Outcome Float
-stepped rate sums = cond (lt (absOf (sums .derivative)) flatLimit) (refused 11) (served (rate ⊖ sums .objective ⊘ sums .derivative))
+stepped rate sums = cond (lt (absOf (sums .derivative)) flatLimit) (refused R.FlatDerivative) (served (rate ⊖ sums .objective ⊘ sums .derivative))

@@ -33,7 +33,7 @@ fn sums_after(rate: f64, c: f64, a: f64, b: f64, sums: Sums) -> Sums
     }
 }
 
-// The objective starts at -1, the derivative at 0. Whoever calls has the lists of one length.
+// The objective starts at -1, the derivative at 0. `priced_by` has the lists of one length.
 fn newton_sums(rate: f64, c: &[f64], a: &[f64], b: &[f64]) -> Sums
     requires { ⌜ (length (now a) ≡ length (now c)) × (length (now b) ≡ length (now c)) ⌝ }
     ensures { λ r. ⌜ r ≡ sumsOf rate (now (c .entry)) (now (a .entry)) (now (b .entry)) ⌝ }

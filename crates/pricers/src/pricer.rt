@@ -1,17 +1,19 @@
 // swaption_value: kinds 6 and 7.
 ghost use mathlib.Core.Path.{_≡_};
+ghost use mathlib.Core.Bool.{true};
 ghost use Prim.Native.Nat.{_≤_};
 ghost use lib.ListN.{length};
-ghost use Rattle.lists.specs.Refusals.{checkedNumber};
+ghost use Rattle.lists.specs.Checks.{inOrder};
+ghost use Rattle.lists.specs.Refusals.{firstOf};
 ghost use Rattle.lists.specs.Faults.{curveFaults};
-ghost use Rattle.pricers.specs.Pricer.{valuationOutcome, ownFits, pricerRule, pricedBy, pricerPriced, pricerOutcome, finishingValuation};
-ghost use Rattle.pricers.specs.Demand3.{Rooted};
+ghost use Rattle.pricers.specs.Pricer.{valuationOutcome, ownFits, pricerRules, pricedBy, pricerPriced, pricerOutcome, finishingValuation};
+ghost use Rattle.pricers.specs.Demand3.{Rooted, RefusedSo};
 use super::bond_option::SwaptionType;
 use super::components;
 use super::newton;
 use super::newton::Step;
 use super::variance;
-use lists::Checked;
+use lists::Answer;
 use lists::Faults;
 use lists::Found;
 use lists::Refusal;
@@ -50,7 +52,8 @@ pub fn swaption_value(
     side: f64,
 ) -> Valuation
     ensures answer { λ r. ⌜ valuationOutcome r ≡ pricerOutcome option alpha (now (pillars .entry)) (now (sigmas .entry)) (now (times .entry)) (now (factors .entry)) (now (payments .entry)) (now (accruals .entry)) (now («own_dfs» .entry)) strike t notional side ⌝ }
-    ensures rooted { λ r. ⌜ Rooted alpha (now (pillars .entry)) (now (sigmas .entry)) (now (times .entry)) (now (factors .entry)) (now (payments .entry)) (now (accruals .entry)) strike t r ⌝ }
+    ensures rooted { λ r. ⌜ Rooted alpha (now (pillars .entry)) (now (sigmas .entry)) (now (times .entry)) (now (factors .entry)) (now (payments .entry)) (now (accruals .entry)) (now («own_dfs» .entry)) strike t notional side r ⌝ }
+    ensures bracket { λ r. ⌜ RefusedSo alpha (now (pillars .entry)) (now (sigmas .entry)) (now (times .entry)) (now (factors .entry)) (now (payments .entry)) (now (accruals .entry)) (now («own_dfs» .entry)) strike t notional side r ⌝ }
 {
     let curve = lists::curve_faults(times, factors);
     swaption_value_on(
@@ -91,11 +94,12 @@ pub fn swaption_value_on(
 ) -> Valuation
     requires { ⌜ curve ≡ curveFaults (now times) (now factors) ⌝ }
     ensures answer { λ r. ⌜ valuationOutcome r ≡ pricerOutcome option alpha (now (pillars .entry)) (now (sigmas .entry)) (now (times .entry)) (now (factors .entry)) (now (payments .entry)) (now (accruals .entry)) (now («own_dfs» .entry)) strike t notional side ⌝ }
-    ensures rooted { λ r. ⌜ Rooted alpha (now (pillars .entry)) (now (sigmas .entry)) (now (times .entry)) (now (factors .entry)) (now (payments .entry)) (now (accruals .entry)) strike t r ⌝ }
+    ensures rooted { λ r. ⌜ Rooted alpha (now (pillars .entry)) (now (sigmas .entry)) (now (times .entry)) (now (factors .entry)) (now (payments .entry)) (now (accruals .entry)) (now («own_dfs» .entry)) strike t notional side r ⌝ }
+    ensures bracket { λ r. ⌜ RefusedSo alpha (now (pillars .entry)) (now (sigmas .entry)) (now (times .entry)) (now (factors .entry)) (now (payments .entry)) (now (accruals .entry)) (now («own_dfs» .entry)) strike t notional side r ⌝ }
 {
     let schedule = lists::pillar_faults(pillars, sigmas);
     let coupons = lists::coupon_faults(payments, accruals);
-    let checked = pricer_rule(
+    let answer = pricer_rules(
         curve,
         schedule,
         coupons,
@@ -110,7 +114,7 @@ pub fn swaption_value_on(
         notional,
         side,
     );
-    if let Checked::Refused(refusal) = checked {
+    if let Answer::Refused(refusal) = answer {
         return Valuation::Refused(refusal);
     }
     pricer_priced(
@@ -137,40 +141,51 @@ fn own_fits(own_dfs: &[f64]) -> bool
     lists::all(own_dfs, Test::Zero) | lists::all(own_dfs, Test::Above(0.0))
 }
 
-fn pricer_rule(
+fn pricer_rules(
     curve: Faults,
     schedule: Faults,
     coupons: Faults,
     unpaired: bool,
     own_finite: bool,
     own_fit: bool,
-    after: bool,
+    later: bool,
     empty: bool,
     alpha: f64,
     strike: f64,
     t: f64,
     notional: f64,
     side: f64,
-) -> Checked
-    ensures { λ r. ⌜ checkedNumber r ≡ pricerRule curve schedule coupons unpaired «own_finite» «own_fit» after empty alpha strike t notional side ⌝ }
+) -> Answer
+    ensures { λ r. ⌜ r ≡ firstOf (pricerRules curve schedule coupons unpaired «own_finite» «own_fit» later empty alpha strike t notional side) ⌝ }
 {
     let finite = elementary::is_finite(alpha)
         & elementary::is_finite(strike)
         & elementary::is_finite(t)
         & elementary::is_finite(notional)
         & elementary::is_finite(side);
-    lists::first_rule(
+    let mut answer = lists::and_rule(
+        Answer::Served,
+        Refusal::Size,
         curve.size | schedule.size | coupons.size | unpaired,
+    );
+    answer = lists::and_rule(
+        answer,
+        Refusal::NotFinite,
         curve.not_finite | schedule.not_finite | coupons.not_finite | !own_finite | !finite,
-        alpha <= 0.0,
-        curve.order | schedule.order,
-        (t < 0.0) | !after,
+    );
+    answer = lists::and_rule(answer, Refusal::MeanReversion, alpha <= 0.0);
+    answer = lists::and_rule(answer, Refusal::Order, curve.order | schedule.order);
+    answer = lists::and_rule(answer, Refusal::Times, (t < 0.0) | !later);
+    answer = lists::and_rule(
+        answer,
+        Refusal::Domain,
         schedule.domain | curve.domain | !own_fit | ((side != 1.0) & (side != -1.0)),
-        empty,
-    )
+    );
+    lists::and_rule(answer, Refusal::Empty, empty)
 }
 
-// The factors and the terms. The rules have passed: the coupons' lists are of one length of at most 64.
+// The factors and the terms. `swaption_value_on` has asked the rules: the coupons' lists are of one length
+// of at most 64, and the curve's times strictly rise.
 fn pricer_priced(
     option: SwaptionType,
     alpha: f64,
@@ -186,7 +201,7 @@ fn pricer_priced(
     notional: f64,
     side: f64,
 ) -> Valuation
-    requires { ⌜ (length (now payments) ≤ 64) × (length (now accruals) ≡ length (now payments)) × (length (now «own_dfs») ≡ length (now payments)) ⌝ }
+    requires { ⌜ (length (now payments) ≤ 64) × (length (now accruals) ≡ length (now payments)) × (length (now «own_dfs») ≡ length (now payments)) × (inOrder true (now times) ≡ true) ⌝ }
     ensures { λ r. ⌜ valuationOutcome r ≡ pricerPriced option alpha (now (pillars .entry)) (now (sigmas .entry)) (now (times .entry)) (now (factors .entry)) (now (payments .entry)) (now (accruals .entry)) (now («own_dfs» .entry)) strike t notional side ⌝ }
 {
     let Found::At(p_t) = lists::factor(times, factors, t) else {
@@ -198,8 +213,8 @@ fn pricer_priced(
     let n = payments.len();
     let mut p = [0.0; 64];
     let fetched = terms::fetch(times, factors, payments, &mut p[..n]);
-    if let terms::Fetched::Missing = fetched {
-        return Valuation::Refused(Refusal::OffCurve);
+    if let Answer::Refused(refusal) = fetched {
+        return Valuation::Refused(refusal);
     }
     let mut c = [0.0; 64];
     terms::coefficients(strike, accruals, &mut c[..n]);
@@ -243,34 +258,24 @@ fn priced_by(
     let mut w = [0.0; 64];
     terms::weights(c, a, &mut w[..n]);
     let found = search::critical_rate(&w[..n], b);
-    match found {
-        Critical::NotANumber => Valuation::Refused(Refusal::NanReached),
-        Critical::NoBracket => Valuation::Refused(Refusal::NoBracket),
-        Critical::Found {
-            bracket,
-            below,
-            above,
-            rate,
-        } => {
-            let Step::To(stepped) = newton::implicit_critical_rate(rate, c, a, b) else {
-                return Valuation::Refused(Refusal::FlatDerivative);
-            };
-            let own = !lists::all(own_dfs, Test::Zero);
-            let sum = components::components(
-                option,
-                own,
-                deviation,
-                p_t,
-                stepped,
-                c,
-                a,
-                b,
-                p,
-                own_dfs,
-            );
-            finished(sum * notional * side, stepped, rate, bracket, below, above)
-        }
+    if let Critical::NotANumber = found {
+        return Valuation::Refused(Refusal::NanReached);
     }
+    let Critical::Found {
+        bracket,
+        below,
+        above,
+        rate,
+    } = found
+    else {
+        return Valuation::Refused(Refusal::NoBracket);
+    };
+    let Step::To(stepped) = newton::implicit_critical_rate(rate, c, a, b) else {
+        return Valuation::Refused(Refusal::FlatDerivative);
+    };
+    let own = !lists::all(own_dfs, Test::Zero);
+    let sum = components::components(option, own, deviation, p_t, stepped, c, a, b, p, own_dfs);
+    finished(sum * notional * side, stepped, rate, bracket, below, above)
 }
 
 // Rule 13 looks at every float of the answer.
@@ -282,7 +287,7 @@ fn finished(
     below: u64,
     above: u64,
 ) -> Valuation
-    ensures { λ r. ⌜ valuationOutcome r ≡ finishingValuation value stepped rate bracket below above ⌝ }
+    ensures { λ r. ⌜ valuationOutcome r ≡ finishingValuation (record { value = value; after-step = stepped; root = record { rate = rate; bracket = bracket; low-rung = below; high-rung = above } }) ⌝ }
 {
     let finite = elementary::is_finite(value)
         & elementary::is_finite(stepped)

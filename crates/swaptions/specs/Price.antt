@@ -5,12 +5,12 @@ use lib.Ieee.{Float}
 use lib.Ieee.Scale.{finite}
 use Rattle.ieee.specs.Numbers.{zero}
 use Rattle.ieee.specs.Fused.{fusedOf}
-use Rattle.lists.specs.Refusals.{Outcome, served, refused, numberOf}
+use Rattle.lists.specs.declared.refusals.Refusal.the-variants as R
+use Rattle.lists.specs.Refusals.{Outcome, served, refused, following}
 use Rattle.formulas.specs.HullWhite.{zcbOf, volatilityAt, bondPutOf}
-use Rattle.search.specs.declared.Critical.{Critical}
-use Rattle.search.specs.Sum.{weightsOf, weightedSum}
+use Rattle.search.specs.Sum.{couponSum}
 use Rattle.search.specs.Rate.{criticalOf}
-use Rattle.search.specs.Values.{Values}
+use Rattle.search.specs.Values.{Values, noValues, criticalOutcome}
 use Rattle.terms.specs.Terms.{affinesOf}
 use Rattle.swaptions.specs.declared.price.Swaption.{Swaption}
 use Rattle.swaptions.specs.declared.price.Swaption.the-variants as S
@@ -26,7 +26,11 @@ rootOf r = record { rate = r .rate; bracket = r .bracket; low-rung = r .below; h
 
 abbrev pub swaptionOutcome : Swaption → Outcome Valued
 swaptionOutcome (S.Served v r) = served (record { value = v; root = rootOf r })
-swaptionOutcome (S.Refused r) = refused (numberOf r)
+swaptionOutcome (S.Refused r) = refused r
+
+-- beside a refusal's number, and of a swap without coupons
+abbrev pub noValued : Valued
+noValued = record { value = zero; root = noValues }
 
 -- a coupon's put: the bond's strike is A × exp(-B × r), its volatility sigma × B × deviation
 unfoldable pub putOf : Float → Float → Float → Float → Float → Float → Float → Float
@@ -44,21 +48,14 @@ unfoldable pub putsOf : Float → Float → Float → Float → List Float → L
 unfolding putsOnto
 putsOf sigma deviation pt r cs affs bs ps = putsOnto zero sigma deviation pt r cs affs bs ps
 
--- what a search comes to, priced at its rate: refusals 9 and 10 are the search's
-abbrev pub pricedAt : Critical → (Float → Float) → Outcome Valued
-pricedAt (Critical.Found b i j r) price = served (record { value = price r; root = record { rate = r; bracket = b; low-rung = i; high-rung = j } })
-pricedAt Critical.NotANumber price = refused 9
-pricedAt Critical.NoBracket price = refused 10
-
--- the price at a sigma, on the terms' coefficients, B, drifts and factors
+-- the price at a sigma, on the terms' coefficients, B, drifts and factors: the critical rate of the priced coupon sum, then the puts at it. Refusals 9 and 10 are the search's
 unfoldable pub priceAt : Float → Float → Float → Float → Float → List Float → List Float → List Float → List Float → Outcome Valued
 priceAt alpha sigma decay deviation pt cs bs drifts ps =
     let affs = affinesOf alpha sigma decay bs drifts in
-    pricedAt (criticalOf (weightedSum (weightsOf cs affs) bs)) (λ r. putsOf sigma deviation pt r cs affs bs ps)
+    following (criticalOutcome (criticalOf (couponSum cs affs bs))) (λ root. served (record { value = putsOf sigma deviation pt (root .rate) cs affs bs ps; root = root }))
 
 -- rule 13: "A float of the answer, bracket sums .. and the critical rate .. included, is not finite"
-abbrev pub finishingSwaption : Outcome Valued → Outcome Valued
-finishingSwaption (served v) =
+abbrev pub finishingSwaption : Valued → Outcome Valued
+finishingSwaption v =
     let b = v .root .bracket in
-    cond (finite (v .value) && finite (v .root .rate) && finite (b .lower) && finite (b .upper) && finite (b .«lower_sum») && finite (b .«upper_sum»)) (served v) (refused 13)
-finishingSwaption (refused n) = refused n
+    cond (finite (v .value) && finite (v .root .rate) && finite (b .lower) && finite (b .upper) && finite (b .«lower_sum») && finite (b .«upper_sum»)) (served v) (refused R.Overflow)

@@ -1,16 +1,18 @@
 // hullwhitemodel.rs, swaption_price (kind 5).
 ghost use mathlib.Core.Path.{_≡_};
+ghost use mathlib.Core.Bool.{true};
 ghost use Prim.Native.Nat.{_≤_};
 ghost use lib.ListN.{length};
-ghost use Rattle.lists.specs.Refusals.{checkedNumber};
+ghost use Rattle.lists.specs.Checks.{inOrder};
+ghost use Rattle.lists.specs.Refusals.{served, firstOf, following};
 ghost use Rattle.lists.specs.Faults.{curveFaults};
-ghost use Rattle.swaptions.specs.Price.{swaptionOutcome, finishingSwaption};
-ghost use Rattle.swaptions.specs.Model.{modelRule, noCoupons, termsPriced, modelPriced, modelOutcome};
-ghost use Rattle.swaptions.specs.Demand3.{Rooted};
+ghost use Rattle.swaptions.specs.Price.{swaptionOutcome, noValued, finishingSwaption};
+ghost use Rattle.swaptions.specs.Model.{modelRules, termsPriced, modelPriced, modelOutcome};
+ghost use Rattle.swaptions.specs.Demand3.{Rooted, RefusedSo};
 use super::price;
 use super::price::Root;
 use super::price::Swaption;
-use lists::Checked;
+use lists::Answer;
 use lists::Faults;
 use lists::Found;
 use lists::Refusal;
@@ -30,6 +32,7 @@ pub fn swaption_price(
 ) -> Swaption
     ensures answer { λ r. ⌜ swaptionOutcome r ≡ modelOutcome alpha (now (times .entry)) (now (factors .entry)) (now (payments .entry)) (now (accruals .entry)) strike t sigma ⌝ }
     ensures rooted { λ r. ⌜ Rooted alpha (now (times .entry)) (now (factors .entry)) (now (payments .entry)) (now (accruals .entry)) strike t sigma r ⌝ }
+    ensures bracket { λ r. ⌜ RefusedSo alpha (now (times .entry)) (now (factors .entry)) (now (payments .entry)) (now (accruals .entry)) strike t sigma r ⌝ }
 {
     let curve = lists::curve_faults(times, factors);
     swaption_price_on(
@@ -61,11 +64,12 @@ pub fn swaption_price_on(
     requires { ⌜ curve ≡ curveFaults (now times) (now factors) ⌝ }
     ensures answer { λ r. ⌜ swaptionOutcome r ≡ modelOutcome alpha (now (times .entry)) (now (factors .entry)) (now (payments .entry)) (now (accruals .entry)) strike t sigma ⌝ }
     ensures rooted { λ r. ⌜ Rooted alpha (now (times .entry)) (now (factors .entry)) (now (payments .entry)) (now (accruals .entry)) strike t sigma r ⌝ }
+    ensures bracket { λ r. ⌜ RefusedSo alpha (now (times .entry)) (now (factors .entry)) (now (payments .entry)) (now (accruals .entry)) strike t sigma r ⌝ }
 {
     let coupons = lists::coupon_faults(payments, accruals);
-    let after = lists::all(payments, Test::Above(t));
-    let checked = model_rule(curve, coupons, after, alpha, strike, t, sigma);
-    if let Checked::Refused(refusal) = checked {
+    let later = lists::all(payments, Test::Above(t));
+    let answer = model_rules(curve, coupons, later, alpha, strike, t, sigma);
+    if let Answer::Refused(refusal) = answer {
         return Swaption::Refused(refusal);
     }
     if payments.len() == 0 {
@@ -74,35 +78,36 @@ pub fn swaption_price_on(
     model_priced(alpha, times, factors, payments, accruals, strike, t, sigma)
 }
 
-fn model_rule(
+fn model_rules(
     curve: Faults,
     coupons: Faults,
-    after: bool,
+    later: bool,
     alpha: f64,
     strike: f64,
     t: f64,
     sigma: f64,
-) -> Checked
-    ensures { λ r. ⌜ checkedNumber r ≡ modelRule curve coupons after alpha strike t sigma ⌝ }
+) -> Answer
+    ensures { λ r. ⌜ r ≡ firstOf (modelRules curve coupons later alpha strike t sigma) ⌝ }
 {
     let finite = elementary::is_finite(alpha)
         & elementary::is_finite(strike)
         & elementary::is_finite(t)
         & elementary::is_finite(sigma);
-    lists::first_rule(
-        curve.size | coupons.size,
+    let mut answer = lists::and_rule(Answer::Served, Refusal::Size, curve.size | coupons.size);
+    answer = lists::and_rule(
+        answer,
+        Refusal::NotFinite,
         curve.not_finite | coupons.not_finite | !finite,
-        alpha <= 0.0,
-        curve.order,
-        (t < 0.0) | !after,
-        (sigma < 0.0) | curve.domain,
-        false,
-    )
+    );
+    answer = lists::and_rule(answer, Refusal::MeanReversion, alpha <= 0.0);
+    answer = lists::and_rule(answer, Refusal::Order, curve.order);
+    answer = lists::and_rule(answer, Refusal::Times, (t < 0.0) | !later);
+    lists::and_rule(answer, Refusal::Domain, (sigma < 0.0) | curve.domain)
 }
 
 // A swap without coupons is worth 0, and has no root.
 fn nothing() -> Swaption
-    ensures { λ r. ⌜ swaptionOutcome r ≡ noCoupons ⌝ }
+    ensures { λ r. ⌜ swaptionOutcome r ≡ served noValued ⌝ }
 {
     Swaption::Served(
         0.0,
@@ -120,8 +125,8 @@ fn nothing() -> Swaption
     )
 }
 
-// The factors, then the terms and the price. The rules have passed: the coupons' lists are of one length
-// of at most 64.
+// The factors, then the terms and the price. `swaption_price_on` has asked the rules: the coupons' lists
+// are of one length of at most 64, and the curve's times strictly rise.
 fn model_priced(
     alpha: f64,
     times: &[f64],
@@ -132,7 +137,7 @@ fn model_priced(
     t: f64,
     sigma: f64,
 ) -> Swaption
-    requires { ⌜ (length (now payments) ≤ 64) × (length (now accruals) ≡ length (now payments)) ⌝ }
+    requires { ⌜ (length (now payments) ≤ 64) × (length (now accruals) ≡ length (now payments)) × (inOrder true (now times) ≡ true) ⌝ }
     ensures { λ r. ⌜ swaptionOutcome r ≡ modelPriced alpha (now (times .entry)) (now (factors .entry)) (now (payments .entry)) (now (accruals .entry)) strike t sigma ⌝ }
 {
     let Found::At(p_t) = lists::factor(times, factors, t) else {
@@ -144,8 +149,8 @@ fn model_priced(
     let n = payments.len();
     let mut p = [0.0; 64];
     let fetched = terms::fetch(times, factors, payments, &mut p[..n]);
-    if let terms::Fetched::Missing = fetched {
-        return Swaption::Refused(Refusal::OffCurve);
+    if let Answer::Refused(refusal) = fetched {
+        return Swaption::Refused(refusal);
     }
     terms_priced(
         alpha,
@@ -201,7 +206,7 @@ fn terms_priced(
 
 // Rule 13 looks at every float of the answer.
 fn finished(swaption: Swaption) -> Swaption
-    ensures { λ r. ⌜ swaptionOutcome r ≡ finishingSwaption (swaptionOutcome swaption) ⌝ }
+    ensures { λ r. ⌜ swaptionOutcome r ≡ following (swaptionOutcome swaption) finishingSwaption ⌝ }
 {
     let Swaption::Served(value, root) = swaption else {
         return swaption;

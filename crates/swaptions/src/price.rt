@@ -76,25 +76,26 @@ pub fn price_at(
     let mut w = [0.0; 64];
     terms::weights(c, &a[..n], &mut w[..n]);
     let found = search::critical_rate(&w[..n], b);
-    match found {
-        Critical::NotANumber => Swaption::Refused(Refusal::NanReached),
-        Critical::NoBracket => Swaption::Refused(Refusal::NoBracket),
-        Critical::Found {
+    if let Critical::NotANumber = found {
+        return Swaption::Refused(Refusal::NanReached);
+    }
+    let Critical::Found {
+        bracket,
+        below,
+        above,
+        rate,
+    } = found
+    else {
+        return Swaption::Refused(Refusal::NoBracket);
+    };
+    let value = puts(sigma, deviation, p_t, rate, c, &a[..n], b, p);
+    Swaption::Served(
+        value,
+        Root {
+            rate,
             bracket,
             below,
             above,
-            rate,
-        } => {
-            let value = puts(sigma, deviation, p_t, rate, c, &a[..n], b, p);
-            Swaption::Served(
-                value,
-                Root {
-                    rate,
-                    bracket,
-                    below,
-                    above,
-                },
-            )
-        }
-    }
+        },
+    )
 }
