@@ -1,0 +1,60 @@
+-- Demand 3 of a fit, of any objective f: "An accepted fit is converged with |residual| < 1e-12 at its sigma, or unconverged with last ends that have no f64 between them and residuals of different sign."
+use mathlib.Core.Path.{_≡_}
+use mathlib.Core.Logic.{_⊎_, _↔_}
+use mathlib.Core.Bool.{true, false, not}
+use mathlib.Core.List.{List, List·Memᴰ}
+use Prim.Native.Nat.{ℕ, suc, _≤_}
+use lib.Dec.{T}
+use lib.Ieee.{Float, binary64, isNan}
+use Rattle.elementary.specs.Simple.{midpointOf}
+use Rattle.lists.specs.declared.refusals.Refusal.the-variants as R
+use Rattle.lists.specs.Refusals.{Outcome, served, refused}
+use Rattle.search.specs.Line.{Neighbours}
+use Rattle.search.specs.Halving.{Halvings}
+use Rattle.bisection.specs.declared.result.Fit.{Fit}
+use Rattle.bisection.specs.Solve.{lowest, highest, sameSign, closeEnough, solveOf}
+use Rattle.bisection.specs.Tried.{triedOf}
+
+-- "a halving [fixes] the rate returned": sigma is the midpoint that halving `halvings` of the ends 1e-8 and 2.0 tried
+pub record Converged (fit : Fit) : Type 0 where
+  pub status : fit .converged ≡ true
+  pub close : T (closeEnough (fit .residual))
+  pub before : ℕ
+  pub number : fit .halvings ≡ suc before
+  pub within : fit .halvings ≤ 200
+  pub halved : Halvings before lowest highest (fit .ends .low) (fit .ends .high)
+
+-- "an unconverged one's last ends are those after halving 200"
+pub record Unconverged (fit : Fit) : Type 0 where
+  pub status : fit .converged ≡ false
+  pub number : fit .halvings ≡ 200
+  pub halved : Halvings 200 lowest highest (fit .ends .low) (fit .ends .high)
+  pub neighbours : Neighbours binary64 (fit .ends .low) (fit .ends .high)
+
+-- a sigma at which the objective was served, and is no NaN
+pub record Served (f : Float → Outcome Float) (sigma : Float) : Type 0 where
+  pub residual : Float
+  pub there : f sigma ≡ served residual
+  pub number : T (not (isNan residual))
+
+pub record Assured (f : Float → Outcome Float) (fit : Fit) : Type 0 where
+  -- the residual reported "is that at the sigma returned", and those of the ends are those at the ends
+  pub at-sigma : f (fit .sigma) ≡ served (fit .residual)
+  pub at-low : f (fit .ends .low) ≡ served (fit .ends .«low_residual»)
+  pub at-high : f (fit .ends .high) ≡ served (fit .ends .«high_residual»)
+  pub signs : T (not (sameSign (fit .ends .«low_residual») (fit .ends .«high_residual»)))
+  pub middle : fit .sigma ≡ midpointOf (fit .ends .low) (fit .ends .high)
+  pub root : Converged fit ⊎ Unconverged fit
+  -- "at every sigma a fit tries" the objective was served
+  pub every : (sigma : Float) → List·Memᴰ sigma (triedOf f) → Served f sigma
+
+-- a sigma that was tried, at which the objective was refused for want of a bracket
+pub record TriedUnbracketed (f : Float → Outcome Float) : Type 0 where
+  pub sigma : Float
+  pub tried : List·Memᴰ sigma (triedOf f)
+  pub there : f sigma ≡ refused R.NoBracket
+
+-- every fit, whatever its objective
+pub record Demand3 : Type 1 where
+  pub assured : (f : Float → Outcome Float) (fit : Fit) → solveOf f ≡ served fit → Assured f fit
+  pub no-bracket : (f : Float → Outcome Float) → (solveOf f ≡ refused R.NoBracket) ↔ TriedUnbracketed f
