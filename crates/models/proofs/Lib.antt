@@ -1,3 +1,4 @@
 -- What the functions' proofs cite.
 pub mod Refusing
 pub mod Walks
+pub mod Reached

@@ -4,6 +4,7 @@ use mathlib.Core.List.{List}
 use Prim.Native.Nat.{ℕ, _+_, _≤_, _<_}
 use lib.ListN.{length, getD, drop}
 use lib.Ieee.{Float, nan}
+use Rattle.lists.specs.declared.refusals.Refusal.the-variants as R
 use Rattle.lists.specs.Refusals.{refused, finishing}
 use Rattle.lists.specs.Lookups.{just, nothing, factorAt}
 use Rattle.lists.proofs.Walks.{next, done}
@@ -16,7 +17,7 @@ module _ (ts fs : List Float) (sum : Float) (ps xs : List Float) (i : ℕ) where
   unfolding annuityFrom
   annuity-turn h k q = rw (next ps i h, next xs i k, q)
 
-  pub annuity-off : i < length ps → i < length xs → factorAt ts fs (getD ps i nan) ≡ nothing → annuityFrom ts fs sum (drop i ps) (drop i xs) ≡ refused 8
+  pub annuity-off : i < length ps → i < length xs → factorAt ts fs (getD ps i nan) ≡ nothing → annuityFrom ts fs sum (drop i ps) (drop i xs) ≡ refused R.OffCurve
   unfolding annuityFrom
   annuity-off h k q = rw (next ps i h, next xs i k, q)
 

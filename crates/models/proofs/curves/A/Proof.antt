@@ -1,42 +1,41 @@
 -- `models::A` meets its contract: turned down by its rules, or what `a_priced` finds. Assumes nothing.
 use borrow.Author.Needs.{needs}
-use Rattle.models.specs.Rules.{optionRule}
 use Rattle.models.specs.Curves.{aOutcome}
-use Rattle.models.proofs.Refusing.{turned-down, passed, rises}
+use Rattle.lists.proofs.Outcomes.{turned-down, let-through}
+use Rattle.models.proofs.Refusing.{rises}
 use Rattle.models.proofs.curves.A.Statement.{statement}
 use Rattle.models.proofs.curves.A.Tie as tie
 
 curve-faults-requires : tie.Need-curve-faults-requires
 curve-faults-requires c κs = search needs
 
-option-rule-requires : tie.Need-option-rule-requires
-option-rule-requires c κs = search needs
+option-rules-requires : tie.Need-option-rules-requires
+option-rules-requires c κs = search needs
 
-enum-known-checked : tie.Need-enum-known-checked
-enum-known-checked c = search needs
+enum-known-answer : tie.Need-enum-known-answer
+enum-known-answer c = search needs
 
 enum-told : tie.Need-enum-told
 enum-told c = search needs
 
 a-priced-requires : tie.Need-a-priced-requires
-unfolding optionRule
-a-priced-requires c κs = rises _ _ _ _ _ _ _ _ _ _ (c .before .before .before .curve-faults .ensures) (c .enum-told .given .1) (c .before .before .option-rule .ensures)
+a-priced-requires c κs = rises _ _ _ _ _ (c .before .before .before .curve-faults .ensures) (c .enum-told .given .1) (c .before .before .option-rules .ensures) (λ n. n .1 .1 .1 .0)
 
 returns : tie.Need-returns
 unfolding aOutcome
-returns c = rw (← c .before .before .before .before .curve-faults .ensures, ← c .before .before .before .option-rule .ensures, c .before .checked .given .1, turned-down)
+returns c = rw (turned-down _ _ (c .before .answer .given .1) (rw (c .before .before .before .before .curve-faults .ensures) at (c .before .before .before .option-rules .ensures)))
 
 returns-2 : tie.Need-returns-2
 unfolding aOutcome
-returns-2 c = rw (← c .before .before .before .before .curve-faults .ensures) (passed _ (c .before .enum-told .given .1) (c .before .before .before .option-rule .ensures) (c .a-priced .ensures))
+returns-2 c = rw (let-through _ _ (c .before .enum-told .given .1) (rw (c .before .before .before .before .curve-faults .ensures) at (c .before .before .before .option-rules .ensures))) (c .a-priced .ensures)
 
 pub A-spec : {M : Type 1} → statement M
 A-spec =
     tie.close
     (tie.spec
     curve-faults-requires
-    option-rule-requires
-    enum-known-checked
+    option-rules-requires
+    enum-known-answer
     enum-told
     a-priced-requires
     returns

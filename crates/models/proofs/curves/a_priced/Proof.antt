@@ -1,12 +1,12 @@
 -- `models::a_priced` meets its contract: each factor is found or the call is refused by rule 8, and then the formula is worked. Assumes nothing.
 use borrow.Author.Needs.{needs}
 use Rattle.models.specs.Curves.{aPriced}
-use Rattle.models.proofs.Refusing.{at, missing}
+use Rattle.lists.proofs.Outcomes.{at, missing}
 use Rattle.models.proofs.curves.a_priced.Statement.{statement}
 use Rattle.models.proofs.curves.a_priced.Tie as tie
 
-factor-sorted-requires : tie.Need-factor-sorted-requires
-factor-sorted-requires c κs = search needs
+factor-requires : tie.Need-factor-requires
+factor-requires c κs = search needs
 
 enum-known-p-t : tie.Need-enum-known-p-t
 enum-known-p-t c = search needs
@@ -16,10 +16,10 @@ enum-told c = search needs
 
 returns : tie.Need-returns
 unfolding aPriced
-returns c = rw (missing _ (c .enum-told .given .1) (c .before .before .factor-sorted .ensures))
+returns c = rw (missing _ (c .enum-told .given .1) (c .before .before .factor .ensures))
 
-factor-sorted-requires-2 : tie.Need-factor-sorted-requires-2
-factor-sorted-requires-2 c κs = search needs
+factor-requires-2 : tie.Need-factor-requires-2
+factor-requires-2 c κs = search needs
 
 enum-known-p-bond : tie.Need-enum-known-p-bond
 enum-known-p-bond c = search needs
@@ -31,13 +31,13 @@ returns-2 : tie.Need-returns-2
 unfolding aPriced
 returns-2 c =
     let i = c .before .before .before .before in
-    rw (at _ (i .p-t .given .1) (i .before .before .factor-sorted .ensures), missing _ (c .enum-told2 .given .1) (c .before .before .factor-sorted2 .ensures))
+    rw (at _ (i .p-t .given .1) (i .before .before .factor .ensures), missing _ (c .enum-told2 .given .1) (c .before .before .factor2 .ensures))
 
 day-requires : tie.Need-day-requires
 day-requires c κs = search needs
 
-factor-sorted-requires-3 : tie.Need-factor-sorted-requires-3
-factor-sorted-requires-3 c κs = search needs
+factor-requires-3 : tie.Need-factor-requires-3
+factor-requires-3 c κs = search needs
 
 enum-known-p-plus : tie.Need-enum-known-p-plus
 enum-known-p-plus c = search needs
@@ -50,7 +50,7 @@ unfolding aPriced
 returns-3 c =
     let j = c .before .before .before .before .before in
     let i = j .before .before .before .before in
-    rw (at _ (i .p-t .given .1) (i .before .before .factor-sorted .ensures), at _ (j .p-bond .given .1) (j .before .before .factor-sorted2 .ensures), ← c .before .before .before .day .ensures, missing _ (c .enum-told3 .given .1) (c .before .before .factor-sorted3 .ensures))
+    rw (at _ (i .p-t .given .1) (i .before .before .factor .ensures), at _ (j .p-bond .given .1) (j .before .before .factor2 .ensures), ← c .before .before .before .day .ensures, missing _ (c .enum-told3 .given .1) (c .before .before .factor3 .ensures))
 
 b-of-requires : tie.Need-b-of-requires
 b-of-requires c κs = search needs
@@ -70,22 +70,22 @@ returns-4 c =
     let k = c .before .before .before .before .before in
     let j = k .before .before .before .before .before in
     let i = j .before .before .before .before in
-    rw (at _ (i .p-t .given .1) (i .before .before .factor-sorted .ensures), at _ (j .p-bond .given .1) (j .before .before .factor-sorted2 .ensures), ← k .before .before .before .day .ensures, at _ (k .p-plus .given .1) (k .before .before .factor-sorted3 .ensures), ← c .before .before .before .b-of .ensures, ← c .before .before .forward-of .ensures, ← c .before .a-of .ensures) (c .served .ensures)
+    rw (at _ (i .p-t .given .1) (i .before .before .factor .ensures), at _ (j .p-bond .given .1) (j .before .before .factor2 .ensures), ← k .before .before .before .day .ensures, at _ (k .p-plus .given .1) (k .before .before .factor3 .ensures), ← c .before .before .before .b-of .ensures, ← c .before .before .forward-of .ensures, ← c .before .a-of .ensures) (c .served .ensures)
 
 pub a-priced-spec : {M : Type 1} → statement M
 a-priced-spec =
     tie.close
     (tie.spec
-    factor-sorted-requires
+    factor-requires
     enum-known-p-t
     enum-told
     returns
-    factor-sorted-requires-2
+    factor-requires-2
     enum-known-p-bond
     enum-told-2
     returns-2
     day-requires
-    factor-sorted-requires-3
+    factor-requires-3
     enum-known-p-plus
     enum-told-3
     returns-3

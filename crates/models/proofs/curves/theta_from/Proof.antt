@@ -1,7 +1,7 @@
 -- `models::theta_from` meets its contract: the test of t against a day picks the third factor, which is found or refused by rule 8. Assumes nothing.
 use borrow.Author.Needs.{needs}
 use Rattle.models.specs.Curves.{thetaFrom}
-use Rattle.models.proofs.Refusing.{at, missing}
+use Rattle.lists.proofs.Outcomes.{at, missing}
 use Rattle.models.proofs.curves.theta_from.Statement.{statement}
 use Rattle.models.proofs.curves.theta_from.Tie as tie
 
@@ -11,8 +11,8 @@ day-requires c κs = search needs
 forward-of-requires : tie.Need-forward-of-requires
 forward-of-requires c κs = search needs
 
-factor-sorted-requires : tie.Need-factor-sorted-requires
-factor-sorted-requires c κs = search needs
+factor-requires : tie.Need-factor-requires
+factor-requires c κs = search needs
 
 enum-known-p-minus : tie.Need-enum-known-p-minus
 enum-known-p-minus c = search needs
@@ -24,7 +24,7 @@ returns : tie.Need-returns
 unfolding thetaFrom
 returns c =
     let e = c .before .before .before in
-    rw (← e .before .before .day .ensures, e .if1 .taken, missing _ (c .enum-told .given .1) (c .before .before .factor-sorted .ensures))
+    rw (← e .before .before .day .ensures, e .if1 .taken, missing _ (c .enum-told .given .1) (c .before .before .factor .ensures))
 
 forward-of-requires-2 : tie.Need-forward-of-requires-2
 forward-of-requires-2 c κs = search needs
@@ -41,8 +41,8 @@ served-requires c κs = search needs
 fused-requires : tie.Need-fused-requires
 fused-requires c κs = search needs
 
-factor-sorted-requires-2 : tie.Need-factor-sorted-requires-2
-factor-sorted-requires-2 c κs = search needs
+factor-requires-2 : tie.Need-factor-requires-2
+factor-requires-2 c κs = search needs
 
 enum-known-p-plus2 : tie.Need-enum-known-p-plus2
 enum-known-p-plus2 c = search needs
@@ -54,7 +54,7 @@ returns-2 : tie.Need-returns-2
 unfolding thetaFrom
 returns-2 c =
     let e = c .before .before .before .before in
-    rw (← e .before .before .day .ensures, e .if1 .left, ← c .before .before .before .fused .ensures, missing _ (c .enum-told2 .given .1) (c .before .before .factor-sorted2 .ensures))
+    rw (← e .before .before .day .ensures, e .if1 .left, ← c .before .before .before .fused .ensures, missing _ (c .enum-told2 .given .1) (c .before .before .factor2 .ensures))
 
 forward-of-requires-3 : tie.Need-forward-of-requires-3
 forward-of-requires-3 c κs = search needs
@@ -73,14 +73,14 @@ unfolding thetaFrom
 returns-3 c =
     let b = c .before .before .before .before .before in
     let e = b .before .before .before in
-    rw (← e .before .before .day .ensures, e .if1 .taken, at _ (b .p-minus .given .1) (b .before .before .factor-sorted .ensures), ← e .before .forward-of .ensures, ← c .before .before .before .forward-of2 .ensures, ← c .before .before .forward-slope-of .ensures, ← c .before .theta-of .ensures) (c .served .ensures)
+    rw (← e .before .before .day .ensures, e .if1 .taken, at _ (b .p-minus .given .1) (b .before .before .factor .ensures), ← e .before .forward-of .ensures, ← c .before .before .before .forward-of2 .ensures, ← c .before .before .forward-slope-of .ensures, ← c .before .theta-of .ensures) (c .served .ensures)
 
 returns-4 : tie.Need-returns-4
 unfolding thetaFrom
 returns-4 c =
     let b = c .before .before .before .before .before in
     let e = b .before .before .before .before in
-    rw (← e .before .before .day .ensures, e .if1 .left, ← b .before .before .before .fused .ensures, at _ (b .p-plus2 .given .1) (b .before .before .factor-sorted2 .ensures), ← e .before .forward-of .ensures, ← c .before .before .before .forward-of3 .ensures, ← c .before .before .forward-slope-of2 .ensures, ← c .before .theta-of2 .ensures) (c .served2 .ensures)
+    rw (← e .before .before .day .ensures, e .if1 .left, ← b .before .before .before .fused .ensures, at _ (b .p-plus2 .given .1) (b .before .before .factor2 .ensures), ← e .before .forward-of .ensures, ← c .before .before .before .forward-of3 .ensures, ← c .before .before .forward-slope-of2 .ensures, ← c .before .theta-of2 .ensures) (c .served2 .ensures)
 
 pub theta-from-spec : {M : Type 1} → statement M
 theta-from-spec =
@@ -88,7 +88,7 @@ theta-from-spec =
     (tie.spec
     day-requires
     forward-of-requires
-    factor-sorted-requires
+    factor-requires
     enum-known-p-minus
     enum-told
     returns
@@ -97,7 +97,7 @@ theta-from-spec =
     theta-of-requires
     served-requires
     fused-requires
-    factor-sorted-requires-2
+    factor-requires-2
     enum-known-p-plus2
     enum-told-2
     returns-2

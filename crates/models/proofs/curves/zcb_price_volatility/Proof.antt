@@ -3,18 +3,18 @@ use mathlib.Core.Path.{ap, _∙_}
 use borrow.Author.Needs.{needs}
 use Rattle.lists.specs.Refusals.{finishing}
 use Rattle.models.specs.Curves.{volatilityOutcome}
-use Rattle.models.proofs.Refusing.{turned-down, passed}
+use Rattle.lists.proofs.Outcomes.{turned-down, let-through}
 use Rattle.models.proofs.curves.zcb_price_volatility.Statement.{statement}
 use Rattle.models.proofs.curves.zcb_price_volatility.Tie as tie
 
 no-faults-requires : tie.Need-no-faults-requires
 no-faults-requires c κs = search needs
 
-option-rule-requires : tie.Need-option-rule-requires
-option-rule-requires c κs = search needs
+option-rules-requires : tie.Need-option-rules-requires
+option-rules-requires c κs = search needs
 
-enum-known-checked : tie.Need-enum-known-checked
-enum-known-checked c = search needs
+enum-known-answer : tie.Need-enum-known-answer
+enum-known-answer c = search needs
 
 enum-told : tie.Need-enum-told
 enum-told c = search needs
@@ -27,19 +27,19 @@ served-requires c κs = search needs
 
 returns : tie.Need-returns
 unfolding volatilityOutcome
-returns c = rw (← c .before .before .before .before .no-faults .ensures, ← c .before .before .before .option-rule .ensures, c .before .checked .given .1, turned-down)
+returns c = rw (turned-down _ _ (c .before .answer .given .1) (rw (c .before .before .before .before .no-faults .ensures) at (c .before .before .before .option-rules .ensures)))
 
 returns-2 : tie.Need-returns-2
 unfolding volatilityOutcome
-returns-2 c = rw (← c .before .before .before .before .before .no-faults .ensures) (passed _ (c .before .before .enum-told .given .1) (c .before .before .before .before .option-rule .ensures) (c .served .ensures ∙ ap finishing (c .before .volatility-of .ensures)))
+returns-2 c = rw (let-through _ _ (c .before .before .enum-told .given .1) (rw (c .before .before .before .before .before .no-faults .ensures) at (c .before .before .before .before .option-rules .ensures))) (c .served .ensures ∙ ap finishing (c .before .volatility-of .ensures))
 
 pub zcb-price-volatility-spec : {M : Type 1} → statement M
 zcb-price-volatility-spec =
     tie.close
     (tie.spec
     no-faults-requires
-    option-rule-requires
-    enum-known-checked
+    option-rules-requires
+    enum-known-answer
     enum-told
     volatility-of-requires
     served-requires

@@ -1,38 +1,37 @@
 -- `models::bond_option_on` meets its contract: turned down by its rules, or what `bond_option_priced` finds. Assumes nothing.
 use borrow.Author.Needs.{needs}
-use Rattle.models.specs.Rules.{optionRule}
 use Rattle.models.specs.Options.{bondOptionOutcome}
-use Rattle.models.proofs.Refusing.{turned-down, passed, rises}
+use Rattle.lists.proofs.Outcomes.{turned-down, let-through}
+use Rattle.models.proofs.Refusing.{rises}
 use Rattle.models.proofs.options.bond_option_on.Statement.{statement}
 use Rattle.models.proofs.options.bond_option_on.Tie as tie
 
-option-rule-requires : tie.Need-option-rule-requires
-option-rule-requires c κs = search needs
+option-rules-requires : tie.Need-option-rules-requires
+option-rules-requires c κs = search needs
 
-enum-known-checked : tie.Need-enum-known-checked
-enum-known-checked c = search needs
+enum-known-answer : tie.Need-enum-known-answer
+enum-known-answer c = search needs
 
 enum-told : tie.Need-enum-told
 enum-told c = search needs
 
 bond-option-priced-requires : tie.Need-bond-option-priced-requires
-unfolding optionRule
-bond-option-priced-requires c κs = rises _ _ _ _ _ _ _ _ _ _ (c .before .before .before .before .before .pre) (c .enum-told .given .1) (c .before .before .option-rule .ensures)
+bond-option-priced-requires c κs = rises _ _ _ _ _ (c .before .before .before .before .before .pre) (c .enum-told .given .1) (c .before .before .option-rules .ensures) (λ n. n .1 .1 .1 .0)
 
 returns : tie.Need-returns
 unfolding bondOptionOutcome
-returns c = rw (← c .before .before .before .before .before .before .pre, ← c .before .before .before .option-rule .ensures, c .before .checked .given .1, turned-down)
+returns c = rw (turned-down _ _ (c .before .answer .given .1) (rw (c .before .before .before .before .before .before .pre) at (c .before .before .before .option-rules .ensures)))
 
 returns-2 : tie.Need-returns-2
 unfolding bondOptionOutcome
-returns-2 c = rw (← c .before .before .before .before .before .before .pre) (passed _ (c .before .enum-told .given .1) (c .before .before .before .option-rule .ensures) (c .bond-option-priced .ensures))
+returns-2 c = rw (let-through _ _ (c .before .enum-told .given .1) (rw (c .before .before .before .before .before .before .pre) at (c .before .before .before .option-rules .ensures))) (c .bond-option-priced .ensures)
 
 pub bond-option-on-spec : {M : Type 1} → statement M
 bond-option-on-spec =
     tie.close
     (tie.spec
-    option-rule-requires
-    enum-known-checked
+    option-rules-requires
+    enum-known-answer
     enum-told
     bond-option-priced-requires
     returns

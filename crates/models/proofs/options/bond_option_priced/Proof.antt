@@ -1,12 +1,12 @@
 -- `models::bond_option_priced` meets its contract: each factor is found or the call is refused by rule 8, and then the formula is worked. Assumes nothing.
 use borrow.Author.Needs.{needs}
 use Rattle.models.specs.Options.{bondOptionPriced}
-use Rattle.models.proofs.Refusing.{at, missing}
+use Rattle.lists.proofs.Outcomes.{at, missing}
 use Rattle.models.proofs.options.bond_option_priced.Statement.{statement}
 use Rattle.models.proofs.options.bond_option_priced.Tie as tie
 
-factor-sorted-requires : tie.Need-factor-sorted-requires
-factor-sorted-requires c κs = search needs
+factor-requires : tie.Need-factor-requires
+factor-requires c κs = search needs
 
 enum-known-p-t : tie.Need-enum-known-p-t
 enum-known-p-t c = search needs
@@ -16,10 +16,10 @@ enum-told c = search needs
 
 returns : tie.Need-returns
 unfolding bondOptionPriced
-returns c = rw (missing _ (c .enum-told .given .1) (c .before .before .factor-sorted .ensures))
+returns c = rw (missing _ (c .enum-told .given .1) (c .before .before .factor .ensures))
 
-factor-sorted-requires-2 : tie.Need-factor-sorted-requires-2
-factor-sorted-requires-2 c κs = search needs
+factor-requires-2 : tie.Need-factor-requires-2
+factor-requires-2 c κs = search needs
 
 enum-known-p-bond : tie.Need-enum-known-p-bond
 enum-known-p-bond c = search needs
@@ -31,7 +31,7 @@ returns-2 : tie.Need-returns-2
 unfolding bondOptionPriced
 returns-2 c =
     let i = c .before .before .before .before in
-    rw (at _ (i .p-t .given .1) (i .before .before .factor-sorted .ensures), missing _ (c .enum-told2 .given .1) (c .before .before .factor-sorted2 .ensures))
+    rw (at _ (i .p-t .given .1) (i .before .before .factor .ensures), missing _ (c .enum-told2 .given .1) (c .before .before .factor2 .ensures))
 
 volatility-of-requires : tie.Need-volatility-of-requires
 volatility-of-requires c κs = search needs
@@ -47,17 +47,17 @@ unfolding bondOptionPriced
 returns-3 c =
     let j = c .before .before .before .before in
     let i = j .before .before .before .before in
-    rw (at _ (i .p-t .given .1) (i .before .before .factor-sorted .ensures), at _ (j .p-bond .given .1) (j .before .before .factor-sorted2 .ensures), ← c .before .before .volatility-of .ensures, ← c .before .bond-option .ensures) (c .served .ensures)
+    rw (at _ (i .p-t .given .1) (i .before .before .factor .ensures), at _ (j .p-bond .given .1) (j .before .before .factor2 .ensures), ← c .before .before .volatility-of .ensures, ← c .before .bond-option .ensures) (c .served .ensures)
 
 pub bond-option-priced-spec : {M : Type 1} → statement M
 bond-option-priced-spec =
     tie.close
     (tie.spec
-    factor-sorted-requires
+    factor-requires
     enum-known-p-t
     enum-told
     returns
-    factor-sorted-requires-2
+    factor-requires-2
     enum-known-p-bond
     enum-told-2
     returns-2

@@ -4,7 +4,7 @@ use Prim.Native.Nat.{_≤_, _-_}
 use borrow.Author.Needs.{needs}
 use lib.ListN.{length, drop}
 use Rattle.models.specs.Quotes.{annuityFrom, annuityPriced}
-use Rattle.models.proofs.Refusing.{at, missing}
+use Rattle.lists.proofs.Outcomes.{at, missing}
 use Rattle.models.proofs.Walks.{annuity-turn, annuity-off, annuity-short, annuity-end}
 use Rattle.models.proofs.quotes.annuity_priced.Statement.{statement}
 use Rattle.models.proofs.quotes.annuity_priced.Tie as tie
@@ -27,14 +27,14 @@ returns c =
     let e = c .before in
     c .served .ensures ∙ sym (annuity-short _ _ _ _ _ _ (e .before .loop-test .taken) (e .if1 .taken)) ∙ e .before .before .loop .inv .1
 
-mul-factor-sorted : tie.Need-mul-factor-sorted Inv-loop μ-loop
-mul-factor-sorted c = search needs
+mul-factor : tie.Need-mul-factor Inv-loop μ-loop
+mul-factor c = search needs
 
-shared-slice-read-factor-sorted : tie.Need-shared-slice-read-factor-sorted Inv-loop μ-loop
-shared-slice-read-factor-sorted c = search needs
+shared-slice-read-factor : tie.Need-shared-slice-read-factor Inv-loop μ-loop
+shared-slice-read-factor c = search needs
 
-factor-sorted-requires : tie.Need-factor-sorted-requires Inv-loop μ-loop
-factor-sorted-requires c κs = search needs
+factor-requires : tie.Need-factor-requires Inv-loop μ-loop
+factor-requires c κs = search needs
 
 enum-known-p : tie.Need-enum-known-p Inv-loop μ-loop
 enum-known-p c = search needs
@@ -45,7 +45,7 @@ enum-told c = search needs
 returns-2 : tie.Need-returns-2 Inv-loop μ-loop
 returns-2 c =
     let e = c .before .before .before .before in
-    sym (annuity-off _ _ _ _ _ _ (e .before .loop-test .taken) (e .if1 .left) (missing _ (c .enum-told .given .1) (c .before .before .factor-sorted .ensures))) ∙ e .before .before .loop .inv .1
+    sym (annuity-off _ _ _ _ _ _ (e .before .loop-test .taken) (e .if1 .left) (missing _ (c .enum-told .given .1) (c .before .before .factor .ensures))) ∙ e .before .before .loop .inv .1
 
 mul-annuity-step : tie.Need-mul-annuity-step Inv-loop μ-loop
 mul-annuity-step c = search needs
@@ -66,7 +66,7 @@ loop-again : tie.Need-loop-again Inv-loop μ-loop
 loop-again c =
     let b = c .before .before .before in
     let e = b .before .before .before .before in
-    (search needs, rw (c .annuity-step .ensures) (sym (annuity-turn _ _ _ _ _ _ (e .before .loop-test .taken) (e .if1 .left) (at _ (b .p .given .1) (b .before .before .factor-sorted .ensures))) ∙ e .before .before .loop .inv .1))
+    (search needs, rw (c .annuity-step .ensures) (sym (annuity-turn _ _ _ _ _ _ (e .before .loop-test .taken) (e .if1 .left) (at _ (b .p .given .1) (b .before .before .factor .ensures))) ∙ e .before .before .loop .inv .1))
 
 served-requires-2 : tie.Need-served-requires-2 Inv-loop μ-loop
 served-requires-2 c κs = search needs
@@ -83,9 +83,9 @@ annuity-priced-spec =
     loop-holds
     served-requires
     returns
-    mul-factor-sorted
-    shared-slice-read-factor-sorted
-    factor-sorted-requires
+    mul-factor
+    shared-slice-read-factor
+    factor-requires
     enum-known-p
     enum-told
     returns-2

@@ -3,15 +3,15 @@ use mathlib.Core.Path.{ap, _∙_}
 use borrow.Author.Needs.{needs}
 use Rattle.lists.specs.Refusals.{finishing}
 use Rattle.models.specs.Quotes.{bachelierCallOutcome}
-use Rattle.models.proofs.Refusing.{turned-down, passed}
+use Rattle.lists.proofs.Outcomes.{turned-down, let-through}
 use Rattle.models.proofs.quotes.bachelier_call.Statement.{statement}
 use Rattle.models.proofs.quotes.bachelier_call.Tie as tie
 
-quote-rule-requires : tie.Need-quote-rule-requires
-quote-rule-requires c κs = search needs
+quote-rules-requires : tie.Need-quote-rules-requires
+quote-rules-requires c κs = search needs
 
-enum-known-checked : tie.Need-enum-known-checked
-enum-known-checked c = search needs
+enum-known-answer : tie.Need-enum-known-answer
+enum-known-answer c = search needs
 
 enum-told : tie.Need-enum-told
 enum-told c = search needs
@@ -24,18 +24,18 @@ served-requires c κs = search needs
 
 returns : tie.Need-returns
 unfolding bachelierCallOutcome
-returns c = rw (← c .before .before .before .quote-rule .ensures, c .before .checked .given .1, turned-down)
+returns c = rw (turned-down _ _ (c .before .answer .given .1) (c .before .before .before .quote-rules .ensures))
 
 returns-2 : tie.Need-returns-2
 unfolding bachelierCallOutcome
-returns-2 c = passed _ (c .before .before .enum-told .given .1) (c .before .before .before .before .quote-rule .ensures) (c .served .ensures ∙ ap finishing (c .before .bachelier-call-of .ensures))
+returns-2 c = rw (let-through _ _ (c .before .before .enum-told .given .1) (c .before .before .before .before .quote-rules .ensures)) (c .served .ensures ∙ ap finishing (c .before .bachelier-call-of .ensures))
 
 pub bachelier-call-spec : {M : Type 1} → statement M
 bachelier-call-spec =
     tie.close
     (tie.spec
-    quote-rule-requires
-    enum-known-checked
+    quote-rules-requires
+    enum-known-answer
     enum-told
     bachelier-call-of-requires
     served-requires

@@ -1,15 +1,15 @@
 -- `models::d1_d2` meets its contract: turned down by its rules, or what `d1_d2_worked` finds. Assumes nothing.
 use borrow.Author.Needs.{needs}
 use Rattle.models.specs.Quotes.{d1d2Outcome}
-use Rattle.models.proofs.Refusing.{turned-down, passed}
+use Rattle.lists.proofs.Outcomes.{turned-down, let-through}
 use Rattle.models.proofs.quotes.d1_d2.Statement.{statement}
 use Rattle.models.proofs.quotes.d1_d2.Tie as tie
 
-quote-rule-requires : tie.Need-quote-rule-requires
-quote-rule-requires c κs = search needs
+quote-rules-requires : tie.Need-quote-rules-requires
+quote-rules-requires c κs = search needs
 
-enum-known-checked : tie.Need-enum-known-checked
-enum-known-checked c = search needs
+enum-known-answer : tie.Need-enum-known-answer
+enum-known-answer c = search needs
 
 enum-told : tie.Need-enum-told
 enum-told c = search needs
@@ -19,18 +19,18 @@ d1-d2-worked-requires c κs = search needs
 
 returns : tie.Need-returns
 unfolding d1d2Outcome
-returns c = rw (← c .before .before .before .quote-rule .ensures, c .before .checked .given .1, turned-down)
+returns c = rw (turned-down _ _ (c .before .answer .given .1) (c .before .before .before .quote-rules .ensures))
 
 returns-2 : tie.Need-returns-2
 unfolding d1d2Outcome
-returns-2 c = passed _ (c .before .enum-told .given .1) (c .before .before .before .quote-rule .ensures) (c .d1-d2-worked .ensures)
+returns-2 c = rw (let-through _ _ (c .before .enum-told .given .1) (c .before .before .before .quote-rules .ensures)) (c .d1-d2-worked .ensures)
 
 pub d1-d2-spec : {M : Type 1} → statement M
 d1-d2-spec =
     tie.close
     (tie.spec
-    quote-rule-requires
-    enum-known-checked
+    quote-rules-requires
+    enum-known-answer
     enum-told
     d1-d2-worked-requires
     returns

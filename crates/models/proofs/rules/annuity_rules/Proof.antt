@@ -1,15 +1,31 @@
--- `models::annuity_rule` meets its contract: whether each rule applies is what specs/ says, line by line. Assumes nothing.
+-- `models::annuity_rules` meets its contract: whether each rule applies is what specs/ says, line by line. Assumes nothing.
 use borrow.Author.Needs.{needs}
-use Rattle.models.specs.Rules.{annuityRule}
-use Rattle.models.proofs.rules.annuity_rule.Statement.{statement}
-use Rattle.models.proofs.rules.annuity_rule.Tie as tie
+use Rattle.lists.specs.Order.{inTurn, in-turn}
+use Rattle.models.proofs.rules.annuity_rules.Statement.{statement}
+use Rattle.models.proofs.rules.annuity_rules.Tie as tie
 
-first-rule-requires : tie.Need-first-rule-requires
-first-rule-requires c κs = search needs
+and-rule-requires : tie.Need-and-rule-requires
+and-rule-requires c κs = search needs
+
+and-rule-requires-2 : tie.Need-and-rule-requires-2
+and-rule-requires-2 c κs = search needs
+
+and-rule-requires-3 : tie.Need-and-rule-requires-3
+and-rule-requires-3 c κs = search needs
+
+and-rule-requires-4 : tie.Need-and-rule-requires-4
+and-rule-requires-4 c κs = search needs
 
 returns : tie.Need-returns
-unfolding annuityRule
-returns c = c .first-rule .ensures
+unfolding inTurn
+returns c = rw (← in-turn _) cc
 
-pub annuity-rule-spec : {M : Type 1} → statement M
-annuity-rule-spec = tie.close (tie.spec first-rule-requires returns)
+pub annuity-rules-spec : {M : Type 1} → statement M
+annuity-rules-spec =
+    tie.close
+    (tie.spec
+    and-rule-requires
+    and-rule-requires-2
+    and-rule-requires-3
+    and-rule-requires-4
+    returns)

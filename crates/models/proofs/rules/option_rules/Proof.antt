@@ -1,5 +1,4 @@
 -- `models::option_rules` meets its contract: whether each rule applies is what specs/ says, line by line. Assumes nothing.
-use mathlib.Core.Path.{_∙_}
 use borrow.Author.Needs.{needs}
 use Rattle.lists.specs.Order.{inTurn, in-turn}
 use Rattle.models.proofs.rules.option_rules.Statement.{statement}
@@ -40,7 +39,7 @@ and-rule-requires-6 c κs = search needs
 
 returns : tie.Need-returns
 unfolding inTurn
-returns c = cc ∙ in-turn _
+returns c = rw (← in-turn _) cc
 
 pub option-rules-spec : {M : Type 1} → statement M
 option-rules-spec =

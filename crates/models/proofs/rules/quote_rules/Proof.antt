@@ -1,8 +1,8 @@
--- `models::quote_rule` meets its contract: whether each rule applies is what specs/ says, line by line. Assumes nothing.
+-- `models::quote_rules` meets its contract: whether each rule applies is what specs/ says, line by line. Assumes nothing.
 use borrow.Author.Needs.{needs}
-use Rattle.models.specs.Rules.{quoteRule}
-use Rattle.models.proofs.rules.quote_rule.Statement.{statement}
-use Rattle.models.proofs.rules.quote_rule.Tie as tie
+use Rattle.lists.specs.Order.{inTurn, in-turn}
+use Rattle.models.proofs.rules.quote_rules.Statement.{statement}
+use Rattle.models.proofs.rules.quote_rules.Tie as tie
 
 is-finite-requires : tie.Need-is-finite-requires
 is-finite-requires c κs = search needs
@@ -16,22 +16,28 @@ is-finite-requires-3 c κs = search needs
 is-finite-requires-4 : tie.Need-is-finite-requires-4
 is-finite-requires-4 c κs = search needs
 
-first-rule-requires : tie.Need-first-rule-requires
-first-rule-requires c κs = search needs
+and-rule-requires : tie.Need-and-rule-requires
+and-rule-requires c κs = search needs
+
+and-rule-requires-2 : tie.Need-and-rule-requires-2
+and-rule-requires-2 c κs = search needs
+
+and-rule-requires-3 : tie.Need-and-rule-requires-3
+and-rule-requires-3 c κs = search needs
 
 returns : tie.Need-returns
-unfolding quoteRule
-returns c =
-    let f = c .before in
-    rw (← f .before .before .before .is-finite .ensures, ← f .before .before .is-finite2 .ensures, ← f .before .is-finite3 .ensures, ← f .is-finite4 .ensures) (c .first-rule .ensures)
+unfolding inTurn
+returns c = rw (← in-turn _) cc
 
-pub quote-rule-spec : {M : Type 1} → statement M
-quote-rule-spec =
+pub quote-rules-spec : {M : Type 1} → statement M
+quote-rules-spec =
     tie.close
     (tie.spec
     is-finite-requires
     is-finite-requires-2
     is-finite-requires-3
     is-finite-requires-4
-    first-rule-requires
+    and-rule-requires
+    and-rule-requires-2
+    and-rule-requires-3
     returns)

@@ -1,18 +1,43 @@
--- `models::volatility_rule` meets its contract: whether each rule applies is what specs/ says, line by line. Assumes nothing.
+-- `models::volatility_rules` meets its contract: whether each rule applies is what specs/ says, line by line. Assumes nothing.
 use borrow.Author.Needs.{needs}
-use Rattle.models.specs.Rules.{volatilityRule}
-use Rattle.models.proofs.rules.volatility_rule.Statement.{statement}
-use Rattle.models.proofs.rules.volatility_rule.Tie as tie
+use Rattle.lists.specs.Order.{inTurn, in-turn}
+use Rattle.models.proofs.rules.volatility_rules.Statement.{statement}
+use Rattle.models.proofs.rules.volatility_rules.Tie as tie
 
 is-finite-requires : tie.Need-is-finite-requires
 is-finite-requires c κs = search needs
 
-first-rule-requires : tie.Need-first-rule-requires
-first-rule-requires c κs = search needs
+and-rule-requires : tie.Need-and-rule-requires
+and-rule-requires c κs = search needs
+
+and-rule-requires-2 : tie.Need-and-rule-requires-2
+and-rule-requires-2 c κs = search needs
+
+and-rule-requires-3 : tie.Need-and-rule-requires-3
+and-rule-requires-3 c κs = search needs
+
+and-rule-requires-4 : tie.Need-and-rule-requires-4
+and-rule-requires-4 c κs = search needs
+
+and-rule-requires-5 : tie.Need-and-rule-requires-5
+and-rule-requires-5 c κs = search needs
+
+and-rule-requires-6 : tie.Need-and-rule-requires-6
+and-rule-requires-6 c κs = search needs
 
 returns : tie.Need-returns
-unfolding volatilityRule
-returns c = rw (← c .before .before .is-finite .ensures) (c .first-rule .ensures)
+unfolding inTurn
+returns c = rw (← in-turn _) cc
 
-pub volatility-rule-spec : {M : Type 1} → statement M
-volatility-rule-spec = tie.close (tie.spec is-finite-requires first-rule-requires returns)
+pub volatility-rules-spec : {M : Type 1} → statement M
+volatility-rules-spec =
+    tie.close
+    (tie.spec
+    is-finite-requires
+    and-rule-requires
+    and-rule-requires-2
+    and-rule-requires-3
+    and-rule-requires-4
+    and-rule-requires-5
+    and-rule-requires-6
+    returns)

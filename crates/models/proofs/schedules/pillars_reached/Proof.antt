@@ -1,15 +1,15 @@
 -- `models::pillars_reached` meets its contract: an empty part where the volatility is refused, else the part that `lists::reached` hands back. Assumes nothing.
 use borrow.Author.Needs.{needs}
-use Rattle.models.specs.Schedules.{reachedOf}
-use Rattle.models.proofs.Refusing.{left-out, part-passed}
+use Rattle.models.specs.Schedules.{reachedOutcome}
+use Rattle.lists.proofs.Outcomes.{turned-down, let-through}
 use Rattle.models.proofs.schedules.pillars_reached.Statement.{statement}
 use Rattle.models.proofs.schedules.pillars_reached.Tie as tie
 
 pillar-faults-requires : tie.Need-pillar-faults-requires
 pillar-faults-requires c κs = search needs
 
-volatility-rule-requires : tie.Need-volatility-rule-requires
-volatility-rule-requires c κs = search needs
+volatility-rules-requires : tie.Need-volatility-rules-requires
+volatility-rules-requires c κs = search needs
 
 enum-told : tie.Need-enum-told
 enum-told c = search needs
@@ -24,19 +24,19 @@ reached-requires : tie.Need-reached-requires
 reached-requires c κs = search needs
 
 returns : tie.Need-returns
-unfolding reachedOf
-returns c = rw (← c .before .before .before .before .pillar-faults .ensures, ← c .before .before .before .volatility-rule .ensures, c .before .enum-told .given .1, left-out)
+unfolding reachedOutcome
+returns c = rw (turned-down _ _ (c .before .enum-told .given .1) (rw (c .before .before .before .before .pillar-faults .ensures) at (c .before .before .before .volatility-rules .ensures)))
 
 returns-2 : tie.Need-returns-2
-unfolding reachedOf
-returns-2 c = rw (← c .before .before .before .before .pillar-faults .ensures) (part-passed _ (c .before .enum-told2 .given .1) (c .before .before .before .volatility-rule .ensures) (c .reached .ensures))
+unfolding reachedOutcome
+returns-2 c = rw (let-through _ _ (c .before .enum-told2 .given .1) (rw (c .before .before .before .before .pillar-faults .ensures) at (c .before .before .before .volatility-rules .ensures))) (c .reached .ensures)
 
 pub pillars-reached-spec : {M : Type 1} → statement M
 pillars-reached-spec =
     tie.close
     (tie.spec
     pillar-faults-requires
-    volatility-rule-requires
+    volatility-rules-requires
     enum-told
     slice-aggregate-result
     enum-told-2

@@ -1,7 +1,7 @@
 -- `models::volatility_found` meets its contract: the volatility that is found, or rule 7. Assumes nothing.
 use borrow.Author.Needs.{needs}
 use Rattle.models.specs.Schedules.{volatilityFound}
-use Rattle.models.proofs.Refusing.{at, missing}
+use Rattle.lists.proofs.Outcomes.{at, missing}
 use Rattle.models.proofs.schedules.volatility_found.Statement.{statement}
 use Rattle.models.proofs.schedules.volatility_found.Tie as tie
 
