@@ -1,10 +1,12 @@
 -- For calls that end in a search: rules and lookups refuse by 1 to 8 alone, so whatever a call comes to beyond those, its search was begun; and by what the search comes to the call is served or refused.
 use mathlib.Core.Path.{_≡_, refl, sym, ap, _∙_, subst}
-use mathlib.Core.Logic.{_⊎_, inl, inr}
-use mathlib.Core.Bool.{Bool, true, false, not, _&&_}
+use mathlib.Core.Logic.{_⊎_, inl, inr, ⊎-elim}
+use mathlib.Core.Bool.{Bool, true, false, not, _&&_, cond}
 use mathlib.Core.List.{List, [], _∷_}
 use Prim.Native.Nat.{ℕ}
 use native.Mathlib.Omega.{arith}
+use types.Run.{OneOf}
+use denote.Enum.Declared.{tagOf}
 use lib.Dec.{T, ltb}
 use lib.Ieee.{Float}
 use lib.Ieee.Fits.{and-l, and-r}
@@ -15,11 +17,13 @@ use Rattle.lists.specs.declared.refusals.Answer.the-variants as A
 use Rattle.lists.specs.Refusals.{Outcome, served, refused, numberOf, answerNumber, answerOf, Rule, firstOf, after, unless, following}
 use Rattle.lists.specs.Order.{First, first-applies}
 use Rattle.lists.specs.Lookups.{Maybe, just, nothing, needing}
-use Rattle.lists.proofs.Outcomes.{not-both}
+use Rattle.lists.proofs.Outcomes.{not-both, served-is}
+use Rattle.search.specs.declared.Critical.{Critical}
 use Rattle.search.specs.Rate.{criticalOf}
 use Rattle.search.specs.Values.{Values, criticalOutcome}
 use Rattle.search.specs.Reached.{Unbracketed}
 use Rattle.search.specs.Facts.{Located}
+use Rattle.search.proofs.Critical as made
 use Rattle.search.proofs.Demand3.{accepted}
 use Rattle.search.proofs.Reaching.{exactly}
 
@@ -120,3 +124,24 @@ module _ {B : Type 0} (sum : Float → Float) (rest : Values → Outcome B) wher
       go : (x : Outcome Values) → answerOf x ≡ A.Refused R.NoBracket → following x rest ≡ refused R.NoBracket
       go (served v) p = absurd (let z = ap answerNumber p in omega arith)
       go (refused q) p = let e : q ≡ R.NoBracket = cc in ap refused e
+
+-- ---- rule 13, asked last of all, refuses by 13 alone
+pub ends-so : {B : Type 0} (b : Bool) (w : B) {v : B} → cond b (served w) (refused R.Overflow) ≡ served v → w ≡ v
+ends-so true w e = served-is e
+ends-so false w e = absurd (not-both e)
+
+pub ends-otherwise : {B : Type 0} (b : Bool) (w : B) → cond b (served w) (refused R.Overflow) ≡ refused R.NoBracket → ⊥
+ends-otherwise true w e = not-both (sym e)
+ends-otherwise false w e = let z = ap (λ x. answerNumber (answerOf x)) e in omega arith
+
+-- ---- of an answer that the code took apart: neither 1, `NotANumber`, nor 0, `Found`, it is `NoBracket`
+abbrev tag : Critical → ℕ
+tag r = tagOf made.the-type r
+
+neither : {B : Type 0} (a b n : ℕ) → (n ≡ a → ⊥) → (n ≡ b → ⊥) → (n ≡ a) ⊎ (n ≡ b) → B
+neither a b n h k x = absurd (⊎-elim h k x)
+
+pub nothing-found : (r : Critical) → OneOf (0 ∷ 2 ∷ []) (tag r) → OneOf (1 ∷ 2 ∷ []) (tag r) → r ≡ Critical.NoBracket
+nothing-found (Critical.Found b i j rate) x y = neither 1 2 0 (λ e. omega arith) (λ e. omega arith) y
+nothing-found Critical.NotANumber x y = neither 0 2 1 (λ e. omega arith) (λ e. omega arith) x
+nothing-found Critical.NoBracket x y = refl
