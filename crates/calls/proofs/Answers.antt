@@ -7,8 +7,8 @@ use borrow.Author.Tests.{lt-ltb, le-ltb, ltb-false}
 use lib.Dec.{ltb, eqb}
 use lib.ListN.{take, drop}
 use lib.Ieee.{Float}
-use Rattle.lists.specs.Refusals.{Outcome}
-use Rattle.paths.specs.Written.{numberOfList, storedOf}
+use Rattle.lists.specs.Refusals.{Outcome, answerNumber, answerOf}
+use Rattle.paths.specs.Written.{storedOf}
 use Rattle.calls.specs.declared.record.Record.{Record}
 use Rattle.calls.specs.Match.{holdsOf}
 use Rattle.calls.specs.Store.{hasOf, partOf}
@@ -18,7 +18,7 @@ use Rattle.calls.specs.Agree.{tellsOf, writesOf, namesOf, malformedOf, o
 module _ (r : Record) (store : List Float) where
   pub wrote :
       (o p : Outcome (List Float)) (out exit part : List Float) (n : ℕ) (has holds : Bool) →
-      p ≡ o → n ≡ numberOfList p → exit ≡ storedOf p (take (r .room) out) → has ≡ hasOf store (r .first) →
+      p ≡ o → n ≡ answerNumber (answerOf p) → exit ≡ storedOf p (take (r .room) out) → has ≡ hasOf store (r .first) →
       part ≡ partOf store (r .first) → holds ≡ holdsOf (exit ++ drop (r .room) out) part →
       eqb n (r .answer) && has && holds ≡ writesOf o r store out
   wrote o p out exit part n has holds e a b c d f = rw (f, d, c, b, a, e)

@@ -5,9 +5,9 @@ use mathlib.Core.List.{List, _++_}
 use lib.Dec.{ltb, eqb}
 use lib.ListN.{length, take, drop, replicate}
 use lib.Ieee.{Float}
-use Rattle.lists.specs.Refusals.{Outcome, served, refused, toldOutcome}
+use Rattle.lists.specs.Refusals.{Outcome, served, refused, numberOf, answerNumber, answerOf, toldOutcome}
 use Rattle.models.specs.Quotes.{Two}
-use Rattle.paths.specs.Written.{numberOfList, storedOf}
+use Rattle.paths.specs.Written.{storedOf}
 use Rattle.calls.specs.declared.record.Record.{Record}
 use Rattle.calls.specs.Match.{matchesOf, untouched, holdsOf}
 use Rattle.calls.specs.Store.{hasOf, partOf}
@@ -20,7 +20,7 @@ tellsOf o r = eqb (toldOutcome o .answer) (r .answer) && matchesOf (toldOutcome 
 -- two values
 abbrev pub tellsBothOf : Outcome Two → Record → Bool
 tellsBothOf (served two) r = eqb (r .answer) 0 && matchesOf (two .first) (r .first) && matchesOf (two .second) (r .second)
-tellsBothOf (refused n) r = eqb n (r .answer) && eqb (r .first) 0 && eqb (r .second) 0
+tellsBothOf (refused q) r = eqb (numberOf q) (r .answer) && eqb (r .first) 0 && eqb (r .second) 0
 
 -- a part of the caller's list
 abbrev pub reachesOf : List Float → Record → List Float → Bool
@@ -33,7 +33,7 @@ output = replicate 1026 untouched
 -- a list written to the first places of an output, as many as the record lends
 abbrev pub writesOf : Outcome (List Float) → Record → List Float → List Float → Bool
 writesOf o r store out =
-    eqb (numberOfList o) (r .answer)
+    eqb (answerNumber (answerOf o)) (r .answer)
     && hasOf store (r .first)
     && holdsOf (storedOf o (take (r .room) out) ++ drop (r .room) out) (partOf store (r .first))
 

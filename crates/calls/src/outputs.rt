@@ -2,25 +2,25 @@
 ghost use mathlib.Core.Path.{_≡_};
 ghost use Prim.Native.Nat.{_≤_};
 ghost use lib.ListN.{length, drop};
-ghost use Rattle.paths.specs.Written.{writtenNumber};
+ghost use Rattle.lists.specs.Refusals.{answerNumber};
 ghost use Rattle.calls.specs.Match.{expectedFirst, holdsOf};
 ghost use Rattle.calls.specs.Calls.{transitionCall, generateCall};
 ghost use Rattle.calls.specs.Agree.{output, writesOf};
 use crate::record::Record;
 use crate::store;
 use crate::value;
-use paths::Written;
+use lists::Answer;
 
 // Every place of an output before a call.
 const UNTOUCHED: f64 = -7.25;
 
 // Document 01's number of an answer.
-fn number(written: Written) -> u64
-    ensures { λ r. ⌜ r ≡ writtenNumber written ⌝ }
+fn number(answer: Answer) -> u64
+    ensures { λ r. ⌜ r ≡ answerNumber answer ⌝ }
 {
-    match written {
-        Written::Served => 0,
-        Written::Refused(refusal) => lists::number(refusal),
+    match answer {
+        Answer::Served => 0,
+        Answer::Refused(refusal) => lists::number(refusal),
     }
 }
 
@@ -71,7 +71,7 @@ fn transitions(r: Record, s: &[f64], out: &mut [f64]) -> bool
     ensures { λ ok. ⌜ ok ≡ writesOf (transitionCall r (now (s .entry)) (r .room)) r (now (s .entry)) (now (out .entry)) ⌝ }
 {
     let room = r.room as usize;
-    let written = paths::transition_variances(
+    let answer = paths::transition_variances(
         value::float_of(r.a),
         store::part(s, r.pillars),
         store::part(s, r.sigmas),
@@ -79,7 +79,7 @@ fn transitions(r: Record, s: &[f64], out: &mut [f64]) -> bool
         value::float_of(r.c),
         &mut out[..room],
     );
-    (number(written) == r.answer) & store::has(s, r.first) & holds(out, store::part(s, r.first))
+    (number(answer) == r.answer) & store::has(s, r.first) & holds(out, store::part(s, r.first))
 }
 
 // A path into the front of the output.
@@ -88,7 +88,7 @@ fn path(r: Record, s: &[f64], out: &mut [f64]) -> bool
     ensures { λ ok. ⌜ ok ≡ writesOf (generateCall r (now (s .entry)) (r .room)) r (now (s .entry)) (now (out .entry)) ⌝ }
 {
     let room = r.room as usize;
-    let written = paths::generate(
+    let answer = paths::generate(
         value::float_of(r.a),
         store::part(s, r.pillars),
         store::part(s, r.sigmas),
@@ -98,5 +98,5 @@ fn path(r: Record, s: &[f64], out: &mut [f64]) -> bool
         store::part(s, r.draws),
         &mut out[..room],
     );
-    (number(written) == r.answer) & store::has(s, r.first) & holds(out, store::part(s, r.first))
+    (number(answer) == r.answer) & store::has(s, r.first) & holds(out, store::part(s, r.first))
 }

@@ -1,8 +1,9 @@
 -- `calls::outputs::path` meets its contract: the answer's number, and what the output holds, are those of the call. Assumes nothing.
-use mathlib.Core.Path.{_≡_, sym, _∙_}
+use mathlib.Core.Path.{_≡_, sym, ap, _∙_}
 use denote.Ref.{now}
 use lib.ListN.{length, take}
 use lib.Seq.{length-take-le}
+use Rattle.lists.specs.Refusals.{answerNumber}
 use Rattle.paths.specs.Generate.{generateOutcome}
 use Rattle.calls.specs.Calls.{generateCall}
 use Rattle.calls.proofs.Answers.{wrote}
@@ -61,7 +62,7 @@ returns c =
     let w = c .before .before .before .before .before .before .before .before in
     let e : generateOutcome (w .before .before .before .before .before .before .before .before .float-of .result) (now (w .before .before .before .before .before .before .before .part .result)) (now (w .before .before .before .before .before .before .part2 .result)) (now (w .before .before .before .before .before .part3 .result)) (now (w .before .before .before .before .part4 .result)) (now (w .before .before .before .part5 .result)) (now (w .before .before .part6 .result)) (length (take (a .r .room) (now (a .out)))) ≡ generateCall (a .r) (now (a .s)) (a .r .room) =
     rw (w .before .before .before .before .before .before .before .before .float-of .ensures, w .before .before .before .before .before .before .before .part .ensures, w .before .before .before .before .before .before .part2 .ensures, w .before .before .before .before .before .part3 .ensures, w .before .before .before .before .part4 .ensures, w .before .before .before .part5 .ensures, w .before .before .part6 .ensures, length-take-le (a .r .room) (now (a .out)) (c .before .before .before .before .before .before .before .before .before .before .before .before .before .before .before .before .before .before .before .pre)) in
-    wrote (a .r) (now (a .s)) _ _ (now (a .out)) _ _ _ _ _ e (c .before .before .before .before .before .number .ensures ∙ w .generate .ensures .0) (w .generate .ensures .1) (c .before .before .before .has .ensures) (c .before .part7 .ensures) (c .holds .ensures)
+    wrote (a .r) (now (a .s)) _ _ (now (a .out)) _ _ _ _ _ e (c .before .before .before .before .before .number .ensures ∙ ap answerNumber (w .generate .ensures .0)) (w .generate .ensures .1) (c .before .before .before .has .ensures) (c .before .part7 .ensures) (c .holds .ensures)
 
 pub path-spec : {M : Type 1} → statement M
 path-spec =
