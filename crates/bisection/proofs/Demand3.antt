@@ -131,6 +131,24 @@ module _ (f : Float → Outcome Float) where
           one (inl z) = served-at z p
           one (inr t) = ih (movedTo e (mid e) v) fit (sym (halving-away f made e left p q) ∙ h) s t
 
+  -- ---- the sigma returned was tried
+  last-tried : (left made : ℕ) (e : Ends) (fit : Fit) → halvingsFrom f left made e ≡ served fit → List·Memᴰ (fit .sigma) (triedFrom f left e)
+  last-tried zero made e fit h = go (met f e)
+    where
+      here : (v : Float) → residualAt f (mid e) ≡ served v → List·Memᴰ (fit .sigma) (triedFrom f zero e)
+      here v p = member (sym (tried-last f e)) (List·Memᴰ·head (ap (λ (x : Fit). x .sigma) (served-is (sym h ∙ last-served f made e p))))
+
+      go : Met f e → List·Memᴰ (fit .sigma) (triedFrom f zero e)
+      go (stopped r p) = absurd (not-both (sym (last-stopped f made e p) ∙ h))
+      go (close v p q) = here v p
+      go (away v p q) = here v p
+  last-tried (suc left) made e fit h = go (last-tried left (suc made)) (met f e)
+    where
+      go : ((e : Ends) (fit : Fit) → halvingsFrom f left (suc made) e ≡ served fit → List·Memᴰ (fit .sigma) (triedFrom f left e)) → Met f e → List·Memᴰ (fit .sigma) (triedFrom f (suc left) e)
+      go ih (stopped r p) = absurd (not-both (sym (halving-stopped f made e left p) ∙ h))
+      go ih (close v p q) = member (sym (tried-close f e left p q)) (List·Memᴰ·head (ap (λ (x : Fit). x .sigma) (served-is (sym h ∙ halving-close f made e left p q))))
+      go ih (away v p q) = member (sym (tried-away f e left p q)) (List·Memᴰ·tail (ih (movedTo e (mid e) v) fit (sym (halving-away f made e left p q) ∙ h)))
+
   -- ---- refused for want of a bracket: so was the last sigma tried
   record Wanting (xs : List Float) : Type 0 where
     sigma : Float
@@ -198,7 +216,9 @@ module _ (f : Float → Outcome Float) where
             at-low = x .kept .at-low .there;
             at-high = x .kept .at-high .there;
             signs = x .kept .signs;
+            order = halving-law .between (halving-law .volatility-start) (x .kept .halved) .order;
             middle = x .middle;
+            tried = member (sym (tried-apart f p q s)) (List·Memᴰ·tail (List·Memᴰ·tail (last-tried 200 0 (endsOf a b) fit (sym (solve-apart f p q s) ∙ h))));
             root = x .root;
             every = λ sigma m. first sigma (List·Memᴰ·cases-cons (member (tried-apart f p q s) m));
           }

@@ -2,10 +2,10 @@
 use mathlib.Core.Path.{_≡_}
 use mathlib.Core.Logic.{_⊎_, _↔_}
 use mathlib.Core.Bool.{true, false, not}
-use mathlib.Core.List.{List, List·Memᴰ}
+use mathlib.Core.List.{List·Memᴰ}
 use Prim.Native.Nat.{ℕ, suc, _≤_}
 use lib.Dec.{T}
-use lib.Ieee.{Float, binary64, isNan}
+use lib.Ieee.{Float, binary64, isNan, le}
 use Rattle.elementary.specs.Simple.{midpointOf}
 use Rattle.lists.specs.declared.refusals.Refusal.the-variants as R
 use Rattle.lists.specs.Refusals.{Outcome, served, refused}
@@ -43,7 +43,10 @@ pub record Assured (f : Float → Outcome Float) (fit : Fit) : Type 0 where
   pub at-low : f (fit .ends .low) ≡ served (fit .ends .«low_residual»)
   pub at-high : f (fit .ends .high) ≡ served (fit .ends .«high_residual»)
   pub signs : T (not (sameSign (fit .ends .«low_residual») (fit .ends .«high_residual»)))
+  -- the ends are in order, and sigma is their midpoint, the last sigma tried
+  pub order : T (le (fit .ends .low) (fit .ends .high))
   pub middle : fit .sigma ≡ midpointOf (fit .ends .low) (fit .ends .high)
+  pub tried : List·Memᴰ (fit .sigma) (triedOf f)
   pub root : Converged fit ⊎ Unconverged fit
   -- "at every sigma a fit tries" the objective was served
   pub every : (sigma : Float) → List·Memᴰ sigma (triedOf f) → Served f sigma
