@@ -3,7 +3,7 @@
 ghost use mathlib.Core.Path.{_≡_};
 ghost use mathlib.Core.List.{[]};
 ghost use Rattle.lists.specs.Refusals.{outcomeOf, valueOr};
-ghost use Rattle.models.specs.Schedules.{volatilityFound, volatilityOutcome, reachedOutcome, varianceOutcome};
+ghost use Rattle.models.specs.Schedules.{volatilityFound, volatilityOutcome, reachedOutcome, SameAnswer, varianceOutcome};
 use super::rules;
 use lists::Answer;
 use lists::Found;
@@ -33,7 +33,8 @@ fn volatility_found(times: &[f64], sigmas: &[f64], t: f64) -> Price
 // The pillar times at or before t, as a part of the caller's own list; none where the call is refused,
 // and its number is then that of `volatility` (docs/DECISIONS.md).
 pub fn pillars_reached<'a>(times: &'a [f64], sigmas: &[f64], t: f64) -> &'a [f64]
-    ensures { λ r. ⌜ now r ≡ valueOr [] (reachedOutcome (now (times .entry)) (now (sigmas .entry)) t) ⌝ }
+    ensures part { λ r. ⌜ now r ≡ valueOr [] (reachedOutcome (now (times .entry)) (now (sigmas .entry)) t) ⌝ }
+    ensures answer { λ _. ⌜ SameAnswer (now (times .entry)) (now (sigmas .entry)) t ⌝ }
 {
     let pillars = lists::pillar_faults(times, sigmas);
     let answer = rules::volatility_rules(pillars, times.len() == 0, t);

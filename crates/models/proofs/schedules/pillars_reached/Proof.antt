@@ -2,6 +2,7 @@
 use borrow.Author.Needs.{needs}
 use Rattle.models.specs.Schedules.{reachedOutcome}
 use Rattle.lists.proofs.Outcomes.{turned-down, let-through}
+use Rattle.models.proofs.Reached.{reached-answer}
 use Rattle.models.proofs.schedules.pillars_reached.Statement.{statement}
 use Rattle.models.proofs.schedules.pillars_reached.Tie as tie
 
@@ -25,11 +26,11 @@ reached-requires c κs = search needs
 
 returns : tie.Need-returns
 unfolding reachedOutcome
-returns c = rw (turned-down _ _ (c .before .enum-told .given .1) (rw (c .before .before .before .before .pillar-faults .ensures) at (c .before .before .before .volatility-rules .ensures)))
+returns c = (rw (turned-down _ _ (c .before .enum-told .given .1) (rw (c .before .before .before .before .pillar-faults .ensures) at (c .before .before .before .volatility-rules .ensures))), reached-answer _ _ _)
 
 returns-2 : tie.Need-returns-2
 unfolding reachedOutcome
-returns-2 c = rw (let-through _ _ (c .before .enum-told2 .given .1) (rw (c .before .before .before .before .pillar-faults .ensures) at (c .before .before .before .volatility-rules .ensures))) (c .reached .ensures)
+returns-2 c = (rw (let-through _ _ (c .before .enum-told2 .given .1) (rw (c .before .before .before .before .pillar-faults .ensures) at (c .before .before .before .volatility-rules .ensures))) (c .reached .ensures), reached-answer _ _ _)
 
 pub pillars-reached-spec : {M : Type 1} → statement M
 pillars-reached-spec =
