@@ -121,6 +121,6 @@ module _ (alpha : Float) (ts fs payments accruals : List Float) (strike t sigma 
     unfolding sum
     refused-so = (
       λ e. let s = searches (refused R.NoBracket) tt (sym is ∙ e) (coupons-there (length payments) (modelPriced alpha ts fs payments accruals strike t sigma)) in
-        record { begun = s .begun; unbracketed = unbracketed alpha payments accruals strike t sigma (s .begun .pt) (s .begun .pPlus) (s .begun .ps) (s .goes-on) },
+          record { begun = s .begun; unbracketed = unbracketed alpha payments accruals strike t sigma (s .begun .pt) (s .begun .pPlus) (s .begun .ps) (s .goes-on) },
       λ w. is ∙ begins (w .begun) ∙ bracket-wanted alpha payments accruals strike t sigma (w .begun .pt) (w .begun .pPlus) (w .begun .ps) (w .unbracketed),
     )
