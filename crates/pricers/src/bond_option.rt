@@ -1,5 +1,6 @@
 // bond_option: the option on one coupon's bond, at its intrinsic value where it hardly moves.
 ghost use mathlib.Core.Path.{_≡_};
+ghost use Rattle.probability.specs.NormCdf.{normCdfDualOf};
 ghost use Rattle.pricers.specs.BondOption.{intrinsicOf, positiveOf, d1Of, movingOf, bondOptionOf};
 
 pub enum SwaptionType {
@@ -29,20 +30,22 @@ fn d1(volatility: f64, strike_value: f64, bond_df: f64) -> f64
     (elementary::ln(bond_df / strike_value) + volatility * volatility * 0.5) / volatility
 }
 
-// The option where the bond moves, by the DualFwd normal function.
+// The DualFwd normal function, which is not that of plain f64.
+fn normal(x: f64) -> f64
+    ensures { λ r. ⌜ r ≡ normCdfDualOf x ⌝ }
+{
+    probability::norm_cdf_dual(x)
+}
+
+// The option where the bond moves.
 fn moving(option: SwaptionType, volatility: f64, strike_value: f64, bond_df: f64) -> f64
     ensures { λ r. ⌜ r ≡ movingOf option volatility «strike_value» «bond_df» ⌝ }
 {
     let d1 = d1(volatility, strike_value, bond_df);
     let d2 = d1 - volatility;
     match option {
-        SwaptionType::Payer => {
-            strike_value * probability::norm_cdf_dual(-d2)
-                - bond_df * probability::norm_cdf_dual(-d1)
-        }
-        SwaptionType::Receiver => {
-            bond_df * probability::norm_cdf_dual(d1) - strike_value * probability::norm_cdf_dual(d2)
-        }
+        SwaptionType::Payer => strike_value * normal(-d2) - bond_df * normal(-d1),
+        SwaptionType::Receiver => bond_df * normal(d1) - strike_value * normal(d2),
     }
 }
 

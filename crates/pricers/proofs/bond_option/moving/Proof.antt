@@ -10,20 +10,20 @@ d1-requires c κs = search needs
 enum-told : tie.Need-enum-told
 enum-told c = search needs
 
-norm-cdf-dual-requires : tie.Need-norm-cdf-dual-requires
-norm-cdf-dual-requires c κs = search needs
+normal-requires : tie.Need-normal-requires
+normal-requires c κs = search needs
 
-norm-cdf-dual-requires-2 : tie.Need-norm-cdf-dual-requires-2
-norm-cdf-dual-requires-2 c κs = search needs
+normal-requires-2 : tie.Need-normal-requires-2
+normal-requires-2 c κs = search needs
 
 enum-told-2 : tie.Need-enum-told-2
 enum-told-2 c = search needs
 
-norm-cdf-dual-requires-3 : tie.Need-norm-cdf-dual-requires-3
-norm-cdf-dual-requires-3 c κs = search needs
+normal-requires-3 : tie.Need-normal-requires-3
+normal-requires-3 c κs = search needs
 
-norm-cdf-dual-requires-4 : tie.Need-norm-cdf-dual-requires-4
-norm-cdf-dual-requires-4 c κs = search needs
+normal-requires-4 : tie.Need-normal-requires-4
+normal-requires-4 c κs = search needs
 
 returns : tie.Need-returns
 unfolding movingOf
@@ -39,10 +39,10 @@ moving-spec =
     (tie.spec
     d1-requires
     enum-told
-    norm-cdf-dual-requires
-    norm-cdf-dual-requires-2
+    normal-requires
+    normal-requires-2
     enum-told-2
-    norm-cdf-dual-requires-3
-    norm-cdf-dual-requires-4
+    normal-requires-3
+    normal-requires-4
     returns
     returns-2)

@@ -36,7 +36,8 @@ and-rule-requires-6 c κs = search needs
 
 returns : tie.Need-returns
 unfolding inTurn
-returns c = rw (← in-turn _) cc
+returns c =
+    rw (← in-turn _, ← c .before .before .before .before .before .before .before .before .before .before .before .before .before .before .is-finite .ensures, ← c .before .before .before .before .before .before .before .before .before .before .before .before .before .is-finite2 .ensures, ← c .before .before .before .before .before .before .before .before .before .before .before .before .is-finite3 .ensures, ← c .before .before .before .before .before .before .before .before .before .before .before .is-finite4 .ensures, ← c .before .before .before .before .before .before .before .before .and-rule .ensures, ← c .before .before .before .before .before .and-rule2 .ensures, ← c .before .before .before .before .and-rule3 .ensures, ← c .before .before .before .and-rule4 .ensures, ← c .before .before .and-rule5 .ensures) (c .and-rule6 .ensures)
 
 pub model-rules-spec : {M : Type 1} → statement M
 model-rules-spec =
