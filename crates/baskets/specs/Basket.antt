@@ -14,9 +14,9 @@ use Rattle.lists.specs.declared.refusals.Refusal.the-variants as R
 use Rattle.lists.specs.Refusals.{Outcome, served, refused, unless, following}
 use Rattle.bisection.specs.declared.result.Fit.{Fit}
 use Rattle.calibration.specs.Fits.{capletFitted}
-use Rattle.baskets.specs.declared.basket.Basket.{Basket}
-use Rattle.baskets.specs.declared.basket.Baskets.{Baskets}
-use Rattle.baskets.specs.declared.basket.Baskets.the-variants as B
+use Rattle.baskets.specs.declared.call.Basket.{Basket}
+use Rattle.baskets.specs.declared.call.BasketFitted.{BasketFitted}
+use Rattle.baskets.specs.declared.call.BasketFitted.the-variants as B
 use Rattle.baskets.specs.Entries.{Entry, entriesOf, rulesOn}
 
 -- ---- one entry
@@ -100,7 +100,7 @@ basketFrom n rs bs = record {
   «bumped_statuses» = padded (bs .statuses);
 }
 
-abbrev pub basketOutcome : Baskets → Outcome Basket
+abbrev pub basketOutcome : BasketFitted → Outcome Basket
 basketOutcome (B.Served b) = served b
 basketOutcome (B.Refused r) = refused r
 

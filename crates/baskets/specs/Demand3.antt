@@ -10,8 +10,8 @@ use Rattle.lists.specs.Lookups.{just, factorAt}
 use Rattle.bisection.specs.declared.result.Fit.{Fit}
 use Rattle.bisection.specs.Demand3.{Assured}
 use Rattle.calibration.specs.Objective.{capletObjective}
-use Rattle.baskets.specs.declared.basket.Basket.{Basket}
-use Rattle.baskets.specs.declared.basket.Baskets.{Baskets}
+use Rattle.baskets.specs.declared.call.Basket.{Basket}
+use Rattle.baskets.specs.declared.call.BasketFitted.{BasketFitted}
 use Rattle.baskets.specs.Entries.{Entry, entriesOf}
 use Rattle.baskets.specs.Basket.{fitOf, bump, basketOutcome}
 
@@ -26,11 +26,11 @@ pub record FitHeld (alpha : Float) (xs fs : List Float) (e : Entry) (vol : Float
   pub assured : Assured (capletObjective (e .quote) alpha (e .strike) (e .start) (e .end) vol pt pS) fit
 
 -- every entry of a served basket, at its quote and at the bumped one
-abbrev pub BasketHeld : Float → List Float → List Float → List Bool → List Float → List Float → List Float → List Float → Baskets → Type 0
+abbrev pub BasketHeld : Float → List Float → List Float → List Bool → List Float → List Float → List Float → List Float → BasketFitted → Type 0
 BasketHeld alpha xs fs ns ks ts ends vs r =
     (b : Basket) → basketOutcome r ≡ served b → (e : Entry) → List·Memᴰ e (entriesOf ns ks ts ends vs)
     → FitHeld alpha xs fs e (e .vol) × FitHeld alpha xs fs e (e .vol ⊕ bump)
 
 -- a basket of caplets has no search, so it is never refused for want of a bracket
-abbrev pub BasketNeverSo : Baskets → Type 0
+abbrev pub BasketNeverSo : BasketFitted → Type 0
 BasketNeverSo r = basketOutcome r ≡ refused R.NoBracket → ⊥

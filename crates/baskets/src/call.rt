@@ -23,7 +23,7 @@ pub struct Basket {
     pub bumped_statuses: [f64; 64],
 }
 
-pub enum Baskets {
+pub enum BasketFitted {
     Served(Basket),
     Refused(Refusal),
 }
@@ -39,7 +39,7 @@ pub fn fit_basket(
     starts: &[f64],
     ends: &[f64],
     vols: &[f64],
-) -> Baskets
+) -> BasketFitted
     ensures answer { λ r. ⌜ basketOutcome r ≡ basketOf alpha (now (times .entry)) (now (factors .entry)) (now (normals .entry)) (now (strikes .entry)) (now (starts .entry)) (now (ends .entry)) (now (vols .entry)) ⌝ }
     ensures held { λ r. ⌜ BasketHeld alpha (now (times .entry)) (now (factors .entry)) (now (normals .entry)) (now (strikes .entry)) (now (starts .entry)) (now (ends .entry)) (now (vols .entry)) r ⌝ }
     ensures bracket { λ r. ⌜ BasketNeverSo r ⌝ }
@@ -54,7 +54,7 @@ pub fn fit_basket(
         rules::domain_wrong(normals, strikes, vols),
     );
     if let Answer::Refused(refusal) = answer {
-        return Baskets::Refused(refusal);
+        return BasketFitted::Refused(refusal);
     }
     fitted_basket(alpha, times, factors, normals, strikes, starts, ends, vols)
 }
@@ -70,7 +70,7 @@ fn fitted_basket(
     starts: &[f64],
     ends: &[f64],
     vols: &[f64],
-) -> Baskets
+) -> BasketFitted
     requires { ⌜ (length (now normals) ≤ 64) × (length (now strikes) ≡ length (now normals)) × (length (now starts) ≡ length (now normals)) × (length (now ends) ≡ length (now normals)) × (length (now vols) ≡ length (now normals)) × (inOrder true (now times) ≡ true) ⌝ }
     ensures { λ r. ⌜ basketOutcome r ≡ fittedBasket alpha (now (times .entry)) (now (factors .entry)) (entriesOf (now (normals .entry)) (now (strikes .entry)) (now (starts .entry)) (now (ends .entry)) (now (vols .entry))) ⌝ }
 {
@@ -94,7 +94,7 @@ fn fitted_basket(
         &mut residuals[..n],
     );
     if let Answer::Refused(refusal) = fits {
-        return Baskets::Refused(refusal);
+        return BasketFitted::Refused(refusal);
     }
     let mut diagonal = [0.0; 64];
     let mut bumped_statuses = [0.0; 64];
@@ -112,9 +112,9 @@ fn fitted_basket(
         &mut bumped_statuses[..n],
     );
     if let Answer::Refused(refusal) = bumps {
-        return Baskets::Refused(refusal);
+        return BasketFitted::Refused(refusal);
     }
-    Baskets::Served(Basket {
+    BasketFitted::Served(Basket {
         count: n as u64,
         sigmas,
         statuses,
