@@ -10,15 +10,13 @@ use lib.Seq.{append-snoc, drop-cons, set-at, take-all, take-length, take-suc, ta
 use lib.Ieee.{Float, nan, lt}
 use Rattle.ieee.specs.Numbers as Numbers
 use Rattle.ieee.specs.Rounded.{_⊕_}
-use Rattle.lists.specs.Refusals.{Outcome, served, refused}
-use Rattle.lists.specs.declared.lookups.Found.{Found}
-use Rattle.lists.specs.declared.lookups.Found.the-variants as F
-use Rattle.lists.specs.Lookups.{Maybe, just, nothing, foundOf, factorAt, volatilityAt}
+use Rattle.lists.specs.declared.refusals.Refusal.the-variants as R
+use Rattle.lists.specs.Refusals.{Outcome, served, refused, prepend}
+use Rattle.lists.specs.Lookups.{just, nothing, factorAt, volatilityAt}
 use Rattle.formulas.specs.HullWhite.{h, forwardOf}
 use Rattle.paths.specs.declared.path.State.{State}
-use Rattle.paths.specs.Written.{prepend}
 use Rattle.paths.specs.Transition.{stepVariance, variancesOf}
-use Rattle.paths.specs.Generate.{startsBelow, stateAfter, pointOf, pathFrom}
+use Rattle.paths.specs.Generate.{startsBelow, stateAfter, shiftOf, pathFrom}
 
 -- ---- the list from place i on, and the list up to place i once there is a value at i
 next : (xs : List Float) (i : ℕ) → i < length xs → drop i xs ≡ getD xs i nan ∷ drop (i + 1) xs
@@ -63,25 +61,18 @@ pub starts-first : (xs : List Float) → (length xs ≡ 0 → ⊥) → startsBel
 starts-first [] h = absurd (h refl)
 starts-first (x ∷ xs) h = refl
 
--- ---- a lookup that found x, and one that found nothing
-pub found-at : {r : Found} {x : Float} {m : Maybe} → r ≡ F.At x → foundOf r ≡ m → m ≡ just x
-found-at e q = sym q ∙ ap foundOf e
-
-pub found-none : {r : Found} {m : Maybe} → r ≡ F.Missing → foundOf r ≡ m → m ≡ nothing
-found-none e q = sym q ∙ ap foundOf e
-
 -- ---- the points of the grid from place i on, behind those worked: a refusal of any refuses all
 abbrev pub prependAll : List Float → Outcome (List Float) → Outcome (List Float)
 prependAll xs (served ys) = served (xs ++ ys)
-prependAll xs (refused n) = refused n
+prependAll xs (refused r) = refused r
 
 pub prepend-none : (o : Outcome (List Float)) → prependAll [] o ≡ o
 prepend-none (served ys) = refl
-prepend-none (refused n) = refl
+prepend-none (refused r) = refl
 
 prepend-longer : (out : List Float) (i : ℕ) (v : Float) (rest : Outcome (List Float)) → i < length out → prependAll (take i out) (prepend v rest) ≡ prependAll (take (i + 1) (set out i v)) rest
 prepend-longer out i v (served ys) h = ap served (longer out i v ys h)
-prepend-longer out i v (refused n) h = refl
+prepend-longer out i v (refused r) h = refl
 
 module _ (alpha : Float) (ps ss ts fs : List Float) (s : State) (grid draws out : List Float) (i : ℕ) where
   pub path-end : length grid ≤ i → length out ≤ i → prependAll (take i out) (pathFrom alpha ps ss ts fs s (drop i grid) (drop i draws)) ≡ served out
@@ -89,24 +80,24 @@ module _ (alpha : Float) (ps ss ts fs : List Float) (s : State) (grid draws out 
   path-end h k = rw (drop-of-length-le grid h, append-nil, take-all i out k)
 
   module _ (in-grid : i < length grid) (in-draws : i < length draws) where
-    pub no-volatility : volatilityAt ps ss (getD grid i nan) ≡ nothing → pathFrom alpha ps ss ts fs s (drop i grid) (drop i draws) ≡ refused 7
+    pub no-volatility : volatilityAt ps ss (getD grid i nan) ≡ nothing → pathFrom alpha ps ss ts fs s (drop i grid) (drop i draws) ≡ refused R.Empty
     unfolding pathFrom
     no-volatility e = rw (next grid i in-grid, next draws i in-draws, e)
 
     module _ (sigma : Float) (found : volatilityAt ps ss (getD grid i nan) ≡ just sigma) where
-      pub no-factor : factorAt ts fs (getD grid i nan) ≡ nothing → pathFrom alpha ps ss ts fs s (drop i grid) (drop i draws) ≡ refused 8
+      pub no-factor : factorAt ts fs (getD grid i nan) ≡ nothing → pathFrom alpha ps ss ts fs s (drop i grid) (drop i draws) ≡ refused R.OffCurve
       unfolding pathFrom
       no-factor e = rw (next grid i in-grid, next draws i in-draws, found, e)
 
       module _ (p : Float) (found-p : factorAt ts fs (getD grid i nan) ≡ just p) where
-        pub no-next-factor : factorAt ts fs (getD grid i nan ⊕ h) ≡ nothing → pathFrom alpha ps ss ts fs s (drop i grid) (drop i draws) ≡ refused 8
+        pub no-next-factor : factorAt ts fs (getD grid i nan ⊕ h) ≡ nothing → pathFrom alpha ps ss ts fs s (drop i grid) (drop i draws) ≡ refused R.OffCurve
         unfolding pathFrom
         no-next-factor e = rw (next grid i in-grid, next draws i in-draws, found, found-p, e)
 
         pub path-turn : (p-plus : Float) → factorAt ts fs (getD grid i nan ⊕ h) ≡ just p-plus → i < length out
             → (after : State) → after ≡ stateAfter alpha sigma (getD grid i nan) (getD draws i nan) s
-            → (point : Float) → point ≡ pointOf (after .x) (after .variance) (forwardOf p p-plus)
+            → (shift : Float) → shift ≡ shiftOf (after .variance) (forwardOf p p-plus)
             → prependAll (take i out) (pathFrom alpha ps ss ts fs s (drop i grid) (drop i draws))
-            ≡ prependAll (take (i + 1) (set out i point)) (pathFrom alpha ps ss ts fs after (drop (i + 1) grid) (drop (i + 1) draws))
+            ≡ prependAll (take (i + 1) (set out i (after .x ⊕ shift))) (pathFrom alpha ps ss ts fs after (drop (i + 1) grid) (drop (i + 1) draws))
         unfolding pathFrom
-        path-turn p-plus e k after ea point ep = rw (next grid i in-grid, next draws i in-draws, found, found-p, e, ← ea, ← ep) (prepend-longer out i point (pathFrom alpha ps ss ts fs after (drop (i + 1) grid) (drop (i + 1) draws)) k)
+        path-turn p-plus e k after ea shift es = rw (next grid i in-grid, next draws i in-draws, found, found-p, e, ← ea, ← es) (prepend-longer out i (after .x ⊕ shift) (pathFrom alpha ps ss ts fs after (drop (i + 1) grid) (drop (i + 1) draws)) k)

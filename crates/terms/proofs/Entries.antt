@@ -10,10 +10,11 @@ use lib.ListN.{length, getD, length-map}
 use lib.Ieee.{Float, nan}
 use Rattle.ieee.specs.Rounded.{_⊗_}
 use Rattle.search.specs.Sum.{weightsOf}
-use Rattle.lists.specs.Refusals.{Outcome, served, refused}
+use Rattle.lists.specs.Refusals.{Outcome, served, refused, prepend}
 use Rattle.lists.specs.Lookups.{Maybe, just, nothing, factorAt, needing}
+use Rattle.lists.proofs.Outcomes.{not-both, served-is}
 use Rattle.formulas.specs.HullWhite.{bOf, driftOf, aAt}
-use Rattle.terms.specs.Terms.{coefficientAt, coefficientsOf, bsOf, driftsOf, affinesOf, onto, factorsAt}
+use Rattle.terms.specs.Terms.{coefficientAt, coefficientsOf, bsOf, driftsOf, affinesOf, factorsAt}
 
 -- ---- an entry of a list made from one list, and from two
 map-at : (f : Float → Float) (xs : List Float) (i : ℕ) → i < length xs → getD (map f xs) i nan ≡ f (getD xs i nan)
@@ -105,16 +106,16 @@ pub weights-at : (cs affines : List Float) (i : ℕ) → length affines ≡ leng
 weights-at cs affines i e h = rw (weights-zip cs affines) (zip-at _ cs affines i e h)
 
 -- ---- factors
-onto-length : (p : Float) (o : Outcome (List Float)) (n : ℕ) → ((qs : List Float) → o ≡ served qs → length qs ≡ n) → (ps : List Float) → onto p o ≡ served ps → length ps ≡ suc n
-onto-length p (served qs) n h ps e = let w : p ∷ qs ≡ ps = cc in rw (sym w) (ap suc (h qs refl))
-onto-length p (refused k) n h ps e = let z : _≡_ {A = ℕ} 0 1 = cc in absurd (let y : ⊥ = omega arith in y)
+prepend-length : (p : Float) (o : Outcome (List Float)) (n : ℕ) → ((qs : List Float) → o ≡ served qs → length qs ≡ n) → (ps : List Float) → prepend p o ≡ served ps → length ps ≡ suc n
+prepend-length p (served qs) n h ps e = rw (sym (served-is e)) (ap suc (h qs refl))
+prepend-length p (refused r) n h ps e = absurd (not-both e)
 
-needing-length : (m : Maybe) (o : Outcome (List Float)) (n : ℕ) → ((qs : List Float) → o ≡ served qs → length qs ≡ n) → (ps : List Float) → needing m (λ p. onto p o) ≡ served ps → length ps ≡ suc n
-needing-length (just p) o n h ps e = onto-length p o n h ps e
-needing-length nothing o n h ps e = let z : _≡_ {A = ℕ} 0 1 = cc in absurd (let y : ⊥ = omega arith in y)
+needing-length : (m : Maybe) (o : Outcome (List Float)) (n : ℕ) → ((qs : List Float) → o ≡ served qs → length qs ≡ n) → (ps : List Float) → needing m (λ p. prepend p o) ≡ served ps → length ps ≡ suc n
+needing-length (just p) o n h ps e = prepend-length p o n h ps e
+needing-length nothing o n h ps e = absurd (not-both e)
 
 -- there is a factor for each payment
 pub factors-length : (ts fs payments ps : List Float) → factorsAt ts fs payments ≡ served ps → length ps ≡ length payments
 unfolding factorsAt
-factors-length ts fs [] ps e = let w : [] ≡ ps = cc in rw (sym w) refl
+factors-length ts fs [] ps e = rw (sym (served-is e)) refl
 factors-length ts fs (payment ∷ payments) ps e = needing-length (factorAt ts fs payment) (factorsAt ts fs payments) (length payments) (λ qs q. factors-length ts fs payments qs q) ps e

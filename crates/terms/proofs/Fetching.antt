@@ -7,32 +7,33 @@ use native.Mathlib.Numerals.{add-one}
 use lib.ListN.{length, getD, set, take, drop, length-set}
 use lib.Seq.{take-suc-set, take-all}
 use lib.Ieee.{Float, nan}
-use Rattle.lists.specs.Refusals.{Outcome, served, refused}
+use Rattle.lists.specs.declared.refusals.Refusal.the-variants as R
+use Rattle.lists.specs.Refusals.{Outcome, served, refused, prepend}
 use Rattle.lists.specs.Lookups.{just, nothing, factorAt}
 use Rattle.lists.proofs.Walks.{next, done}
-use Rattle.terms.specs.Terms.{onto, factorsAt}
+use Rattle.terms.specs.Terms.{factorsAt}
 
 -- an outcome with some factors before its own
-abbrev pub after : List Float → Outcome (List Float) → Outcome (List Float)
-after ps (served qs) = served (ps ++ qs)
-after ps (refused n) = refused n
+abbrev pub behind : List Float → Outcome (List Float) → Outcome (List Float)
+behind ps (served qs) = served (ps ++ qs)
+behind ps (refused r) = refused r
 
-after-none : (o : Outcome (List Float)) → o ≡ after [] o
-after-none (served qs) = refl
-after-none (refused n) = refl
+behind-none : (o : Outcome (List Float)) → o ≡ behind [] o
+behind-none (served qs) = refl
+behind-none (refused r) = refl
 
-after-onto : (ps : List Float) (p : Float) (o : Outcome (List Float)) → after ps (onto p o) ≡ after (ps ++ (p ∷ [])) o
-after-onto ps p (served qs) = rw append-assoc
-after-onto ps p (refused n) = refl
+behind-prepend : (ps : List Float) (p : Float) (o : Outcome (List Float)) → behind ps (prepend p o) ≡ behind (ps ++ (p ∷ [])) o
+behind-prepend ps p (served qs) = rw append-assoc
+behind-prepend ps p (refused r) = refl
 
 -- i of the factors are in `out`
 pub record Fetching (ts fs payments : List Float) (i : ℕ) (out : List Float) : Type 0 where
   pub within : i ≤ length payments
   pub sized : length out ≡ length payments
-  pub fetched : factorsAt ts fs payments ≡ after (take i out) (factorsAt ts fs (drop i payments))
+  pub fetched : factorsAt ts fs payments ≡ behind (take i out) (factorsAt ts fs (drop i payments))
 
 pub start : {ts fs payments out : List Float} → length out ≡ length payments → Fetching ts fs payments 0 out
-start {ts} {fs} {payments} e = record { within = omega arith; sized = e; fetched = after-none (factorsAt ts fs payments) }
+start {ts} {fs} {payments} e = record { within = omega arith; sized = e; fetched = behind-none (factorsAt ts fs payments) }
 
 module _ {ts fs payments out : List Float} {i : ℕ} where
   pub turn : {p : Float} → i < length payments → factorAt ts fs (getD payments i nan) ≡ just p → Fetching ts fs payments i out → Fetching ts fs payments (i + 1) (set out i p)
@@ -42,10 +43,10 @@ module _ {ts fs payments out : List Float} {i : ℕ} where
       record {
         within = omega arith;
         sized = length-set out i p ∙ f .sized;
-        fetched = f .fetched ∙ rw (next payments i h, q, after-onto, add-one, take-suc-set out i p l);
+        fetched = f .fetched ∙ rw (next payments i h, q, behind-prepend, add-one, take-suc-set out i p l);
       }
 
-  pub stop : i < length payments → factorAt ts fs (getD payments i nan) ≡ nothing → Fetching ts fs payments i out → factorsAt ts fs payments ≡ refused 8
+  pub stop : i < length payments → factorAt ts fs (getD payments i nan) ≡ nothing → Fetching ts fs payments i out → factorsAt ts fs payments ≡ refused R.OffCurve
   unfolding factorsAt
   stop h q f = f .fetched ∙ rw (next payments i h, q)
 

@@ -18,7 +18,11 @@ and-rule-requires-4 c κs = search needs
 
 returns : tie.Need-returns
 unfolding inTurn
-returns c = rw (← in-turn _) cc
+returns c =
+    let r3 = c .before in
+    let r2 = r3 .before in
+    let r1 = r2 .before .before .before in
+    rw (← in-turn _, ← r1 .and-rule .ensures, ← r2 .and-rule2 .ensures, ← r3 .and-rule3 .ensures) (c .and-rule4 .ensures)
 
 pub annuity-rules-spec : {M : Type 1} → statement M
 annuity-rules-spec =

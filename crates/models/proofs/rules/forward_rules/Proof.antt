@@ -24,7 +24,13 @@ and-rule-requires-5 c κs = search needs
 
 returns : tie.Need-returns
 unfolding inTurn
-returns c = rw (← in-turn _) cc
+returns c =
+    let r4 = c .before in
+    let r3 = r4 .before in
+    let r2 = r3 .before in
+    let r1 = r2 .before .before in
+    let f1 = r1 .before in
+    rw (← in-turn _, ← f1 .is-finite .ensures, ← r1 .and-rule .ensures, ← r2 .and-rule2 .ensures, ← r3 .and-rule3 .ensures, ← r4 .and-rule4 .ensures) (c .and-rule5 .ensures)
 
 pub forward-rules-spec : {M : Type 1} → statement M
 forward-rules-spec =

@@ -27,7 +27,14 @@ and-rule-requires-3 c κs = search needs
 
 returns : tie.Need-returns
 unfolding inTurn
-returns c = rw (← in-turn _) cc
+returns c =
+    let r2 = c .before in
+    let r1 = r2 .before in
+    let f4 = r1 .before in
+    let f3 = f4 .before in
+    let f2 = f3 .before in
+    let f1 = f2 .before in
+    rw (← in-turn _, ← f1 .is-finite .ensures, ← f2 .is-finite2 .ensures, ← f3 .is-finite3 .ensures, ← f4 .is-finite4 .ensures, ← r1 .and-rule .ensures, ← r2 .and-rule2 .ensures) (c .and-rule3 .ensures)
 
 pub quote-rules-spec : {M : Type 1} → statement M
 quote-rules-spec =

@@ -1,5 +1,6 @@
 -- `paths::path::generate_on` meets its contract: the rules turn the call down, or the walk along the grid does, or the points of the whole grid are handed to `finish`. Assumes nothing.
-use mathlib.Core.Path.{_≡_, refl, sym}
+use mathlib.Core.Path.{_≡_, refl, sym, _∙_}
+use mathlib.Core.Bool.{true}
 use mathlib.Core.List.{List}
 use Prim.Native.Nat.{_≤_}
 use borrow.Author.Needs.{needs}
@@ -8,11 +9,13 @@ use lib.Dec.{eqb, ltb}
 use lib.ListN.{length, replicate}
 use lib.Ieee.{Float}
 use Rattle.ieee.specs.Numbers.{zero}
-use Rattle.lists.specs.Refusals.{checkedNumber}
+use Rattle.lists.specs.Checks.{inOrder}
+use Rattle.lists.specs.Refusals.{firstOf, following}
 use Rattle.lists.specs.Faults.{pillarFaults, curveFaults, gridFaults}
+use Rattle.lists.proofs.Outcomes.{turned-down, let-through}
 use Rattle.paths.specs.Written.{finishingList}
-use Rattle.paths.specs.Generate.{startsBelow, startState, pathRule, pathFrom, generateOutcome}
-use Rattle.paths.proofs.Outcomes.{turned-down, let-through, grid-fits, lent-is, back-fits, back-is, values-are, rule-of, walk-refused, walk-done}
+use Rattle.paths.specs.Generate.{startsBelow, startState, pathRules, pathFrom, generateOutcome}
+use Rattle.paths.proofs.Outcomes.{rules-of, grid-fits, lent-is, back-fits, back-is, values-are}
 use Rattle.paths.proofs.path.generate_on.Statement.{statement}
 use Rattle.paths.proofs.path.generate_on.Tie as tie
 
@@ -20,16 +23,19 @@ use Rattle.paths.proofs.path.generate_on.Tie as tie
 abbrev work : List Float
 work = replicate 1024 zero
 
-abbrev entry : tie.After-path-rule → tie.Start
+abbrev entry : tie.After-path-rules → tie.Start
 entry r = r .before .before .before .before .before .before .before .before .before .before .before
 
-rule : (r : tie.After-path-rule) → let a = entry r .args in
-    checkedNumber (r .path-rule .result) ≡ pathRule (pillarFaults (now (a .pillars)) (now (a .sigmas))) (curveFaults (now (a .times)) (now (a .factors))) (gridFaults (now (a .grid)) (now (a .draws))) (eqb (length (now (a .pillars))) 0) (startsBelow (now (a .grid))) (ltb (length (now (a .out))) (length (now (a .grid)))) (a .alpha)
-rule r =
-    rule-of _ _ _ (r .before .before .before .pillar-faults .ensures) (entry r .pre) (r .before .before .grid-faults .ensures) (r .before .starts-below .ensures) (r .path-rule .ensures)
+rules : (r : tie.After-path-rules) → let a = entry r .args in
+    r .path-rules .result ≡ firstOf (pathRules (pillarFaults (now (a .pillars)) (now (a .sigmas))) (curveFaults (now (a .times)) (now (a .factors))) (gridFaults (now (a .grid)) (now (a .draws))) (eqb (length (now (a .pillars))) 0) (startsBelow (now (a .grid))) (ltb (length (now (a .out))) (length (now (a .grid)))) (a .alpha))
+rules r =
+    let a = entry r .args in
+    rules-of (eqb (length (now (a .pillars))) 0) (ltb (length (now (a .out))) (length (now (a .grid)))) (a .alpha) (r .before .before .before .pillar-faults .ensures) (entry r .pre) (r .before .before .grid-faults .ensures) (r .before .starts-below .ensures) (r .path-rules .ensures)
 
-fit : (e : tie.After-enum-told) → let a = entry (e .before .before) .args in (length (now (a .grid)) ≤ 1024) × (length (now (a .draws)) ≡ length (now (a .grid))) × (length (now (a .grid)) ≤ length (now (a .out)))
-fit e = let a = entry (e .before .before) .args in grid-fits _ _ _ _ _ _ _ (now (a .grid)) (now (a .draws)) (e .before .before .before .before .grid-faults .ensures) (e .enum-told .given .1) (e .before .before .path-rule .ensures)
+fit : (e : tie.After-enum-told) → let a = entry (e .before .before) .args in (length (now (a .grid)) ≤ 1024) × (length (now (a .draws)) ≡ length (now (a .grid))) × (inOrder true (now (a .times)) ≡ true) × (length (now (a .grid)) ≤ length (now (a .out)))
+fit e =
+    let a = entry (e .before .before) .args in
+    grid-fits (pillarFaults (now (a .pillars)) (now (a .sigmas))) (now (a .times)) (now (a .factors)) (now (a .grid)) (now (a .draws)) (eqb (length (now (a .pillars))) 0) (startsBelow (now (a .grid))) (length (now (a .out))) (a .alpha) (e .enum-told .given .1) (rules (e .before .before))
 
 abbrev worked : tie.After-walk-grid → List Float
 worked v = v .walk-grid .last .1 .1 .1 .1 .1 .1 .1 .0
@@ -44,18 +50,18 @@ grid-faults-requires c κs = search needs
 starts-below-requires : tie.Need-starts-below-requires
 starts-below-requires c κs = search needs
 
-path-rule-requires : tie.Need-path-rule-requires
-path-rule-requires c κs = search needs
+path-rules-requires : tie.Need-path-rules-requires
+path-rules-requires c κs = search needs
 
-enum-known-checked : tie.Need-enum-known-checked
-enum-known-checked c = search needs
+enum-known-answer : tie.Need-enum-known-answer
+enum-known-answer c = search needs
 
 returns : tie.Need-returns
 unfolding generateOutcome
 returns c =
     let r = c .before .before .before in
     let a = entry r .args in
-    rw (turned-down (finishingList (pathFrom (a .alpha) (now (a .pillars)) (now (a .sigmas)) (now (a .times)) (now (a .factors)) startState (now (a .grid)) (now (a .draws)))) (c .before .checked .given .1) (rule r)) (refl, refl)
+    rw (turned-down _ (following (pathFrom (a .alpha) (now (a .pillars)) (now (a .sigmas)) (now (a .times)) (now (a .factors)) startState (now (a .grid)) (now (a .draws))) finishingList) (c .before .answer .given .1) (rules r)) (refl, refl)
 
 enum-told : tie.Need-enum-told
 enum-told c = search needs
@@ -67,7 +73,7 @@ slice-aggregate-walk-grid : tie.Need-slice-aggregate-walk-grid
 slice-aggregate-walk-grid c = lent-is work _ (fit (c .before) .0)
 
 walk-grid-requires : tie.Need-walk-grid-requires
-walk-grid-requires c κs = (sym (lent-is work _ (fit (c .before) .0)), fit (c .before) .1)
+walk-grid-requires c κs = (sym (lent-is work _ (fit (c .before) .0)), fit (c .before) .1, fit (c .before) .2)
 
 enum-known-walk : tie.Need-enum-known-walk
 enum-known-walk c = search needs
@@ -78,8 +84,8 @@ returns-2 c =
     let v = c .before .before .before .before in
     let e = v .before .before in
     let a = entry (e .before .before) .args in
-    let w = walk-refused (worked v) (c .before .walk .given .1) (v .walk-grid .ensures) in
-    rw (let-through (finishingList (pathFrom (a .alpha) (now (a .pillars)) (now (a .sigmas)) (now (a .times)) (now (a .factors)) startState (now (a .grid)) (now (a .draws)))) (e .enum-told .given .1) (rule (e .before .before)), w) (refl, refl)
+    let w = v .walk-grid .ensures ∙ turned-down _ _ (c .before .walk .given .1) refl in
+    rw (let-through _ (following (pathFrom (a .alpha) (now (a .pillars)) (now (a .sigmas)) (now (a .times)) (now (a .factors)) startState (now (a .grid)) (now (a .draws))) finishingList) (e .enum-told .given .1) (rules (e .before .before)), w) (refl, refl)
 
 enum-told-2 : tie.Need-enum-told-2
 enum-told-2 c = search needs
@@ -93,7 +99,7 @@ slice-aggregate-finish c = let v = c .before .before .before .before in back-is 
 finish-requires : tie.Need-finish-requires
 finish-requires c κs =
     let v = c .before .before .before .before .before in
-    rw (← back-is work _ (fit (v .before .before) .0) (worked v) (v .walk-grid .kept .1 .1 .1 .1 .1 .1 .1 .0)) (fit (v .before .before) .2)
+    rw (← back-is work _ (fit (v .before .before) .0) (worked v) (v .walk-grid .kept .1 .1 .1 .1 .1 .1 .1 .0)) (fit (v .before .before) .3)
 
 same-length : tie.Need-same-length
 same-length c = search needs
@@ -105,8 +111,8 @@ returns-3 c =
     let e = v .before .before in
     let a = entry (e .before .before) .args in
     let w = values-are work _ (fit e .0) (worked v) (v .walk-grid .kept .1 .1 .1 .1 .1 .1 .1 .0) in
-    let d = walk-done (worked v) (c .before .before .before .before .before .enum-told2 .given .1) (v .walk-grid .ensures) in
-    rw (let-through (finishingList (pathFrom (a .alpha) (now (a .pillars)) (now (a .sigmas)) (now (a .times)) (now (a .factors)) startState (now (a .grid)) (now (a .draws)))) (e .enum-told .given .1) (rule (e .before .before)), d, ← w) (c .before .before .finish .ensures)
+    let d = v .walk-grid .ensures ∙ let-through _ _ (c .before .before .before .before .before .enum-told2 .given .1) refl in
+    rw (let-through _ (following (pathFrom (a .alpha) (now (a .pillars)) (now (a .sigmas)) (now (a .times)) (now (a .factors)) startState (now (a .grid)) (now (a .draws))) finishingList) (e .enum-told .given .1) (rules (e .before .before)), d, ← w) (c .before .before .finish .ensures)
 
 pub generate-on-spec : {M : Type 1} → statement M
 generate-on-spec =
@@ -115,8 +121,8 @@ generate-on-spec =
     pillar-faults-requires
     grid-faults-requires
     starts-below-requires
-    path-rule-requires
-    enum-known-checked
+    path-rules-requires
+    enum-known-answer
     returns
     enum-told
     array-borrow-prefix-work

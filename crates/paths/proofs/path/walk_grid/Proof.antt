@@ -10,8 +10,9 @@ use mir.Syntax.{w64}
 use mir.Val.{Fits}
 use Rattle.ieee.specs.Rounded.{_⊕_}
 use Rattle.lists.specs.Lookups.{factorAt}
-use Rattle.paths.specs.Generate.{startState, pointOf, pathFrom}
-use Rattle.paths.proofs.Walks.{found-at, found-none, prependAll, prepend-none, no-volatility, no-factor, no-next-factor, path-turn, path-end}
+use Rattle.lists.proofs.Outcomes.{at, missing}
+use Rattle.paths.specs.Generate.{startState, shiftOf, pathFrom}
+use Rattle.paths.proofs.Walks.{prependAll, prepend-none, no-volatility, no-factor, no-next-factor, path-turn, path-end}
 use Rattle.paths.proofs.path.walk_grid.Statement.{statement}
 use Rattle.paths.proofs.path.walk_grid.Tie as tie
 
@@ -67,7 +68,7 @@ returns c =
     let t = c .before .before .before .before in
     let l = t .before .loop in
     let a = entry (t .before) .args in
-    let m = found-none (c .enum-told .given .1) (c .before .before .volatility .ensures) in
+    let m = missing _ (c .enum-told .given .1) (c .before .before .volatility .ensures) in
     sym (l .inv .2) ∙ ap (prependAll (take (l .i) (l .out))) (no-volatility (a .alpha) (now (a .pillars)) (now (a .sigmas)) (now (a .times)) (now (a .factors)) (l .s) (now (a .grid)) (now (a .draws)) (l .out) (l .i) (t .loop-test .taken) (in-draws t) m)
 
 factor-requires : tie.Need-factor-requires Inv-loop μ-loop
@@ -87,8 +88,8 @@ returns-2 c =
     let t = c .before .before .before .before .before .before .before .before in
     let l = t .before .loop in
     let a = entry (t .before) .args in
-    let v = found-at (c .before .before .before .before .sigma .given .1) (c .before .before .before .before .before .before .volatility .ensures) in
-    let m = found-none (c .enum-told2 .given .1) (c .before .before .factor .ensures) in
+    let v = at _ (c .before .before .before .before .sigma .given .1) (c .before .before .before .before .before .before .volatility .ensures) in
+    let m = missing _ (c .enum-told2 .given .1) (c .before .before .factor .ensures) in
     sym (l .inv .2) ∙ ap (prependAll (take (l .i) (l .out))) (no-factor (a .alpha) (now (a .pillars)) (now (a .sigmas)) (now (a .times)) (now (a .factors)) (l .s) (now (a .grid)) (now (a .draws)) (l .out) (l .i) (t .loop-test .taken) (in-draws t) _ v m)
 
 day-requires : tie.Need-day-requires Inv-loop μ-loop
@@ -111,9 +112,9 @@ returns-3 c =
     let t = c .before .before .before .before .before .before .before .before .before .before .before .before .before in
     let l = t .before .loop in
     let a = entry (t .before) .args in
-    let v = found-at (c .before .before .before .before .before .before .before .before .before .sigma .given .1) (c .before .before .before .before .before .before .before .before .before .before .before .volatility .ensures) in
-    let f = found-at (c .before .before .before .before .before .p .given .1) (c .before .before .before .before .before .before .before .factor .ensures) in
-    let m = found-none (c .enum-told3 .given .1) (c .before .before .factor2 .ensures ∙ ap (λ (d : Float). factorAt (now (a .times)) (now (a .factors)) (getD (now (a .grid)) (l .i) nan ⊕ d)) (c .before .before .before .day .ensures)) in
+    let v = at _ (c .before .before .before .before .before .before .before .before .before .sigma .given .1) (c .before .before .before .before .before .before .before .before .before .before .before .volatility .ensures) in
+    let f = at _ (c .before .before .before .before .before .p .given .1) (c .before .before .before .before .before .before .before .factor .ensures) in
+    let m = missing _ (c .enum-told3 .given .1) (c .before .before .factor2 .ensures ∙ ap (λ (d : Float). factorAt (now (a .times)) (now (a .factors)) (getD (now (a .grid)) (l .i) nan ⊕ d)) (c .before .before .before .day .ensures)) in
     sym (l .inv .2) ∙ ap (prependAll (take (l .i) (l .out))) (no-next-factor (a .alpha) (now (a .pillars)) (now (a .sigmas)) (now (a .times)) (now (a .factors)) (l .s) (now (a .grid)) (now (a .draws)) (l .out) (l .i) (t .loop-test .taken) (in-draws t) _ v _ f m)
 
 mul-state-after : tie.Need-mul-state-after Inv-loop μ-loop
@@ -128,31 +129,31 @@ state-after-requires c κs = search needs
 forward-of-requires : tie.Need-forward-of-requires Inv-loop μ-loop
 forward-of-requires c κs = search needs
 
-point-of-requires : tie.Need-point-of-requires Inv-loop μ-loop
-point-of-requires c κs = search needs
+shift-of-requires : tie.Need-shift-of-requires Inv-loop μ-loop
+shift-of-requires c κs = search needs
 
 mul-out : tie.Need-mul-out Inv-loop μ-loop
-mul-out c = mul-t (c .before .before .before .before .before .before .before .before .before .before .before .before .before .before .before .before .before .before)
+mul-out c = mul-t (c .before .before .before .before .before .before .before .before .before .before .before .before .before .before .before .before .before .before .before)
 
 slice-write-out : tie.Need-slice-write-out Inv-loop μ-loop
-slice-write-out c = in-out (c .before .before .before .before .before .before .before .before .before .before .before .before .before .before .before .before .before .before)
+slice-write-out c = in-out (c .before .before .before .before .before .before .before .before .before .before .before .before .before .before .before .before .before .before .before)
 
 add-i : tie.Need-add-i Inv-loop μ-loop
-add-i c = next-fits (c .before .before .before .before .before .before .before .before .before .before .before .before .before .before .before .before .before .before)
+add-i c = next-fits (c .before .before .before .before .before .before .before .before .before .before .before .before .before .before .before .before .before .before .before)
 
 loop-less : tie.Need-loop-less Inv-loop μ-loop
 loop-less c = search needs
 
 loop-again : tie.Need-loop-again Inv-loop μ-loop
 loop-again c =
-    let t = c .before .before .before .before .before .before .before .before .before .before .before .before .before .before .before .before .before .before in
+    let t = c .before .before .before .before .before .before .before .before .before .before .before .before .before .before .before .before .before .before .before in
     let l = t .before .loop in
     let a = entry (t .before) .args in
-    let v = found-at (c .before .before .before .before .before .before .before .before .before .before .before .before .before .before .sigma .given .1) (c .before .before .before .before .before .before .before .before .before .before .before .before .before .before .before .before .volatility .ensures) in
-    let f = found-at (c .before .before .before .before .before .before .before .before .before .before .p .given .1) (c .before .before .before .before .before .before .before .before .before .before .before .before .factor .ensures) in
-    let g = found-at (c .before .before .before .before .before .p-plus .given .1) (c .before .before .before .before .before .before .before .factor2 .ensures ∙ ap (λ (d : Float). factorAt (now (a .times)) (now (a .factors)) (getD (now (a .grid)) (l .i) nan ⊕ d)) (c .before .before .before .before .before .before .before .before .day .ensures)) in
-    let w = c .point-of .ensures ∙ ap (pointOf _ _) (c .before .forward-of .ensures) in
-    (turn t, simp length-set (l .inv .1), sym (path-turn (a .alpha) (now (a .pillars)) (now (a .sigmas)) (now (a .times)) (now (a .factors)) (l .s) (now (a .grid)) (now (a .draws)) (l .out) (l .i) (t .loop-test .taken) (in-draws t) _ v _ f _ g (in-out t) _ (c .before .before .state-after .ensures) _ w) ∙ l .inv .2)
+    let v = at _ (c .before .before .before .before .before .before .before .before .before .before .before .before .before .before .before .sigma .given .1) (c .before .before .before .before .before .before .before .before .before .before .before .before .before .before .before .before .before .volatility .ensures) in
+    let f = at _ (c .before .before .before .before .before .before .before .before .before .before .before .p .given .1) (c .before .before .before .before .before .before .before .before .before .before .before .before .before .factor .ensures) in
+    let g = at _ (c .before .before .before .before .before .before .p-plus .given .1) (c .before .before .before .before .before .before .before .before .factor2 .ensures ∙ ap (λ (d : Float). factorAt (now (a .times)) (now (a .factors)) (getD (now (a .grid)) (l .i) nan ⊕ d)) (c .before .before .before .before .before .before .before .before .before .day .ensures)) in
+    let w = c .before .shift-of .ensures ∙ ap (shiftOf _) (c .before .before .forward-of .ensures) in
+    (turn t, simp length-set (l .inv .1), sym (path-turn (a .alpha) (now (a .pillars)) (now (a .sigmas)) (now (a .times)) (now (a .factors)) (l .s) (now (a .grid)) (now (a .draws)) (l .out) (l .i) (t .loop-test .taken) (in-draws t) _ v _ f _ g (in-out t) _ (c .before .before .before .state-after .ensures) _ w) ∙ l .inv .2)
 
 same-length-4 : tie.Need-same-length-4 Inv-loop μ-loop
 same-length-4 c = c .before .loop .inv .1
@@ -192,7 +193,7 @@ walk-grid-spec =
     shared-slice-read-state-after
     state-after-requires
     forward-of-requires
-    point-of-requires
+    shift-of-requires
     mul-out
     slice-write-out
     add-i

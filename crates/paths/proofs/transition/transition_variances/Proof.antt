@@ -9,11 +9,12 @@ use lib.ListN.{length, replicate}
 use lib.Ieee.{Float}
 use Rattle.ieee.specs.Numbers.{zero}
 use Rattle.lists.specs.declared.curves.Faults.{Faults}
-use Rattle.lists.specs.Refusals.{served, checkedNumber}
+use Rattle.lists.specs.Refusals.{firstOf}
 use Rattle.lists.specs.Faults.{pillarFaults}
+use Rattle.lists.proofs.Outcomes.{turned-down, let-through}
 use Rattle.paths.specs.Written.{finishingList}
-use Rattle.paths.specs.Transition.{transitionRule, variancesOf, transitionOutcome}
-use Rattle.paths.proofs.Outcomes.{turned-down, let-through, steps-fit, lent-is, back-fits, back-is, values-are}
+use Rattle.paths.specs.Transition.{transitionRules, variancesOf, transitionOutcome}
+use Rattle.paths.proofs.Outcomes.{steps-fit, lent-is, back-fits, back-is, values-are}
 use Rattle.paths.proofs.transition.transition_variances.Statement.{statement}
 use Rattle.paths.proofs.transition.transition_variances.Tie as tie
 
@@ -21,16 +22,16 @@ use Rattle.paths.proofs.transition.transition_variances.Tie as tie
 abbrev work : List Float
 work = replicate 1024 zero
 
-abbrev entry : tie.After-transition-rule → tie.Start
+abbrev entry : tie.After-transition-rules → tie.Start
 entry r = r .before .before .before .before .before
 
-rule : (r : tie.After-transition-rule) → let a = entry r .args in checkedNumber (r .transition-rule .result) ≡ transitionRule (pillarFaults (now (a .times)) (now (a .sigmas))) (eqb (length (now (a .times))) 0) (a .alpha) (a .steps) (length (now (a .out))) (a .time-step)
-rule r =
+rules : (r : tie.After-transition-rules) → let a = entry r .args in r .transition-rules .result ≡ firstOf (transitionRules (pillarFaults (now (a .times)) (now (a .sigmas))) (eqb (length (now (a .times))) 0) (a .alpha) (a .steps) (length (now (a .out))) (a .time-step))
+rules r =
     let a = entry r .args in
-    r .transition-rule .ensures ∙ ap (λ (f : Faults). transitionRule f (eqb (length (now (a .times))) 0) (a .alpha) (a .steps) (length (now (a .out))) (a .time-step)) (r .before .pillar-faults .ensures)
+    r .transition-rules .ensures ∙ ap (λ (f : Faults). firstOf (transitionRules f (eqb (length (now (a .times))) 0) (a .alpha) (a .steps) (length (now (a .out))) (a .time-step))) (r .before .pillar-faults .ensures)
 
 fit : (e : tie.After-enum-told) → let a = entry (e .before .before) .args in (a .steps ≤ 1024) × (a .steps ≤ length (now (a .out)))
-fit e = steps-fit _ _ _ _ _ _ (e .enum-told .given .1) (e .before .before .transition-rule .ensures)
+fit e = let a = entry (e .before .before) .args in steps-fit (pillarFaults (now (a .times)) (now (a .sigmas))) (eqb (length (now (a .times))) 0) (a .alpha) (a .steps) (length (now (a .out))) (a .time-step) (e .enum-told .given .1) (rules (e .before .before))
 
 abbrev worked : tie.After-variances → List Float
 worked v = v .variances .last .1 .1 .1 .1 .0
@@ -39,18 +40,18 @@ worked v = v .variances .last .1 .1 .1 .1 .0
 pillar-faults-requires : tie.Need-pillar-faults-requires
 pillar-faults-requires c κs = search needs
 
-transition-rule-requires : tie.Need-transition-rule-requires
-transition-rule-requires c κs = search needs
+transition-rules-requires : tie.Need-transition-rules-requires
+transition-rules-requires c κs = search needs
 
-enum-known-checked : tie.Need-enum-known-checked
-enum-known-checked c = search needs
+enum-known-answer : tie.Need-enum-known-answer
+enum-known-answer c = search needs
 
 returns : tie.Need-returns
 unfolding transitionOutcome
 returns c =
     let r = c .before .before .before in
     let a = entry r .args in
-    rw (turned-down (finishingList (served (variancesOf (a .alpha) (now (a .times)) (now (a .sigmas)) (a .time-step) 0 (a .steps)))) (c .before .checked .given .1) (rule r)) (refl, refl)
+    rw (turned-down _ (finishingList (variancesOf (a .alpha) (now (a .times)) (now (a .sigmas)) (a .time-step) 0 (a .steps))) (c .before .answer .given .1) (rules r)) (refl, refl)
 
 enum-told : tie.Need-enum-told
 enum-told c = search needs
@@ -86,15 +87,15 @@ returns-2 c =
     let a = entry (e .before .before) .args in
     let all = variancesOf (a .alpha) (now (a .times)) (now (a .sigmas)) (a .time-step) 0 in
     let w = values-are work _ (fit e .0) (worked v) (v .variances .kept .1 .1 .1 .1 .0) ∙ v .variances .ensures ∙ ap all (sym (lent-is work _ (fit e .0))) in
-    rw (let-through (finishingList (served (all (a .steps)))) (e .enum-told .given .1) (rule (e .before .before)), ← w) (c .before .before .finish .ensures)
+    rw (let-through _ (finishingList (all (a .steps))) (e .enum-told .given .1) (rules (e .before .before)), ← w) (c .before .before .finish .ensures)
 
 pub transition-variances-spec : {M : Type 1} → statement M
 transition-variances-spec =
     tie.close
     (tie.spec
     pillar-faults-requires
-    transition-rule-requires
-    enum-known-checked
+    transition-rules-requires
+    enum-known-answer
     returns
     enum-told
     array-borrow-prefix-work

@@ -1,9 +1,8 @@
 -- `fetch` meets its contract: each turn of its loop writes the next factor, and a missing one ends it.
 use borrow.Author.Needs.{needs}
-use mathlib.Core.Path.{sym, ap, _∙_}
 use Prim.Native.Nat.{_-_}
 use lib.ListN.{length}
-use Rattle.lists.specs.Lookups.{foundOf}
+use Rattle.lists.proofs.Outcomes.{at, missing}
 use Rattle.terms.proofs.Fetching.{Fetching, start, turn, stop, end}
 use Rattle.terms.proofs.factors.fetch.Statement.{statement}
 use Rattle.terms.proofs.factors.fetch.Tie as tie
@@ -15,7 +14,7 @@ abbrev μ-loop : tie.MeasureT-loop
 μ-loop times factors payments out₀ i₀ out i = length payments - i
 
 loop-holds : tie.Need-loop-holds Inv-loop μ-loop
-loop-holds c = start (c .before .before .before .before .pre)
+loop-holds c = start (c .before .before .before .before .pre .0)
 
 mul-factor : tie.Need-mul-factor Inv-loop μ-loop
 mul-factor c = search needs
@@ -39,7 +38,7 @@ returns : tie.Need-returns Inv-loop μ-loop
 returns c =
     let f = c .before .before in
     let l = f .before .before in
-    stop (l .loop-test .taken) (sym (f .factor .ensures) ∙ ap foundOf (c .enum-told .given .1)) (l .before .loop .inv)
+    stop (l .loop-test .taken) (missing _ (c .enum-told .given .1) (f .factor .ensures)) (l .before .loop .inv)
 
 mul-out : tie.Need-mul-out Inv-loop μ-loop
 mul-out c = search needs
@@ -57,7 +56,7 @@ loop-again : tie.Need-loop-again Inv-loop μ-loop
 loop-again c =
     let f = c .before .before .before in
     let l = f .before .before in
-    turn (l .loop-test .taken) (sym (f .factor .ensures) ∙ ap foundOf (c .before .p .given .1)) (l .before .loop .inv)
+    turn (l .loop-test .taken) (at _ (c .before .p .given .1) (f .factor .ensures)) (l .before .loop .inv)
 
 same-length-2 : tie.Need-same-length-2 Inv-loop μ-loop
 same-length-2 c = search needs

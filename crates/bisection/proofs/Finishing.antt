@@ -1,0 +1,45 @@
+-- Rule 13 of a fit that the code took apart, and ends that agree in every field. Assumes nothing.
+use mathlib.Core.Path.{_≡_, refl, sym, ap, _∙_}
+use mathlib.Core.Bool.{Bool, true, false, _&&_, cond}
+use Prim.Native.Nat.{ℕ}
+use native.Mathlib.Omega.{arith}
+use lib.Ieee.Scale.{finite}
+use Rattle.lists.specs.declared.refusals.Refusal.the-variants as R
+use Rattle.lists.specs.Refusals.{served, refused, following}
+use Rattle.bisection.specs.declared.halving.Ends.{Ends}
+use Rattle.bisection.specs.declared.result.Fit.{Fit}
+use Rattle.bisection.specs.declared.result.Fitted.{Fitted}
+use Rattle.bisection.specs.declared.result.Fitted.the-variants as F
+use Rattle.bisection.specs.Result.{fittedOutcome, finishingFit}
+
+-- what rule 13 looks at
+abbrev pub allFinite : Fit → Bool
+allFinite fit =
+    let e = fit .ends in
+    finite (fit .sigma) && finite (fit .residual) && finite (e .low) && finite (e .high) && finite (e .«low_residual») && finite (e .«high_residual»)
+
+module _ (fitted : Fitted) (fit : Fit) (b : Bool) (e : fitted ≡ F.Served fit) (k : b ≡ allFinite fit) where
+  finishing : following (fittedOutcome fitted) finishingFit ≡ cond b (served fit) (refused R.Overflow)
+  finishing = ap (λ (x : Fitted). following (fittedOutcome x) finishingFit) e ∙ ap (λ (x : Bool). cond x (served fit) (refused R.Overflow)) (sym k)
+
+  pub let-through : b ≡ true → served fit ≡ following (fittedOutcome fitted) finishingFit
+  let-through h = sym (finishing ∙ ap (λ (x : Bool). cond x (served fit) (refused R.Overflow)) h)
+
+  pub turned-down : b ≡ false → refused R.Overflow ≡ following (fittedOutcome fitted) finishingFit
+  turned-down h = sym (finishing ∙ ap (λ (x : Bool). cond x (served fit) (refused R.Overflow)) h)
+
+-- ---- four tests, all of them passed
+no-true : {A : Type 0} → false ≡ true → A
+no-true h = let z : _≡_ {A = ℕ} 0 1 = cc in absurd (omega arith)
+
+both : (a b : Bool) → (a && b) ≡ true → (a ≡ true) × (b ≡ true)
+both true b h = (refl, h)
+both false b h = no-true h
+
+pub same-ends : (x y : Ends) (a b c d : Bool) → (a ≡ true → x .low ≡ y .low) → (b ≡ true → x .high ≡ y .high) → (c ≡ true → x .«low_residual» ≡ y .«low_residual») → (d ≡ true → x .«high_residual» ≡ y .«high_residual»)
+    → (a && b && c && d) ≡ true → x ≡ y
+same-ends x y a b c d p q r s h =
+    let (abc, d') = both (a && b && c) d h in
+    let (ab, c') = both (a && b) c abc in
+    let (a', b') = both a b ab in
+    λ i. record { low = p a' i; high = q b' i; «low_residual» = r c' i; «high_residual» = s d' i }

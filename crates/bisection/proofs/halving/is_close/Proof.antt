@@ -1,0 +1,14 @@
+-- `bisection::halving::is_close` meets its contract. Assumes nothing.
+use borrow.Author.Needs.{needs}
+use Rattle.bisection.proofs.Literals.{tolerance-is}
+use Rattle.bisection.proofs.halving.is_close.Statement.{statement}
+use Rattle.bisection.proofs.halving.is_close.Tie as tie
+
+abs-requires : tie.Need-abs-requires
+abs-requires c κs = search needs
+
+returns : tie.Need-returns
+returns c = rw (← tolerance-is) (cc)
+
+pub is-close-spec : {M : Type 1} → statement M
+is-close-spec = tie.close (tie.spec abs-requires returns)

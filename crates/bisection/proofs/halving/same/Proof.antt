@@ -1,0 +1,16 @@
+-- `bisection::halving::same` meets its contract. Assumes nothing.
+use mathlib.Core.Path.{sym, subst}
+use lib.Dec.{T}
+use mathlib.Core.Bool.{true≢false}
+use Rattle.search.proofs.SameValue.{same-tested}
+use Rattle.bisection.proofs.halving.same.Statement.{statement}
+use Rattle.bisection.proofs.halving.same.Tie as tie
+
+returns : tie.Need-returns
+returns c = λ e. absurd (true≢false (sym e))
+
+returns-2 : tie.Need-returns-2
+returns-2 c = λ e. same-tested _ _ (subst T (sym (c .before .good .0 .1)) tt) (subst T (sym (c .before .good .1 .0 .1)) tt) (c .if1 .left) e
+
+pub same-spec : {M : Type 1} → statement M
+same-spec = tie.close (tie.spec returns returns-2)

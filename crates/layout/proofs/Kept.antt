@@ -1,0 +1,81 @@
+-- What a caller knows of the parts of a file that keeps the layout: `kept`, and of each job its kind: `kind-known`.
+use mathlib.Core.Path.{_≡_, refl, sym, _∙_, ap}
+use mathlib.Core.Bool.{Bool, true, false, cond, _&&_}
+use mathlib.Core.List.{List}
+use Prim.Native.Nat.{ℕ, zero, suc, _+_, _*_, _/_, _%_, _<_, _≤_}
+use native.Mathlib.Omega.{arith}
+use borrow.Author.Tests.{leb-true}
+use lib.Dec.{leb}
+use lib.ListN.{length}
+use Rattle.layout.specs.declared.parts.Part.{Part}
+use Rattle.layout.specs.declared.parts.Layout.{Layout}
+use Rattle.layout.specs.declared.parts.Laid.the-variants.{Parts, Broken}
+use Rattle.layout.specs.Bytes.{eightBytes}
+use Rattle.layout.specs.Layout.{partsOf, endOf, bounded, placed, couponWidth, sized, known, allKnown, keeps, layoutOf}
+use Rattle.layout.proofs.Conditions.{both, ends, Counted, sizes}
+
+-- a part lies within the file, and is whole records, not too many
+pub record Whole (file : List ℕ) (p : Part) (width limit : ℕ) : Type 0 where
+  pub inside : endOf p ≤ length file
+  pub whole : p .length % width ≡ 0
+  pub few : p .length / width ≤ limit
+
+pub record Kept (file : List ℕ) (l : Layout) : Type 0 where
+  pub bytes : length file ≤ 65536
+  pub model : l .model .offset + 8 ≤ length file
+  pub pillars : Whole file (l .pillars) 16 64
+  pub curve : Whole file (l .curve) 16 2048
+  pub coupons : Whole file (l .coupons) (couponWidth l) 64
+  pub grid : Whole file (l .grid) 16 1024
+  pub jobs : Whole file (l .jobs) 40 128
+  pub kinds : allKnown file (l .jobs .offset) (l .jobs .length / 40) ≡ true
+
+whole-of : (file : List ℕ) (p : Part) (width limit : ℕ) → Counted width limit p → endOf p ≤ length file → Whole file p width limit
+whole-of file p width limit c h = record { inside = h; whole = c .whole; few = c .few }
+
+kept-parts : (file : List ℕ) (l : Layout) → keeps file l ≡ true → Kept file l
+unfolding keeps
+kept-parts file l e =
+    let k = both (bounded (length file) && placed (length file) l && sized l) (allKnown file (l .jobs .offset) (l .jobs .length / 40)) e in
+    let s = both (bounded (length file) && placed (length file) l) (sized l) (k .0) in
+    let p = both (bounded (length file)) (placed (length file) l) (s .0) in
+    let b = both (leb (length file) 65536) (leb 48 (length file)) (p .0) in
+    let n = ends (length file) l (p .1) in
+    let z = sizes l (s .1) in
+    record {
+      bytes = leb-true _ _ (b .0);
+      model = omega (arith, z .model, n .pillars, n .curve, n .coupons, n .grid, n .jobs, n .last);
+      pillars = whole-of file (l .pillars) 16 64 (z .pillars) (omega (arith, n .curve, n .coupons, n .grid, n .jobs, n .last));
+      curve = whole-of file (l .curve) 16 2048 (z .curve) (omega (arith, n .coupons, n .grid, n .jobs, n .last));
+      coupons = whole-of file (l .coupons) (couponWidth l) 64 (z .coupons) (omega (arith, n .grid, n .jobs, n .last));
+      grid = whole-of file (l .grid) 16 1024 (z .grid) (omega (arith, n .jobs, n .last));
+      jobs = whole-of file (l .jobs) 40 128 (z .jobs) (n .last);
+      kinds = k .1;
+    }
+
+pick : (b : Bool) (p l : Layout) → cond b (Parts p) Broken ≡ Parts l → (b ≡ true) × (p ≡ l)
+pick true p l e = (refl, cc)
+pick false p l e = absurd (let z : _≡_ {A = ℕ} 0 1 = cc in let y : ⊥ = omega arith in y)
+
+module _ (file : List ℕ) (l : Layout) (e : layoutOf file ≡ Parts l) where
+  picked : (keeps file (partsOf file) ≡ true) × (partsOf file ≡ l)
+  unfolding layoutOf
+  picked = pick (keeps file (partsOf file)) (partsOf file) l e
+
+  pub parts-are : partsOf file ≡ l
+  parts-are = picked .1
+
+  pub kept : Kept file l
+  kept = kept-parts file l (ap (keeps file) (sym parts-are) ∙ picked .0)
+
+-- each of n jobs has a kind from 1 to 12
+pub kind-known : (file : List ℕ) (n at i : ℕ) → allKnown file at n ≡ true → i < n → (1 ≤ eightBytes file (at + 40 * i)) × (eightBytes file (at + 40 * i) ≤ 12)
+unfolding allKnown
+kind-known file zero at i e h = absurd (let z : ⊥ = omega arith in z)
+kind-known file (suc n) at zero e h =
+    let k = both (leb 1 (eightBytes file at)) (leb (eightBytes file at) 12) (both (known (eightBytes file at)) (allKnown file (at + 40) n) e .0) in
+    let z : at + 40 * 0 ≡ at = omega arith in
+    rw z (leb-true _ _ (k .0), leb-true _ _ (k .1))
+kind-known file (suc n) at (suc i) e h =
+    let z : at + 40 * suc i ≡ at + 40 + 40 * i = omega arith in
+    rw z (kind-known file n (at + 40) i (both (known (eightBytes file at)) (allKnown file (at + 40) n) e .1) (omega arith))

@@ -1,0 +1,13 @@
+// A run file, lent as bytes: whether it keeps document 01's layout, and its floats and jobs.
+mod bytes;
+mod parts;
+mod records;
+
+pub use parts::Laid;
+pub use parts::Layout;
+pub use parts::Part;
+pub use parts::lay_out;
+pub use records::Job;
+pub use records::alpha;
+pub use records::column;
+pub use records::nth_job;

@@ -1,0 +1,5 @@
+-- The laws that the proofs of `lines` share.
+pub mod Nans
+pub mod Writing
+pub mod Digits
+pub mod Worked

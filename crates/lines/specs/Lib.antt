@@ -1,0 +1,3 @@
+-- What the contracts of the printed lines say.
+pub mod Text
+pub mod Lines

@@ -1,0 +1,37 @@
+// The lines that the program prints.
+ghost use Rattle.lines.specs.Text.{Begins};
+ghost use Rattle.lines.specs.Lines.{header, refusedLine, bitsOf, lineOf};
+use crate::fields;
+
+pub struct Line {
+    pub job: u64,
+    pub kind: u64,
+    pub answer: u64,
+    pub value: f64,
+    pub note: u64,
+}
+
+// Puts the header at the front of the buffer, and answers how many bytes it has.
+pub fn write_header(out: &mut [u8; 128]) -> usize
+    ensures { λ r. ⌜ Begins r header (now (out .entry)) (now (out .exit)) ⌝ }
+{
+    fields::put(b"job kind answer value note", b'\n', out, 0)
+}
+
+// The same with the line that stands for a whole file.
+pub fn write_refused(out: &mut [u8; 128]) -> usize
+    ensures { λ r. ⌜ Begins r refusedLine (now (out .entry)) (now (out .exit)) ⌝ }
+{
+    fields::put(b"refused 1", b'\n', out, 0)
+}
+
+// The same with a line of its own.
+pub fn write_line(l: Line, out: &mut [u8; 128]) -> usize
+    ensures { λ r. ⌜ Begins r (lineOf (l .job) (l .kind) (l .answer) (bitsOf (l .value)) (l .note)) (now (out .entry)) (now (out .exit)) ⌝ }
+{
+    let kind = fields::put_decimal(l.job, b' ', out, 0);
+    let answer = fields::put_decimal(l.kind, b' ', out, kind);
+    let value = fields::put_decimal(l.answer, b' ', out, answer);
+    let note = fields::put_hex(fields::bits_of(l.value), b' ', out, value);
+    fields::put_decimal(l.note, b'\n', out, note)
+}

@@ -1,0 +1,15 @@
+-- `paths::path::shift_of` meets its contract: the forward and half the state variance, fused. Assumes nothing.
+use Rattle.paths.specs.Generate.{shiftOf}
+use borrow.Author.Needs.{needs}
+use Rattle.paths.proofs.path.shift_of.Statement.{statement}
+use Rattle.paths.proofs.path.shift_of.Tie as tie
+
+fused-requires : tie.Need-fused-requires
+fused-requires c κs = search needs
+
+returns : tie.Need-returns
+unfolding shiftOf
+returns c = cc
+
+pub shift-of-spec : {M : Type 1} → statement M
+shift-of-spec = tie.close (tie.spec fused-requires returns)
