@@ -150,14 +150,8 @@ fn caplet_worked(
     };
     let price = market::caplet_market(quote, strike, t, end, vol, p_t, p_end);
     let none = [0.0; 1];
-    let fitted = solve::solve(
-        caplet,
-        price,
-        &none[..0],
-        &none[..0],
-        &none[..0],
-        &none[..0],
-    );
+    let empty = &none[..0];
+    let fitted = solve::solve(caplet, price, empty, empty, empty, empty);
     bisection::finished(fitted)
 }
 
