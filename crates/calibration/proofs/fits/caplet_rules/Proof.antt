@@ -42,7 +42,19 @@ and-rule-requires-6 c κs = search needs
 
 returns : tie.Need-returns
 unfolding inTurn
-returns c = rw (← in-turn _) cc
+returns c =
+    let r5 = c .before .before in
+    let r4 = r5 .before in
+    let r3 = r4 .before in
+    let r2 = r3 .before in
+    let r1 = r2 .before .before in
+    let w = r1 .before in
+    let f5 = w .before in
+    let f4 = f5 .before in
+    let f3 = f4 .before in
+    let f2 = f3 .before in
+    let f1 = f2 .before in
+    rw (← in-turn _, ← f1 .is-finite .ensures, ← f2 .is-finite2 .ensures, ← f3 .is-finite3 .ensures, ← f4 .is-finite4 .ensures, ← f5 .is-finite5 .ensures, ← w .strike-wrong .ensures, ← r1 .and-rule .ensures, ← r2 .and-rule2 .ensures, ← r3 .and-rule3 .ensures, ← r4 .and-rule4 .ensures, ← r5 .and-rule5 .ensures) (c .and-rule6 .ensures)
 
 pub caplet-rules-spec : {M : Type 1} → statement M
 caplet-rules-spec =

@@ -42,7 +42,19 @@ and-rule-requires-7 c κs = search needs
 
 returns : tie.Need-returns
 unfolding inTurn
-returns c = rw (← in-turn _) cc
+returns c =
+    let r6 = c .before in
+    let r5 = r6 .before .before in
+    let r4 = r5 .before in
+    let r3 = r4 .before in
+    let r2 = r3 .before in
+    let r1 = r2 .before .before .before in
+    let w = r1 .before .before .before in
+    let f4 = w .before in
+    let f3 = f4 .before in
+    let f2 = f3 .before in
+    let f1 = f2 .before in
+    rw (← in-turn _, ← f1 .is-finite .ensures, ← f2 .is-finite2 .ensures, ← f3 .is-finite3 .ensures, ← f4 .is-finite4 .ensures, ← w .strike-wrong .ensures, ← r1 .and-rule .ensures, ← r2 .and-rule2 .ensures, ← r3 .and-rule3 .ensures, ← r4 .and-rule4 .ensures, ← r5 .and-rule5 .ensures, ← r6 .and-rule6 .ensures) (c .and-rule7 .ensures)
 
 pub swaption-rules-spec : {M : Type 1} → statement M
 swaption-rules-spec =
