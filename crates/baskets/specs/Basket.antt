@@ -2,7 +2,6 @@
 use Prim.Native.Nat.{ℕ, _-_}
 use mathlib.Core.Bool.{Bool, true, false, cond}
 use mathlib.Core.List.{List, [], _∷_, _++_}
-use lib.Dec.{eqb}
 use lib.IntN.{pos}
 use lib.ListN.{length, replicate}
 use lib.Ieee.{Float, binary64, ofInt}
@@ -11,12 +10,11 @@ use Rattle.ieee.specs.Rounded.{_⊕_, _⊖_, _⊘_}
 use Rattle.ieee.specs.Decimal.{decimal}
 use Rattle.ieee.specs.Numbers.{zero, one}
 use Rattle.lists.specs.declared.refusals.Refusal.the-variants as R
-use Rattle.lists.specs.Refusals.{Outcome, served, refused, unless, following}
+use Rattle.lists.specs.Refusals.{Outcome, served, refused, answerOf, valueOr, unless, following}
 use Rattle.bisection.specs.declared.result.Fit.{Fit}
 use Rattle.calibration.specs.Fits.{capletFitted}
 use Rattle.baskets.specs.declared.call.Basket.{Basket}
-use Rattle.baskets.specs.declared.call.BasketFitted.{BasketFitted}
-use Rattle.baskets.specs.declared.call.BasketFitted.the-variants as B
+use Rattle.baskets.specs.declared.call.BasketFit.{BasketFit}
 use Rattle.baskets.specs.Entries.{Entry, entriesOf, rulesOn}
 
 -- ---- one entry
@@ -100,13 +98,13 @@ basketFrom n rs bs = record {
   «bumped_statuses» = padded (bs .statuses);
 }
 
-abbrev pub basketOutcome : BasketFitted → Outcome Basket
-basketOutcome (B.Served b) = served b
-basketOutcome (B.Refused r) = refused r
-
 -- beside a refusal's number: all fields 0
 abbrev pub noBasket : Basket
 noBasket = basketFrom 0 noRecords noBumps
+
+-- what is told of an outcome
+abbrev pub basketTold : Outcome Basket → BasketFit
+basketTold o = record { answer = answerOf o; basket = valueOr noBasket o }
 
 unfoldable pub fittedBasket : Float → List Float → List Float → List Entry → Outcome Basket
 fittedBasket alpha xs fs es =

@@ -1,19 +1,23 @@
--- Demand 3 of a basket: each of its fits, and each bumped one, is "held to the same facts as any other".
+-- Demand 3 of a basket, entry by entry: what stands in each place is of a fit, and of a bumped fit, that is "held to the same facts as any other".
 use mathlib.Core.Path.{_≡_}
 use mathlib.Core.Bool.{Bool}
-use mathlib.Core.List.{List, List·Memᴰ}
+use mathlib.Core.List.{List, _∷_, _++_}
+use Prim.Native.Nat.{ℕ}
+use lib.ListN.{length, getD}
 use lib.Ieee.{Float}
 use Rattle.ieee.specs.Rounded.{_⊕_}
+use Rattle.ieee.specs.Numbers.{zero}
+use Rattle.lists.specs.declared.refusals.Answer.the-variants as A
 use Rattle.lists.specs.declared.refusals.Refusal.the-variants as R
-use Rattle.lists.specs.Refusals.{served, refused}
+use Rattle.lists.specs.Refusals.{served}
 use Rattle.lists.specs.Lookups.{just, factorAt}
 use Rattle.bisection.specs.declared.result.Fit.{Fit}
 use Rattle.bisection.specs.Demand3.{Assured}
 use Rattle.calibration.specs.Objective.{capletObjective}
 use Rattle.baskets.specs.declared.call.Basket.{Basket}
-use Rattle.baskets.specs.declared.call.BasketFitted.{BasketFitted}
+use Rattle.baskets.specs.declared.call.BasketFit.{BasketFit}
 use Rattle.baskets.specs.Entries.{Entry, entriesOf}
-use Rattle.baskets.specs.Basket.{fitOf, bump, basketOutcome}
+use Rattle.baskets.specs.Basket.{fitOf, bump, statusOf, countOf, diagonalOf}
 
 -- an entry's fit at a quoted volatility
 pub record FitHeld (alpha : Float) (xs fs : List Float) (e : Entry) (vol : Float) : Type 0 where
@@ -25,12 +29,22 @@ pub record FitHeld (alpha : Float) (xs fs : List Float) (e : Entry) (vol : Float
   pub at-end : factorAt xs fs (e .end) ≡ just pS
   pub assured : Assured (capletObjective (e .quote) alpha (e .strike) (e .start) (e .end) vol pt pS) fit
 
--- every entry of a served basket, at its quote and at the bumped one
-abbrev pub BasketHeld : Float → List Float → List Float → List Bool → List Float → List Float → List Float → List Float → BasketFitted → Type 0
+-- place i of a served basket, which is of the entry e
+pub record PlaceHeld (alpha : Float) (xs fs : List Float) (b : Basket) (i : ℕ) (e : Entry) : Type 0 where
+  pub first : FitHeld alpha xs fs e (e .vol)
+  pub sigma-is : getD (b .sigmas) i zero ≡ first .fit .sigma
+  pub status-is : getD (b .statuses) i zero ≡ statusOf (first .fit .converged)
+  pub halvings-are : getD (b .halvings) i zero ≡ countOf (first .fit .halvings)
+  pub residual-is : getD (b .residuals) i zero ≡ first .fit .residual
+  pub bumped : FitHeld alpha xs fs e (e .vol ⊕ bump)
+  pub diagonal-is : getD (b .diagonal) i zero ≡ diagonalOf (bumped .fit .sigma) (first .fit .sigma)
+  pub bumped-status-is : getD (b .«bumped_statuses») i zero ≡ statusOf (bumped .fit .converged)
+
+-- every place of a served basket
+abbrev pub BasketHeld : Float → List Float → List Float → List Bool → List Float → List Float → List Float → List Float → BasketFit → Type 0
 BasketHeld alpha xs fs ns ks ts ends vs r =
-    (b : Basket) → basketOutcome r ≡ served b → (e : Entry) → List·Memᴰ e (entriesOf ns ks ts ends vs)
-    → FitHeld alpha xs fs e (e .vol) × FitHeld alpha xs fs e (e .vol ⊕ bump)
+    r .answer ≡ A.Served → (before : List Entry) (e : Entry) (behind : List Entry) → entriesOf ns ks ts ends vs ≡ before ++ (e ∷ behind) → PlaceHeld alpha xs fs (r .basket) (length before) e
 
 -- a basket of caplets has no search, so it is never refused for want of a bracket
-abbrev pub BasketNeverSo : BasketFitted → Type 0
-BasketNeverSo r = basketOutcome r ≡ refused R.NoBracket → ⊥
+abbrev pub BasketNeverSo : BasketFit → Type 0
+BasketNeverSo r = r .answer ≡ A.Refused R.NoBracket → ⊥

@@ -4,8 +4,9 @@ ghost use mathlib.Core.Bool.{true};
 ghost use Prim.Native.Nat.{_≤_};
 ghost use lib.ListN.{length};
 ghost use Rattle.lists.specs.Checks.{inOrder};
+ghost use Rattle.lists.specs.Refusals.{refused};
 ghost use Rattle.baskets.specs.Entries.{entriesOf};
-ghost use Rattle.baskets.specs.Basket.{basketOutcome, fittedBasket, basketOf};
+ghost use Rattle.baskets.specs.Basket.{noBasket, basketTold, fittedBasket, basketOf};
 ghost use Rattle.baskets.specs.Demand3.{BasketHeld, BasketNeverSo};
 use super::rules;
 use super::walk;
@@ -23,9 +24,34 @@ pub struct Basket {
     pub bumped_statuses: [f64; 64],
 }
 
-pub enum BasketFitted {
-    Served(Basket),
-    Refused(Refusal),
+// A basket's answer: whether it is served, and the basket, all 0 beside a refusal.
+pub struct BasketFit {
+    pub answer: Answer,
+    pub basket: Basket,
+}
+
+// Beside a refusal.
+fn no_basket() -> Basket
+    ensures { λ r. ⌜ r ≡ noBasket ⌝ }
+{
+    Basket {
+        count: 0,
+        sigmas: [0.0; 64],
+        statuses: [0.0; 64],
+        halvings: [0.0; 64],
+        residuals: [0.0; 64],
+        diagonal: [0.0; 64],
+        bumped_statuses: [0.0; 64],
+    }
+}
+
+fn turned_down(refusal: Refusal) -> BasketFit
+    ensures { λ r. ⌜ r ≡ basketTold (refused refusal) ⌝ }
+{
+    BasketFit {
+        answer: Answer::Refused(refusal),
+        basket: no_basket(),
+    }
 }
 
 // Entries are lent as lists of one length: whether the quote is a normal one, strike, start, end, quoted
@@ -39,8 +65,8 @@ pub fn fit_basket(
     starts: &[f64],
     ends: &[f64],
     vols: &[f64],
-) -> BasketFitted
-    ensures answer { λ r. ⌜ basketOutcome r ≡ basketOf alpha (now (times .entry)) (now (factors .entry)) (now (normals .entry)) (now (strikes .entry)) (now (starts .entry)) (now (ends .entry)) (now (vols .entry)) ⌝ }
+) -> BasketFit
+    ensures answer { λ r. ⌜ r ≡ basketTold (basketOf alpha (now (times .entry)) (now (factors .entry)) (now (normals .entry)) (now (strikes .entry)) (now (starts .entry)) (now (ends .entry)) (now (vols .entry))) ⌝ }
     ensures held { λ r. ⌜ BasketHeld alpha (now (times .entry)) (now (factors .entry)) (now (normals .entry)) (now (strikes .entry)) (now (starts .entry)) (now (ends .entry)) (now (vols .entry)) r ⌝ }
     ensures bracket { λ r. ⌜ BasketNeverSo r ⌝ }
 {
@@ -54,7 +80,7 @@ pub fn fit_basket(
         rules::domain_wrong(normals, strikes, vols),
     );
     if let Answer::Refused(refusal) = answer {
-        return BasketFitted::Refused(refusal);
+        return turned_down(refusal);
     }
     fitted_basket(alpha, times, factors, normals, strikes, starts, ends, vols)
 }
@@ -70,9 +96,9 @@ fn fitted_basket(
     starts: &[f64],
     ends: &[f64],
     vols: &[f64],
-) -> BasketFitted
+) -> BasketFit
     requires { ⌜ (length (now normals) ≤ 64) × (length (now strikes) ≡ length (now normals)) × (length (now starts) ≡ length (now normals)) × (length (now ends) ≡ length (now normals)) × (length (now vols) ≡ length (now normals)) × (inOrder true (now times) ≡ true) ⌝ }
-    ensures { λ r. ⌜ basketOutcome r ≡ fittedBasket alpha (now (times .entry)) (now (factors .entry)) (entriesOf (now (normals .entry)) (now (strikes .entry)) (now (starts .entry)) (now (ends .entry)) (now (vols .entry))) ⌝ }
+    ensures { λ r. ⌜ r ≡ basketTold (fittedBasket alpha (now (times .entry)) (now (factors .entry)) (entriesOf (now (normals .entry)) (now (strikes .entry)) (now (starts .entry)) (now (ends .entry)) (now (vols .entry)))) ⌝ }
 {
     let n = normals.len();
     let mut sigmas = [0.0; 64];
@@ -94,7 +120,7 @@ fn fitted_basket(
         &mut residuals[..n],
     );
     if let Answer::Refused(refusal) = fits {
-        return BasketFitted::Refused(refusal);
+        return turned_down(refusal);
     }
     let mut diagonal = [0.0; 64];
     let mut bumped_statuses = [0.0; 64];
@@ -112,15 +138,18 @@ fn fitted_basket(
         &mut bumped_statuses[..n],
     );
     if let Answer::Refused(refusal) = bumps {
-        return BasketFitted::Refused(refusal);
+        return turned_down(refusal);
     }
-    BasketFitted::Served(Basket {
-        count: n as u64,
-        sigmas,
-        statuses,
-        halvings,
-        residuals,
-        diagonal,
-        bumped_statuses,
-    })
+    BasketFit {
+        answer: Answer::Served,
+        basket: Basket {
+            count: n as u64,
+            sigmas,
+            statuses,
+            halvings,
+            residuals,
+            diagonal,
+            bumped_statuses,
+        },
+    }
 }

@@ -4,5 +4,5 @@ mod rules;
 mod walk;
 
 pub use call::Basket;
-pub use call::BasketFitted;
+pub use call::BasketFit;
 pub use call::fit_basket;
