@@ -10,7 +10,6 @@ use Rattle.lists.specs.Refusals.{Outcome, served, refused, firstOf}
 use Rattle.lists.specs.Lookups.{just, factorAt}
 use Rattle.lists.specs.Faults.{curveFaults}
 use Rattle.formulas.specs.HullWhite.{h}
-use Rattle.search.specs.Values.{Values}
 use Rattle.search.specs.Reached.{Unbracketed}
 use Rattle.search.specs.Facts.{Located}
 use Rattle.terms.specs.Terms.{factorsAt}

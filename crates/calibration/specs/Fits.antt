@@ -23,7 +23,7 @@ use Rattle.calibration.specs.declared.market.Quote.{Quote}
 use Rattle.calibration.specs.declared.market.Quote.the-variants as Q
 use Rattle.calibration.specs.Objective.{capletObjective, swaptionObjective}
 
--- "a Black strike is not above 0"; a normal one may be
+-- "a Black strike is not above 0"; a normal one may have any sign
 abbrev pub strikeWrong : Quote → Float → Bool
 strikeWrong Q.Black strike = le strike zero
 strikeWrong Q.Normal strike = false

@@ -3,7 +3,7 @@ use mathlib.Core.List.{List}
 use lib.Ieee.{Float}
 use Rattle.ieee.specs.Rounded.{_⊖_}
 use Rattle.lists.specs.Refusals.{Outcome, served, following}
-use Rattle.formulas.specs.HullWhite.{forwardOf, bOf, decayOf, deviationOf, volatilityAt, volatilityOf, bondPutOf, optionletStrikeOf, optionletOf}
+use Rattle.formulas.specs.HullWhite.{forwardOf, decayOf, deviationOf, volatilityAt, volatilityOf, bondPutOf, optionletStrikeOf, optionletOf}
 use Rattle.terms.specs.Terms.{coefficientsOf, bsOf, driftsOf}
 use Rattle.swaptions.specs.Price.{Valued, priceAt}
 use Rattle.calibration.specs.declared.market.Quote.{Quote}

@@ -1,5 +1,4 @@
 -- Kinds 1 to 4 of document 01: caplets, floorlets, bond puts and bond calls, on a curve of times ts and factors fs.
-use Prim.Native.Nat.{ℕ}
 use mathlib.Core.List.{List}
 use lib.Ieee.{Float}
 use Rattle.lists.specs.Refusals.{Outcome, unless, finishing}

@@ -5,9 +5,8 @@ use lib.Ieee.{Float, lt, le}
 use lib.Ieee.Scale.{finite}
 use Rattle.ieee.specs.Numbers.{zero}
 use Rattle.lists.specs.declared.curves.Faults.{Faults}
-use Rattle.lists.specs.declared.refusals.Answer.{Answer}
 use Rattle.lists.specs.declared.refusals.Refusal.the-variants as R
-use Rattle.lists.specs.Refusals.{Rule, rule, firstOf}
+use Rattle.lists.specs.Refusals.{Rule, rule}
 
 -- a list that the call does not use breaks no rule
 abbrev pub noFaults : Faults

@@ -1,7 +1,6 @@
 // utils.rs: a quoted volatility's price, Black's and Bachelier's, and the annuity over given coupons.
 ghost use mathlib.Core.Path.{_≡_};
 ghost use mathlib.Core.Bool.{true};
-ghost use lib.ListN.{drop};
 ghost use Rattle.lists.specs.Checks.{inOrder};
 ghost use Rattle.lists.specs.Refusals.{outcomeOf};
 ghost use Rattle.models.specs.Quotes.{pairOutcome, d1d2Worked, d1d2Outcome, blackCallOutcome, blackPutOutcome, bachelierCallOutcome, annuityPriced, annuityOutcome};

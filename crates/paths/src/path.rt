@@ -5,7 +5,7 @@ ghost use mathlib.Core.Bool.{true};
 ghost use lib.ListN.{length};
 ghost use Rattle.lists.specs.Checks.{inOrder};
 ghost use Rattle.lists.specs.Refusals.{served, answerOf, firstOf, after};
-ghost use Rattle.lists.specs.Faults.{curveFaults, pillarFaults, gridFaults};
+ghost use Rattle.lists.specs.Faults.{curveFaults};
 ghost use Rattle.paths.specs.Written.{storedOf};
 ghost use Rattle.paths.specs.Generate.{pathRules, startsBelow, stateAfter, shiftOf, pathFrom, startState, generateOutcome};
 use super::output;

@@ -1,4 +1,4 @@
--- `swaption_value`'s sum: a bond option a coupon, struck at its bond at the stepped rate; "own factors all 0 or all above 0, with each component times own / forward factor in the Rust's order".
+-- `swaption_value`'s sum: a bond option a coupon, struck at its bond at the stepped rate. Where the coupons have own factors, each component is times own / forward factor, in the Rust's order.
 use mathlib.Core.Bool.{Bool, cond}
 use mathlib.Core.List.{List, [], _∷_}
 use lib.Ieee.{Float}

@@ -1,4 +1,4 @@
--- Demand 3 of kinds 6 and 7: no accepted swaption rests on a lost root. The sums are those of the very terms priced, and the facts concern "the rate before the Newton step, returned beside the stepped one".
+-- Demand 3 of kinds 6 and 7: no accepted swaption rests on a lost root. The sums are those of the very terms priced, and the facts concern the rate before the Newton step, which is returned beside the stepped one.
 use mathlib.Core.Path.{_≡_}
 use mathlib.Core.List.{List}
 use lib.Ieee.{Float}

@@ -1,4 +1,4 @@
--- Kinds 6 and 7: `swaption_value`, payer or receiver, on pillars (times ps, volatilities ss), a curve (times ts, factors fs) and coupons (payment times, accruals, own factors): strike, option time, notional, side.
+-- Kinds 6 and 7: `swaption_value`, payer or receiver, on pillars (times pls, volatilities ss), a curve (times ts, factors fs) and coupons (payment times, accruals, own factors): strike, option time, notional, side.
 use mathlib.Core.Bool.{Bool, not, _&&_, _||_, cond}
 use mathlib.Core.List.{List, [], _∷_}
 use lib.Dec.{eqb}

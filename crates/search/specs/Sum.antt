@@ -1,5 +1,5 @@
 -- Document 01: "The priced coupon sum at a rate adds coefficient × A × exp(-B × rate) over the terms, rounded as in `find_critical_rate`."
--- "Sums start at 0 and run left to right." Lists of unlike length count as far as the shortest goes.
+-- "Sums start at 0 .. and run left to right." Lists of unlike length count as far as the shortest goes.
 use mathlib.Core.Path.{_≡_, refl, fun-ext}
 use mathlib.Core.List.{List, [], _∷_}
 use lib.Ieee.{Float, neg}

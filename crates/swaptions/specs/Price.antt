@@ -1,4 +1,4 @@
--- A swaption's price at a sigma (`HullWhite::swaption_price`): the search for the critical rate over the terms, then "Σ coefficient × put", each put struck at the bond's price at that rate.
+-- A swaption's price at a sigma (`HullWhite::swaption_price`): the search for the critical rate over the terms, then the sum of coefficient × put, each put struck at the bond's price at that rate.
 use mathlib.Core.Bool.{_&&_, cond}
 use mathlib.Core.List.{List, [], _∷_}
 use lib.Ieee.{Float}

@@ -10,7 +10,7 @@ use lists::Found;
 use lists::Refusal;
 
 // Fetches the factor at every payment time, or says why one is not there. Whoever prices a swaption has
-// asked rule 4: the curve's times strictly rise.
+// asked rule 4: the curve's times strictly rise. Beside a refusal the list holds what was fetched before it.
 pub fn fetch(times: &[f64], factors: &[f64], payments: &[f64], out: &mut [f64]) -> Answer
     requires { ⌜ (length (now out) ≡ length (now payments)) × (inOrder true (now times) ≡ true) ⌝ }
     ensures { λ r. ⌜ factorsAt (now (times .entry)) (now (factors .entry)) (now (payments .entry)) ≡ after r (served (now (out .exit))) ⌝ }
