@@ -1,5 +1,5 @@
 -- The order of the rules: a call is turned down by a rule exactly where that rule applies and none before it does, and let through exactly where none applies.
-use mathlib.Core.Path.{_≡_, refl}
+use mathlib.Core.Path.{_≡_, refl, ap, _∙_}
 use mathlib.Core.Logic.{_⊎_, inl, inr, ⊎-elim, _↔_}
 use mathlib.Core.Bool.{Bool, true, false, cond}
 use mathlib.Core.List.{List, [], _∷_}
@@ -75,3 +75,16 @@ pub in-turn : (xs : List Rule) → inTurn A.Served xs ≡ firstOf xs
 unfolding inTurn andRule firstOf
 in-turn [] = refl
 in-turn (x ∷ xs) = turn (x .applies) (x .refusal) xs (in-turn xs)
+
+-- rules asked one after the other, each on the answer of those before it
+pub data Asked : Answer → List Rule → Answer → Type 0 where
+  end : {a : Answer} → Asked a [] a
+  ask : {a b c : Answer} {x : Rule} {xs : List Rule} → b ≡ andRule a x → Asked b xs c → Asked a (x ∷ xs) c
+
+asked-turn : (a : Answer) (xs : List Rule) (c : Answer) → Asked a xs c → c ≡ inTurn a xs
+unfolding inTurn
+asked-turn a [] c end = refl
+asked-turn a (x ∷ xs) c (ask {b = b} e k) = asked-turn b xs c k ∙ ap (λ (y : Answer). inTurn y xs) e
+
+pub asked : (xs : List Rule) (c : Answer) → Asked A.Served xs c → c ≡ firstOf xs
+asked xs c k = asked-turn A.Served xs c k ∙ in-turn xs

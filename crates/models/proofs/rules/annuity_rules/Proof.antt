@@ -1,6 +1,6 @@
 -- `models::annuity_rules` meets its contract: whether each rule applies is what specs/ says, line by line. Assumes nothing.
 use borrow.Author.Needs.{needs}
-use Rattle.lists.specs.Order.{inTurn, in-turn}
+use Rattle.lists.specs.Order.{end, ask, asked}
 use Rattle.models.proofs.rules.annuity_rules.Statement.{statement}
 use Rattle.models.proofs.rules.annuity_rules.Tie as tie
 
@@ -17,12 +17,11 @@ and-rule-requires-4 : tie.Need-and-rule-requires-4
 and-rule-requires-4 c κs = search needs
 
 returns : tie.Need-returns
-unfolding inTurn
 returns c =
     let r3 = c .before in
     let r2 = r3 .before in
     let r1 = r2 .before .before .before in
-    rw (← in-turn _, ← r1 .and-rule .ensures, ← r2 .and-rule2 .ensures, ← r3 .and-rule3 .ensures) (c .and-rule4 .ensures)
+    asked _ _ (ask (r1 .and-rule .ensures) (ask (r2 .and-rule2 .ensures) (ask (r3 .and-rule3 .ensures) (ask (c .and-rule4 .ensures) end))))
 
 pub annuity-rules-spec : {M : Type 1} → statement M
 annuity-rules-spec =

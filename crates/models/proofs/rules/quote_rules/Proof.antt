@@ -1,6 +1,6 @@
 -- `models::quote_rules` meets its contract: whether each rule applies is what specs/ says, line by line. Assumes nothing.
 use borrow.Author.Needs.{needs}
-use Rattle.lists.specs.Order.{inTurn, in-turn}
+use Rattle.lists.specs.Order.{end, ask, asked}
 use Rattle.models.proofs.rules.quote_rules.Statement.{statement}
 use Rattle.models.proofs.rules.quote_rules.Tie as tie
 
@@ -26,7 +26,6 @@ and-rule-requires-3 : tie.Need-and-rule-requires-3
 and-rule-requires-3 c κs = search needs
 
 returns : tie.Need-returns
-unfolding inTurn
 returns c =
     let r2 = c .before in
     let r1 = r2 .before in
@@ -34,7 +33,8 @@ returns c =
     let f3 = f4 .before in
     let f2 = f3 .before in
     let f1 = f2 .before in
-    rw (← in-turn _, ← f1 .is-finite .ensures, ← f2 .is-finite2 .ensures, ← f3 .is-finite3 .ensures, ← f4 .is-finite4 .ensures, ← r1 .and-rule .ensures, ← r2 .and-rule2 .ensures) (c .and-rule3 .ensures)
+    let finite = rw (f1 .is-finite .ensures, f2 .is-finite2 .ensures, f3 .is-finite3 .ensures, f4 .is-finite4 .ensures) at (r1 .and-rule .ensures) in
+    asked _ _ (ask finite (ask (r2 .and-rule2 .ensures) (ask (c .and-rule3 .ensures) end)))
 
 pub quote-rules-spec : {M : Type 1} → statement M
 quote-rules-spec =

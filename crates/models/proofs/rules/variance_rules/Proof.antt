@@ -1,6 +1,6 @@
 -- `models::variance_rules` meets its contract: whether each rule applies is what specs/ says, line by line. Assumes nothing.
 use borrow.Author.Needs.{needs}
-use Rattle.lists.specs.Order.{inTurn, in-turn}
+use Rattle.lists.specs.Order.{end, ask, asked}
 use Rattle.models.proofs.rules.variance_rules.Statement.{statement}
 use Rattle.models.proofs.rules.variance_rules.Tie as tie
 
@@ -29,7 +29,6 @@ and-rule-requires-5 : tie.Need-and-rule-requires-5
 and-rule-requires-5 c κs = search needs
 
 returns : tie.Need-returns
-unfolding inTurn
 returns c =
     let r4 = c .before in
     let r3 = r4 .before in
@@ -38,7 +37,8 @@ returns c =
     let f3 = r1 .before in
     let f2 = f3 .before in
     let f1 = f2 .before in
-    rw (← in-turn _, ← f1 .is-finite .ensures, ← f2 .is-finite2 .ensures, ← f3 .is-finite3 .ensures, ← r1 .and-rule .ensures, ← r2 .and-rule2 .ensures, ← r3 .and-rule3 .ensures, ← r4 .and-rule4 .ensures) (c .and-rule5 .ensures)
+    let finite = rw (f1 .is-finite .ensures, f2 .is-finite2 .ensures, f3 .is-finite3 .ensures) at (r2 .and-rule2 .ensures) in
+    asked _ _ (ask (r1 .and-rule .ensures) (ask finite (ask (r3 .and-rule3 .ensures) (ask (r4 .and-rule4 .ensures) (ask (c .and-rule5 .ensures) end)))))
 
 pub variance-rules-spec : {M : Type 1} → statement M
 variance-rules-spec =

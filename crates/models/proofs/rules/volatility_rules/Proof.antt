@@ -1,6 +1,6 @@
 -- `models::volatility_rules` meets its contract: whether each rule applies is what specs/ says, line by line. Assumes nothing.
 use borrow.Author.Needs.{needs}
-use Rattle.lists.specs.Order.{inTurn, in-turn}
+use Rattle.lists.specs.Order.{end, ask, asked}
 use Rattle.models.proofs.rules.volatility_rules.Statement.{statement}
 use Rattle.models.proofs.rules.volatility_rules.Tie as tie
 
@@ -26,7 +26,6 @@ and-rule-requires-6 : tie.Need-and-rule-requires-6
 and-rule-requires-6 c κs = search needs
 
 returns : tie.Need-returns
-unfolding inTurn
 returns c =
     let r5 = c .before in
     let r4 = r5 .before in
@@ -34,7 +33,8 @@ returns c =
     let r2 = r3 .before in
     let r1 = r2 .before .before in
     let f1 = r1 .before in
-    rw (← in-turn _, ← f1 .is-finite .ensures, ← r1 .and-rule .ensures, ← r2 .and-rule2 .ensures, ← r3 .and-rule3 .ensures, ← r4 .and-rule4 .ensures, ← r5 .and-rule5 .ensures) (c .and-rule6 .ensures)
+    let finite = rw (f1 .is-finite .ensures) at (r2 .and-rule2 .ensures) in
+    asked _ _ (ask (r1 .and-rule .ensures) (ask finite (ask (r3 .and-rule3 .ensures) (ask (r4 .and-rule4 .ensures) (ask (r5 .and-rule5 .ensures) (ask (c .and-rule6 .ensures) end))))))
 
 pub volatility-rules-spec : {M : Type 1} → statement M
 volatility-rules-spec =
