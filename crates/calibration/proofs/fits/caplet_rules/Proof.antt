@@ -1,5 +1,5 @@
 -- `calibration::fits::caplet_rules` meets its contract: whether each rule applies is what specs/ says, line by line. Assumes nothing.
-use Rattle.lists.specs.Order.{inTurn, in-turn}
+use Rattle.lists.specs.Order.{end, ask, asked}
 use borrow.Author.Needs.{needs}
 use Rattle.calibration.proofs.fits.caplet_rules.Statement.{statement}
 use Rattle.calibration.proofs.fits.caplet_rules.Tie as tie
@@ -41,7 +41,6 @@ and-rule-requires-6 : tie.Need-and-rule-requires-6
 and-rule-requires-6 c κs = search needs
 
 returns : tie.Need-returns
-unfolding inTurn
 returns c =
     let r5 = c .before .before in
     let r4 = r5 .before in
@@ -54,7 +53,9 @@ returns c =
     let f3 = f4 .before in
     let f2 = f3 .before in
     let f1 = f2 .before in
-    rw (← in-turn _, ← f1 .is-finite .ensures, ← f2 .is-finite2 .ensures, ← f3 .is-finite3 .ensures, ← f4 .is-finite4 .ensures, ← f5 .is-finite5 .ensures, ← w .strike-wrong .ensures, ← r1 .and-rule .ensures, ← r2 .and-rule2 .ensures, ← r3 .and-rule3 .ensures, ← r4 .and-rule4 .ensures, ← r5 .and-rule5 .ensures) (c .and-rule6 .ensures)
+    let finite = rw (f1 .is-finite .ensures, f2 .is-finite2 .ensures, f3 .is-finite3 .ensures, f4 .is-finite4 .ensures, f5 .is-finite5 .ensures) at (r2 .and-rule2 .ensures) in
+    let domain = rw (w .strike-wrong .ensures) at (c .and-rule6 .ensures) in
+    asked _ _ (ask (r1 .and-rule .ensures) (ask finite (ask (r3 .and-rule3 .ensures) (ask (r4 .and-rule4 .ensures) (ask (r5 .and-rule5 .ensures) (ask domain end))))))
 
 pub caplet-rules-spec : {M : Type 1} → statement M
 caplet-rules-spec =

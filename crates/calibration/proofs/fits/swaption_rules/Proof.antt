@@ -1,5 +1,5 @@
 -- `calibration::fits::swaption_rules` meets its contract: whether each rule applies is what specs/ says, line by line. Assumes nothing.
-use Rattle.lists.specs.Order.{inTurn, in-turn}
+use Rattle.lists.specs.Order.{end, ask, asked}
 use borrow.Author.Needs.{needs}
 use Rattle.calibration.proofs.fits.swaption_rules.Statement.{statement}
 use Rattle.calibration.proofs.fits.swaption_rules.Tie as tie
@@ -41,7 +41,6 @@ and-rule-requires-7 : tie.Need-and-rule-requires-7
 and-rule-requires-7 c κs = search needs
 
 returns : tie.Need-returns
-unfolding inTurn
 returns c =
     let r6 = c .before in
     let r5 = r6 .before .before in
@@ -54,7 +53,9 @@ returns c =
     let f3 = f4 .before in
     let f2 = f3 .before in
     let f1 = f2 .before in
-    rw (← in-turn _, ← f1 .is-finite .ensures, ← f2 .is-finite2 .ensures, ← f3 .is-finite3 .ensures, ← f4 .is-finite4 .ensures, ← w .strike-wrong .ensures, ← r1 .and-rule .ensures, ← r2 .and-rule2 .ensures, ← r3 .and-rule3 .ensures, ← r4 .and-rule4 .ensures, ← r5 .and-rule5 .ensures, ← r6 .and-rule6 .ensures) (c .and-rule7 .ensures)
+    let finite = rw (f1 .is-finite .ensures, f2 .is-finite2 .ensures, f3 .is-finite3 .ensures, f4 .is-finite4 .ensures) at (r2 .and-rule2 .ensures) in
+    let domain = rw (w .strike-wrong .ensures) at (r6 .and-rule6 .ensures) in
+    asked _ _ (ask (r1 .and-rule .ensures) (ask finite (ask (r3 .and-rule3 .ensures) (ask (r4 .and-rule4 .ensures) (ask (r5 .and-rule5 .ensures) (ask domain (ask (c .and-rule7 .ensures) end)))))))
 
 pub swaption-rules-spec : {M : Type 1} → statement M
 swaption-rules-spec =

@@ -1,7 +1,6 @@
 -- `paths::path::path_rules` meets its contract: whether each rule applies is what `pathRules` says, line by line. Assumes nothing.
-use mathlib.Core.Path.{_∙_}
 use borrow.Author.Needs.{needs}
-use Rattle.lists.specs.Order.{inTurn, in-turn}
+use Rattle.lists.specs.Order.{end, ask, asked}
 use Rattle.paths.proofs.path.path_rules.Statement.{statement}
 use Rattle.paths.proofs.path.path_rules.Tie as tie
 
@@ -30,7 +29,6 @@ and-rule-requires-7 : tie.Need-and-rule-requires-7
 and-rule-requires-7 c κs = search needs
 
 returns : tie.Need-returns
-unfolding inTurn
 returns c =
     let six = c .before in
     let five = six .before .before .before in
@@ -39,8 +37,8 @@ returns c =
     let two = three .before in
     let one = two .before .before .before .before in
     let start = one .before .before .before .before in
-    rw (← in-turn _)
-    (c .and-rule7 .ensures ∙ rw (six .and-rule6 .ensures, five .and-rule5 .ensures, four .and-rule4 .ensures, three .and-rule3 .ensures, two .and-rule2 .ensures, one .and-rule .ensures, start .is-finite .ensures))
+    let finite = rw (start .is-finite .ensures) at (two .and-rule2 .ensures) in
+    asked _ _ (ask (one .and-rule .ensures) (ask finite (ask (three .and-rule3 .ensures) (ask (four .and-rule4 .ensures) (ask (five .and-rule5 .ensures) (ask (six .and-rule6 .ensures) (ask (c .and-rule7 .ensures) end)))))))
 
 pub path-rules-spec : {M : Type 1} → statement M
 path-rules-spec =

@@ -1,5 +1,5 @@
 -- `pricers::pricer_rules` meets its contract: whether each rule applies is what specs/ says, line by line. Assumes nothing.
-use Rattle.lists.specs.Order.{inTurn, in-turn}
+use Rattle.lists.specs.Order.{end, ask, asked}
 use borrow.Author.Needs.{needs}
 use Rattle.pricers.proofs.pricer.pricer_rules.Statement.{statement}
 use Rattle.pricers.proofs.pricer.pricer_rules.Tie as tie
@@ -41,9 +41,9 @@ and-rule-requires-7 : tie.Need-and-rule-requires-7
 and-rule-requires-7 c κs = search needs
 
 returns : tie.Need-returns
-unfolding inTurn
 returns c =
-    rw (← in-turn _, ← c .before .before .before .before .before .before .before .before .before .before .before .before .before .before .before .before .before .before .before .before .before .is-finite .ensures, ← c .before .before .before .before .before .before .before .before .before .before .before .before .before .before .before .before .before .before .before .before .is-finite2 .ensures, ← c .before .before .before .before .before .before .before .before .before .before .before .before .before .before .before .before .before .before .before .is-finite3 .ensures, ← c .before .before .before .before .before .before .before .before .before .before .before .before .before .before .before .before .before .before .is-finite4 .ensures, ← c .before .before .before .before .before .before .before .before .before .before .before .before .before .before .before .before .before .is-finite5 .ensures, ← c .before .before .before .before .before .before .before .before .before .before .before .before .before .and-rule .ensures, ← c .before .before .before .before .before .before .before .before .before .and-rule2 .ensures, ← c .before .before .before .before .before .before .before .before .and-rule3 .ensures, ← c .before .before .before .before .before .and-rule4 .ensures, ← c .before .before .before .before .and-rule5 .ensures, ← c .before .and-rule6 .ensures) (c .and-rule7 .ensures)
+    let finite = rw (c .before .before .before .before .before .before .before .before .before .before .before .before .before .before .before .before .before .before .before .before .before .is-finite .ensures, c .before .before .before .before .before .before .before .before .before .before .before .before .before .before .before .before .before .before .before .before .is-finite2 .ensures, c .before .before .before .before .before .before .before .before .before .before .before .before .before .before .before .before .before .before .before .is-finite3 .ensures, c .before .before .before .before .before .before .before .before .before .before .before .before .before .before .before .before .before .before .is-finite4 .ensures, c .before .before .before .before .before .before .before .before .before .before .before .before .before .before .before .before .before .is-finite5 .ensures) at (c .before .before .before .before .before .before .before .before .before .and-rule2 .ensures) in
+    asked _ _ (ask (c .before .before .before .before .before .before .before .before .before .before .before .before .before .and-rule .ensures) (ask finite (ask (c .before .before .before .before .before .before .before .before .and-rule3 .ensures) (ask (c .before .before .before .before .before .and-rule4 .ensures) (ask (c .before .before .before .before .and-rule5 .ensures) (ask (c .before .and-rule6 .ensures) (ask (c .and-rule7 .ensures) end)))))))
 
 pub pricer-rules-spec : {M : Type 1} → statement M
 pricer-rules-spec =

@@ -1,5 +1,5 @@
 -- `swaptions::model::model_rules` meets its contract: whether each rule applies is what specs/ says, line by line. Assumes nothing.
-use Rattle.lists.specs.Order.{inTurn, in-turn}
+use Rattle.lists.specs.Order.{end, ask, asked}
 use borrow.Author.Needs.{needs}
 use Rattle.swaptions.proofs.model.model_rules.Statement.{statement}
 use Rattle.swaptions.proofs.model.model_rules.Tie as tie
@@ -35,9 +35,9 @@ and-rule-requires-6 : tie.Need-and-rule-requires-6
 and-rule-requires-6 c κs = search needs
 
 returns : tie.Need-returns
-unfolding inTurn
 returns c =
-    rw (← in-turn _, ← c .before .before .before .before .before .before .before .before .before .before .before .before .before .before .is-finite .ensures, ← c .before .before .before .before .before .before .before .before .before .before .before .before .before .is-finite2 .ensures, ← c .before .before .before .before .before .before .before .before .before .before .before .before .is-finite3 .ensures, ← c .before .before .before .before .before .before .before .before .before .before .before .is-finite4 .ensures, ← c .before .before .before .before .before .before .before .before .and-rule .ensures, ← c .before .before .before .before .before .and-rule2 .ensures, ← c .before .before .before .before .and-rule3 .ensures, ← c .before .before .before .and-rule4 .ensures, ← c .before .before .and-rule5 .ensures) (c .and-rule6 .ensures)
+    let finite = rw (c .before .before .before .before .before .before .before .before .before .before .before .before .before .before .is-finite .ensures, c .before .before .before .before .before .before .before .before .before .before .before .before .before .is-finite2 .ensures, c .before .before .before .before .before .before .before .before .before .before .before .before .is-finite3 .ensures, c .before .before .before .before .before .before .before .before .before .before .before .is-finite4 .ensures) at (c .before .before .before .before .before .and-rule2 .ensures) in
+    asked _ _ (ask (c .before .before .before .before .before .before .before .before .and-rule .ensures) (ask finite (ask (c .before .before .before .before .and-rule3 .ensures) (ask (c .before .before .before .and-rule4 .ensures) (ask (c .before .before .and-rule5 .ensures) (ask (c .and-rule6 .ensures) end))))))
 
 pub model-rules-spec : {M : Type 1} → statement M
 model-rules-spec =
