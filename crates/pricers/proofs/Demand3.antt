@@ -1,100 +1,134 @@
--- Demand 3, of the definition: where a swaption is priced, the curve has the factors it needs, and the root lies where the search found it. Assumes nothing.
-use mathlib.Core.Path.{_≡_, refl, sym, ap, _∙_, subst}
-use mathlib.Core.Bool.{Bool, true, false, not, _&&_, _||_, cond}
+-- Demand 3 of kinds 6 and 7, of the definition: an outcome that is served has its root located among the sums of the terms priced, and one is refused for want of a bracket exactly where a search is begun that finds none. Assumes nothing.
+use mathlib.Core.Path.{_≡_, sym, ap, _∙_, subst}
+use mathlib.Core.Logic.{_↔_}
+use mathlib.Core.Bool.{Bool, true, false, not, _&&_, cond}
 use mathlib.Core.List.{List}
-use Prim.Native.Nat.{ℕ, zero, suc}
 use native.Mathlib.Omega.{arith}
-use lib.Dec.{eqb}
-use lib.ListN.{length}
-use lib.Ieee.{Float}
+use lib.Dec.{T}
+use lib.Ieee.{Float, lt}
 use lib.Ieee.Scale.{finite}
-use Rattle.ieee.specs.Rounded.{_⊗_}
-use Rattle.lists.specs.declared.checks.Test.the-variants.{Finite, Zero, Above}
+use Rattle.ieee.specs.Rounded.{_⊕_, _⊖_, _⊗_, _⊘_}
+use Rattle.ieee.specs.Numbers.{zero}
+use Rattle.elementary.specs.Simple.{absOf}
+use Rattle.lists.specs.declared.checks.Test.the-variants.{Zero}
+use Rattle.lists.specs.declared.refusals.Refusal.{Refusal}
+use Rattle.lists.specs.declared.refusals.Refusal.the-variants as R
+use Rattle.lists.specs.Refusals.{Outcome, served, refused, answerNumber, answerOf, after, following}
 use Rattle.lists.specs.Checks.{allOf}
-use Rattle.lists.specs.Faults.{curveFaults, pillarFaults, couponFaults}
-use Rattle.lists.specs.Refusals.{Outcome, served, refused, unless}
-use Rattle.lists.specs.Lookups.{Maybe, just, nothing, factorAt, needing}
-use Rattle.search.specs.declared.Bracket.{Bracket}
-use Rattle.search.specs.declared.Critical.{Critical}
-use Rattle.search.specs.Sum.{couponSum, weightsOf, weightedSum}
-use Rattle.search.specs.Rate.{criticalOf}
+use Rattle.lists.specs.Lookups.{factorAt}
+use Rattle.lists.proofs.Outcomes.{not-both}
+use Rattle.formulas.specs.HullWhite.{h, forwardOf}
+use Rattle.formulas.specs.Variance.{varianceOf}
+use Rattle.search.specs.Sum.{couponSum}
+use Rattle.search.specs.Values.{Values}
+use Rattle.search.specs.Reached.{Unbracketed}
 use Rattle.search.specs.Facts.{Located}
-use Rattle.search.proofs.Answers.{answered, priced, located}
+use Rattle.search.proofs.Callers.{early, Late, past-rules, past-lookups, through-lookups, root-located, wants-bracket, no-bracket, ends-so, ends-otherwise}
+use Rattle.terms.specs.Terms.{coefficientsOf, bsOf, factorsAt}
+use Rattle.terms.proofs.Fetched.{off-curve}
 use Rattle.pricers.specs.declared.bond_option.SwaptionType.{SwaptionType}
-use Rattle.pricers.specs.Newton.{sumsOf, stepped}
+use Rattle.pricers.specs.Affine.{deviationOf, affinesOf}
+use Rattle.pricers.specs.Newton.{flatLimit, sumsOf, stepped}
 use Rattle.pricers.specs.Components.{componentsOf}
-use Rattle.pricers.specs.Pricer.{Valued, finishingValuation, withStep, withRoot, fetching, pricedBy, pricerPriced, ownFits, pricerRule, pricerOutcome}
-use Rattle.pricers.specs.Demand3.{RootFound}
+use Rattle.pricers.specs.Pricer.{Valued, finishingValuation, pricedBy, pricerPriced, rulesOn, pricerOutcome}
+use Rattle.pricers.specs.Demand3.{Begun, RootFound, WantsBracket}
 
-never : {A : Type 0} {n : ℕ} {v : A} → _≡_ {A = Outcome A} (refused n) (served v) → ⊥
-never e = let z : _≡_ {A = ℕ} 0 1 = cc in omega arith
+-- ---- rule 13
+keeps : (w v : Valued) → finishingValuation w ≡ served v → w ≡ v
+keeps w v e =
+    let b = w .root .bracket in
+    ends-so (finite (w .value) && finite (w .after-step) && finite (w .root .rate) && finite (b .lower) && finite (b .upper) && finite (b .«lower_sum») && finite (b .«upper_sum»)) w e
 
--- ---- an outcome that is served, taken apart
-unless-served : (n : ℕ) (o : Outcome Valued) {v : Valued} → unless n o ≡ served v → o ≡ served v
-unless-served zero o e = e
-unless-served (suc n) o e = absurd (never e)
+otherwise : (w : Valued) → finishingValuation w ≡ refused R.NoBracket → ⊥
+otherwise w e =
+    let b = w .root .bracket in
+    ends-otherwise (finite (w .value) && finite (w .after-step) && finite (w .root .rate) && finite (b .lower) && finite (b .upper) && finite (b .«lower_sum») && finite (b .«upper_sum»)) w e
 
-needing-served : (m : Maybe) (rest : Float → Outcome Valued) {v : Valued} → needing m rest ≡ served v → (p : Float) × (m ≡ just p) × (rest p ≡ served v)
-needing-served (just p) rest e = (p, refl, e)
-needing-served nothing rest e = absurd (never e)
-
-fetching-served : (o : Outcome (List Float)) (rest : List Float → Outcome Valued) {v : Valued} → fetching o rest ≡ served v → (ps : List Float) × (o ≡ served ps) × (rest ps ≡ served v)
-fetching-served (served ps) rest e = (ps, refl, e)
-fetching-served (refused n) rest e = absurd (never e)
-
-record FoundRoot (r : Critical) (rest : Float → Bracket → ℕ → ℕ → Outcome Valued) (v : Valued) : Type 0 where
-  b : Bracket
-  i : ℕ
-  j : ℕ
-  rate : Float
-  found : r ≡ Critical.Found b i j rate
-  on : rest rate b i j ≡ served v
-
-root-served : (r : Critical) (rest : Float → Bracket → ℕ → ℕ → Outcome Valued) {v : Valued} → withRoot r rest ≡ served v → FoundRoot r rest v
-root-served (Critical.Found b i j rate) rest e = record { b = b; i = i; j = j; rate = rate; found = refl; on = e }
-root-served Critical.NotANumber rest e = absurd (never e)
-root-served Critical.NoBracket rest e = absurd (never e)
-
-step-served : (o : Outcome Float) (rest : Float → Outcome Valued) {v : Valued} → withStep o rest ≡ served v → (s : Float) × (rest s ≡ served v)
+-- ---- the Newton step refuses by 11 alone
+step-served : (o : Outcome Float) (rest : Float → Outcome Valued) {v : Valued} → following o rest ≡ served v → (s : Float) × (rest s ≡ served v)
 step-served (served s) rest e = (s, e)
-step-served (refused n) rest e = absurd (never e)
+step-served (refused q) rest e = absurd (not-both e)
 
-cond-served : (b : Bool) (y : Valued) {v : Valued} → cond b (served y) (refused 13) ≡ served v → y ≡ v
-cond-served true y e = cc
-cond-served false y e = absurd (never e)
+step-otherwise : (b : Bool) (x : Float) (rest : Float → Outcome Valued) → ((s : Float) → rest s ≡ refused R.NoBracket → ⊥) → following (cond b (refused R.FlatDerivative) (served x)) rest ≡ refused R.NoBracket → ⊥
+step-otherwise true x rest h e = let z = ap (λ o. answerNumber (answerOf o)) e in omega arith
+step-otherwise false x rest h e = h x e
 
-root-kept : (x s r : Float) (b : Bracket) (i j : ℕ) {v : Valued} → finishingValuation x s r b i j ≡ served v → record { rate = r; bracket = b; low-rung = i; high-rung = j } ≡ v .root
-root-kept x s r b i j e =
-    ap (λ (y : Valued). y .root)
-    (cond-served (finite x && finite s && finite r && finite (b .lower) && finite (b .upper) && finite (b .«lower_sum») && finite (b .«upper_sum»)) (record { value = x; after-step = s; root = record { rate = r; bracket = b; low-rung = i; high-rung = j } }) e)
+-- ---- the terms priced: a search, and what follows it
+module _ (option : SwaptionType) (deviation pt : Float) (cs affs bs ps owns : List Float) (notional side : Float) where
+  value : Values → Float → Valued
+  value root s = record { value = componentsOf option (not (allOf Zero owns)) deviation pt s cs affs bs ps owns ⊗ notional ⊗ side; after-step = s; root = root }
 
--- ---- the root of what is priced
-root-located : (option : SwaptionType) (deviation pt : Float) (cs affs bs ps owns : List Float) (notional side : Float) (v : Valued) → pricedBy option deviation pt cs affs bs ps owns notional side ≡ served v
-    → Located (couponSum cs affs bs) (v .root)
-unfolding pricedBy
-root-located option deviation pt cs affs bs ps owns notional side v e =
-    let r = criticalOf (weightedSum (weightsOf cs affs) bs) in
-    let f = root-served r _ e in
-    let value : Float → Float = λ s. componentsOf option (not (allOf Zero owns)) deviation pt s cs affs bs ps owns ⊗ notional ⊗ side in
-    let s = step-served (stepped (f .rate) (sumsOf (f .rate) cs affs bs)) (λ s. finishingValuation (value s) s (f .rate) (f .b) (f .i) (f .j)) (f .on) in
-    subst (Located (couponSum cs affs bs)) (root-kept (value (s .0)) (s .0) (f .rate) (f .b) (f .i) (f .j) (s .1))
-    (located (couponSum cs affs bs) r (f .b) (f .i) (f .j) (f .rate) (f .found) (priced cs affs bs (weightsOf cs affs) r refl (answered (weightedSum (weightsOf cs affs) bs) r refl)))
+  onward : Values → Outcome Valued
+  onward root = following (stepped (root .rate) (sumsOf (root .rate) cs affs bs)) (λ s. finishingValuation (value root s))
 
+  onward-served : (root : Values) (v : Valued) → onward root ≡ served v → root ≡ v .root
+  unfolding onward value
+  onward-served root v e =
+      let s = step-served (stepped (root .rate) (sumsOf (root .rate) cs affs bs)) (λ s. finishingValuation (value root s)) e in
+      ap (λ (u : Valued). u .root) (keeps (value root (s .0)) v (s .1))
+
+  onward-otherwise : (root : Values) → onward root ≡ refused R.NoBracket → ⊥
+  unfolding onward stepped
+  onward-otherwise root e =
+      let sums = sumsOf (root .rate) cs affs bs in
+      step-otherwise (lt (absOf (sums .derivative)) flatLimit) (root .rate ⊖ sums .objective ⊘ sums .derivative) (λ s. finishingValuation (value root s)) (λ s. otherwise (value root s)) e
+
+  located : (v : Valued) → pricedBy option deviation pt cs affs bs ps owns notional side ≡ served v → Located (couponSum cs affs bs) (v .root)
+  unfolding pricedBy onward value
+  located v e =
+      let r = root-located (couponSum cs affs bs) onward v e in
+      subst (Located (couponSum cs affs bs)) (onward-served (r .0) v (r .2)) (r .1)
+
+  unbracketed : pricedBy option deviation pt cs affs bs ps owns notional side ≡ refused R.NoBracket → Unbracketed (couponSum cs affs bs)
+  unfolding pricedBy onward value
+  unbracketed e = wants-bracket (couponSum cs affs bs) onward onward-otherwise e
+
+  bracket-wanted : Unbracketed (couponSum cs affs bs) → pricedBy option deviation pt cs affs bs ps owns notional side ≡ refused R.NoBracket
+  unfolding pricedBy onward value
+  bracket-wanted u = no-bracket (couponSum cs affs bs) onward u
+
+-- ---- the call
 module _ (option : SwaptionType) (alpha : Float) (pls ss ts fs payments accruals owns : List Float) (strike t notional side : Float) where
-  root-found : (v : Valued) → pricerPriced option alpha pls ss ts fs payments accruals owns strike t notional side ≡ served v → RootFound alpha pls ss ts fs payments accruals strike t v
-  unfolding pricerPriced
-  root-found v e =
-      let a = needing-served (factorAt ts fs t) _ e in
-      let d = needing-served _ _ (a .2) in
-      let p = fetching-served _ _ (d .2) in
-      record { pt = a .0; pPlus = d .0; ps = p .0; at-option = a .1; day-after = d .1; at-payments = p .1; located = root-located _ _ _ _ _ _ _ _ _ _ v (p .2) }
+  fetch-early : (q : Refusal) → factorsAt ts fs payments ≡ refused q → T (early q)
+  fetch-early q e = rw (off-curve ts fs payments q e) tt
 
-  -- an outcome that is the definition's has its root where it was found
-  pub rooted : {o : Outcome Valued} → o ≡ pricerOutcome option alpha pls ss ts fs payments accruals owns strike t notional side
-      → (v : Valued) → o ≡ served v → RootFound alpha pls ss ts fs payments accruals strike t v
-  unfolding pricerOutcome
-  rooted e v f =
-      root-found v
-      (unless-served
-      (pricerRule (curveFaults ts fs) (pillarFaults pls ss) (couponFaults payments accruals) (not (eqb (length payments) (length owns))) (allOf Finite owns) (ownFits owns) (allOf (Above t) payments)
-      (eqb (length payments) 0 || eqb (length pls) 0) alpha strike t notional side) _ (sym e ∙ f))
+  -- the terms on the factors at t, t + h and the payment times, and their price
+  on : Float → Float → List Float → Outcome Valued
+  on pt pPlus ps =
+      pricedBy option (deviationOf (varianceOf alpha pls ss zero t)) pt (coefficientsOf strike accruals) (affinesOf (varianceOf alpha pls ss zero t) (forwardOf pt pPlus) pt (bsOf alpha t payments) ps) (bsOf alpha t payments) ps owns notional side
+
+  record Searches (o : Outcome Valued) : Type 0 where
+    begun : Begun alpha pls ss ts fs payments accruals owns strike t notional side
+    goes-on : on (begun .pt) (begun .pPlus) (begun .ps) ≡ o
+
+  searches : (o : Outcome Valued) → Late o → pricerOutcome option alpha pls ss ts fs payments accruals owns strike t notional side ≡ o → Searches o
+  unfolding pricerOutcome pricerPriced on
+  searches o late e =
+      let p = past-rules o late (rulesOn alpha pls ss ts fs payments accruals owns strike t notional side) (pricerPriced option alpha pls ss ts fs payments accruals owns strike t notional side) tt e in
+      let r = past-lookups (factorAt ts fs t) (factorAt ts fs (t ⊕ h)) (factorsAt ts fs payments) on o late fetch-early (p .1) in
+      record {
+        begun = record { passed = p .0; pt = r .pt; pPlus = r .pPlus; ps = r .ps; at-option = r .at-option; day-after = r .day-after; at-payments = r .at-payments };
+        goes-on = r .goes-on;
+      }
+
+  -- a search that is begun is what the call comes to
+  begins : (b : Begun alpha pls ss ts fs payments accruals owns strike t notional side) → pricerOutcome option alpha pls ss ts fs payments accruals owns strike t notional side ≡ on (b .pt) (b .pPlus) (b .ps)
+  unfolding pricerOutcome pricerPriced on
+  begins b =
+      ap (λ a. after a (pricerPriced option alpha pls ss ts fs payments accruals owns strike t notional side)) (b .passed)
+      ∙ through-lookups (factorAt ts fs t) (factorAt ts fs (t ⊕ h)) (factorsAt ts fs payments) on (b .at-option) (b .day-after) (b .at-payments)
+
+  -- ---- of any answer whose outcome is the one defined: `Rooted` and `RefusedSo`
+  module _ {o : Outcome Valued} (is : o ≡ pricerOutcome option alpha pls ss ts fs payments accruals owns strike t notional side) where
+    pub rooted : (v : Valued) → o ≡ served v → RootFound alpha pls ss ts fs payments accruals owns strike t notional side v
+    unfolding on
+    rooted v e =
+        let s = searches (served v) tt (sym is ∙ e) in
+        record { begun = s .begun; located = located _ _ _ _ _ _ _ _ _ _ v (s .goes-on) }
+
+    pub refused-so : (o ≡ refused R.NoBracket) ↔ WantsBracket alpha pls ss ts fs payments accruals owns strike t notional side
+    unfolding on
+    refused-so = (
+      λ e. let s = searches (refused R.NoBracket) tt (sym is ∙ e) in record { begun = s .begun; unbracketed = unbracketed _ _ _ _ _ _ _ _ _ _ (s .goes-on) },
+      λ w. is ∙ begins (w .begun) ∙ bracket-wanted _ _ _ _ _ _ _ _ _ _ (w .unbracketed),
+    )

@@ -16,3 +16,4 @@ pub mod Joining
 pub mod Demand3
 pub mod Reaching
 pub mod Answers
+pub mod Callers

@@ -1,16 +1,26 @@
 -- `pricers::pricer_priced` meets its contract: each factor is found or the call is refused by rule 8, and then the terms are worked and priced. Assumes nothing.
 use mathlib.Core.Path.{sym, _∙_, subst}
+use mathlib.Core.List.{List}
 use Prim.Native.Nat.{ℕ, _≤_}
+use lib.Ieee.{Float}
+use Rattle.lists.proofs.Outcomes.{at, missing}
 use Rattle.terms.proofs.Entries.{coefficients-length, bs-length}
+use Rattle.terms.proofs.Fetched.{fetch-refused, fetch-all}
 use Rattle.pricers.proofs.Entries.{affines-length}
 use Rattle.pricers.proofs.Parts.{within, front, sized, factors-within, factors-front, factors-sized, lent}
-use Rattle.pricers.proofs.Pricing.{at, missing, all-fetched, none-fetched, off-option, off-day, off-payments, on-curve}
+use Rattle.pricers.proofs.Pricing.{off-option, off-day, off-payments, on-curve}
 use borrow.Author.Needs.{needs}
 use Rattle.pricers.proofs.pricer.pricer_priced.Statement.{statement}
 use Rattle.pricers.proofs.pricer.pricer_priced.Tie as tie
 
+-- ---- what was written into the lent list of factors
+abbrev ps-of : tie.After-fetch → List Float
+ps-of g = g .fetch .last .1 .1 .1 .0
+
+-- ---- the needs
+
 factor-requires : tie.Need-factor-requires
-factor-requires c κs = search needs
+factor-requires c κs = c .before .before .before .before .before .before .before .pre .3
 
 enum-known-p-t : tie.Need-enum-known-p-t
 enum-known-p-t c = search needs
@@ -25,7 +35,7 @@ day-requires : tie.Need-day-requires
 day-requires c κs = search needs
 
 factor-requires-2 : tie.Need-factor-requires-2
-factor-requires-2 c κs = search needs
+factor-requires-2 c κs = c .before .before .before .before .before .before .before .before .before .before .before .before .pre .3
 
 enum-known-p-plus : tie.Need-enum-known-p-plus
 enum-known-p-plus c = search needs
@@ -52,23 +62,23 @@ slice-aggregate-fetch c =
 fetch-requires : tie.Need-fetch-requires
 fetch-requires c κs =
     let start = c .before .before .before .before .before .before .before .before .before .before .before .before .before .before .before .before .before in
-    sym (lent _ _ (start .pre .0))
+    (sym (lent _ _ (start .pre .0)), start .pre .3)
 
-enum-told-3 : tie.Need-enum-told-3
-enum-told-3 c = search needs
+enum-known-fetched : tie.Need-enum-known-fetched
+enum-known-fetched c = search needs
 
 returns-3 : tie.Need-returns-3
 returns-3 c =
-    let at-fetch = c .before .before .before in
+    let at-fetch = c .before .before .before .before in
     let at-p-plus = at-fetch .before .before .before in
     let at-factor2 = at-p-plus .before .before in
     let at-day = at-factor2 .before in
     let at-p-t = at-day .before .before in
     let at-factor = at-p-t .before .before in
-    off-payments _ _ _ _ _ _ _ _ _ _ _ _ _ (at _ (at-p-t .p-t .given .1) (at-factor .factor .ensures)) (at-day .day .ensures) (at _ (at-p-plus .p-plus .given .1) (at-factor2 .factor2 .ensures)) (none-fetched _ _ _ (c .enum-told3 .given .1) (at-fetch .fetch .ensures))
+    off-payments _ _ _ _ _ _ _ _ _ _ _ _ _ (at _ (at-p-t .p-t .given .1) (at-factor .factor .ensures)) (at-day .day .ensures) (at _ (at-p-plus .p-plus .given .1) (at-factor2 .factor2 .ensures)) (fetch-refused (ps-of at-fetch) (c .before .fetched .given .1) (at-fetch .fetch .ensures))
 
-enum-told-4 : tie.Need-enum-told-4
-enum-told-4 c = search needs
+enum-told-3 : tie.Need-enum-told-3
+enum-told-3 c = search needs
 
 array-borrow-prefix-c : tie.Need-array-borrow-prefix-c
 array-borrow-prefix-c c = search needs
@@ -114,15 +124,15 @@ slice-aggregate-affines c =
 
 array-share-prefix-p : tie.Need-array-share-prefix-p
 array-share-prefix-p c =
-    let at-enum-told4 = c .before .before .before .before .before .before .before .before .before in
-    let at-fetch = at-enum-told4 .before .before .before in
-    factors-within _ _ _ _ (all-fetched _ _ _ (at-enum-told4 .enum-told4 .given .1) (at-fetch .fetch .ensures))
+    let at-enum-told3 = c .before .before .before .before .before .before .before .before .before in
+    let at-fetch = at-enum-told3 .before .before .before in
+    factors-within _ _ _ _ (fetch-all (ps-of at-fetch) (at-enum-told3 .enum-told3 .given .1) (at-fetch .fetch .ensures))
 
 slice-aggregate-affines-2 : tie.Need-slice-aggregate-affines-2
 slice-aggregate-affines-2 c =
-    let at-enum-told4 = c .before .before .before .before .before .before .before .before .before .before in
-    let at-fetch = at-enum-told4 .before .before .before in
-    factors-sized _ _ _ _ (all-fetched _ _ _ (at-enum-told4 .enum-told4 .given .1) (at-fetch .fetch .ensures))
+    let at-enum-told3 = c .before .before .before .before .before .before .before .before .before .before in
+    let at-fetch = at-enum-told3 .before .before .before in
+    factors-sized _ _ _ _ (fetch-all (ps-of at-fetch) (at-enum-told3 .enum-told3 .given .1) (at-fetch .fetch .ensures))
 
 array-borrow-prefix-a : tie.Need-array-borrow-prefix-a
 array-borrow-prefix-a c =
@@ -137,10 +147,10 @@ slice-aggregate-affines-3 c =
 affines-requires : tie.Need-affines-requires
 affines-requires c κs =
     let at-bs = c .before .before .before .before .before .before in
-    let at-enum-told4 = at-bs .before .before .before .before .before in
-    let at-fetch = at-enum-told4 .before .before .before in
+    let at-enum-told3 = at-bs .before .before .before .before .before in
+    let at-fetch = at-enum-told3 .before .before .before in
     let start = at-fetch .before .before .before .before .before .before .before .before .before .before .before .before .before .before .before .before .before .before in
-    (sym (lent _ _ (start .pre .0)) ∙ sized _ (at-bs .bs .ensures) (bs-length _ _ _), sym (factors-sized _ _ _ _ (all-fetched _ _ _ (at-enum-told4 .enum-told4 .given .1) (at-fetch .fetch .ensures))) ∙ sized _ (at-bs .bs .ensures) (bs-length _ _ _))
+    (sym (lent _ _ (start .pre .0)) ∙ sized _ (at-bs .bs .ensures) (bs-length _ _ _), sym (factors-sized _ _ _ _ (fetch-all (ps-of at-fetch) (at-enum-told3 .enum-told3 .given .1) (at-fetch .fetch .ensures))) ∙ sized _ (at-bs .bs .ensures) (bs-length _ _ _))
 
 deviation-requires : tie.Need-deviation-requires
 deviation-requires c κs = search needs
@@ -161,17 +171,17 @@ array-share-prefix-a : tie.Need-array-share-prefix-a
 array-share-prefix-a c =
     let at-affines = c .before .before .before in
     let at-bs = at-affines .before .before .before .before .before .before .before in
-    let at-enum-told4 = at-bs .before .before .before .before .before in
-    let at-fetch = at-enum-told4 .before .before .before in
-    within _ (at-affines .affines .ensures) (affines-length _ _ _ _ _ (sym (factors-sized _ _ _ _ (all-fetched _ _ _ (at-enum-told4 .enum-told4 .given .1) (at-fetch .fetch .ensures))) ∙ sized _ (at-bs .bs .ensures) (bs-length _ _ _)) ∙ sym (sized _ (at-bs .bs .ensures) (bs-length _ _ _)))
+    let at-enum-told3 = at-bs .before .before .before .before .before in
+    let at-fetch = at-enum-told3 .before .before .before in
+    within _ (at-affines .affines .ensures) (affines-length _ _ _ _ _ (sym (factors-sized _ _ _ _ (fetch-all (ps-of at-fetch) (at-enum-told3 .enum-told3 .given .1) (at-fetch .fetch .ensures))) ∙ sized _ (at-bs .bs .ensures) (bs-length _ _ _)) ∙ sym (sized _ (at-bs .bs .ensures) (bs-length _ _ _)))
 
 slice-aggregate-priced-by-2 : tie.Need-slice-aggregate-priced-by-2
 slice-aggregate-priced-by-2 c =
     let at-affines = c .before .before .before .before in
     let at-bs = at-affines .before .before .before .before .before .before .before in
-    let at-enum-told4 = at-bs .before .before .before .before .before in
-    let at-fetch = at-enum-told4 .before .before .before in
-    sized _ (at-affines .affines .ensures) (affines-length _ _ _ _ _ (sym (factors-sized _ _ _ _ (all-fetched _ _ _ (at-enum-told4 .enum-told4 .given .1) (at-fetch .fetch .ensures))) ∙ sized _ (at-bs .bs .ensures) (bs-length _ _ _)) ∙ sym (sized _ (at-bs .bs .ensures) (bs-length _ _ _)))
+    let at-enum-told3 = at-bs .before .before .before .before .before in
+    let at-fetch = at-enum-told3 .before .before .before in
+    sized _ (at-affines .affines .ensures) (affines-length _ _ _ _ _ (sym (factors-sized _ _ _ _ (fetch-all (ps-of at-fetch) (at-enum-told3 .enum-told3 .given .1) (at-fetch .fetch .ensures))) ∙ sized _ (at-bs .bs .ensures) (bs-length _ _ _)) ∙ sym (sized _ (at-bs .bs .ensures) (bs-length _ _ _)))
 
 array-share-prefix-b-2 : tie.Need-array-share-prefix-b-2
 array-share-prefix-b-2 c =
@@ -185,29 +195,29 @@ slice-aggregate-priced-by-3 c =
 
 array-share-prefix-p-2 : tie.Need-array-share-prefix-p-2
 array-share-prefix-p-2 c =
-    let at-enum-told4 = c .before .before .before .before .before .before .before .before .before .before .before .before .before .before .before .before .before in
-    let at-fetch = at-enum-told4 .before .before .before in
-    factors-within _ _ _ _ (all-fetched _ _ _ (at-enum-told4 .enum-told4 .given .1) (at-fetch .fetch .ensures))
+    let at-enum-told3 = c .before .before .before .before .before .before .before .before .before .before .before .before .before .before .before .before .before in
+    let at-fetch = at-enum-told3 .before .before .before in
+    factors-within _ _ _ _ (fetch-all (ps-of at-fetch) (at-enum-told3 .enum-told3 .given .1) (at-fetch .fetch .ensures))
 
 slice-aggregate-priced-by-4 : tie.Need-slice-aggregate-priced-by-4
 slice-aggregate-priced-by-4 c =
-    let at-enum-told4 = c .before .before .before .before .before .before .before .before .before .before .before .before .before .before .before .before .before .before in
-    let at-fetch = at-enum-told4 .before .before .before in
-    factors-sized _ _ _ _ (all-fetched _ _ _ (at-enum-told4 .enum-told4 .given .1) (at-fetch .fetch .ensures))
+    let at-enum-told3 = c .before .before .before .before .before .before .before .before .before .before .before .before .before .before .before .before .before .before in
+    let at-fetch = at-enum-told3 .before .before .before in
+    factors-sized _ _ _ _ (fetch-all (ps-of at-fetch) (at-enum-told3 .enum-told3 .given .1) (at-fetch .fetch .ensures))
 
 priced-by-requires : tie.Need-priced-by-requires
 priced-by-requires c κs =
     let at-affines = c .before .before .before .before .before .before in
     let at-bs = at-affines .before .before .before .before .before .before .before in
     let at-coefficients = at-bs .before .before .before in
-    let at-enum-told4 = at-coefficients .before .before in
-    let at-fetch = at-enum-told4 .before .before .before in
+    let at-enum-told3 = at-coefficients .before .before in
+    let at-fetch = at-enum-told3 .before .before .before in
     let start = at-fetch .before .before .before .before .before .before .before .before .before .before .before .before .before .before .before .before .before .before in
     let l = sized _ (at-coefficients .coefficients .ensures) (coefficients-length _ _ ∙ (start .pre .1)) in (
       subst (λ (k : ℕ). k ≤ 64) l (start .pre .0),
-      sym (sized _ (at-affines .affines .ensures) (affines-length _ _ _ _ _ (sym (factors-sized _ _ _ _ (all-fetched _ _ _ (at-enum-told4 .enum-told4 .given .1) (at-fetch .fetch .ensures))) ∙ sized _ (at-bs .bs .ensures) (bs-length _ _ _)) ∙ sym (sized _ (at-bs .bs .ensures) (bs-length _ _ _)))) ∙ l,
+      sym (sized _ (at-affines .affines .ensures) (affines-length _ _ _ _ _ (sym (factors-sized _ _ _ _ (fetch-all (ps-of at-fetch) (at-enum-told3 .enum-told3 .given .1) (at-fetch .fetch .ensures))) ∙ sized _ (at-bs .bs .ensures) (bs-length _ _ _)) ∙ sym (sized _ (at-bs .bs .ensures) (bs-length _ _ _)))) ∙ l,
       sym (sized _ (at-bs .bs .ensures) (bs-length _ _ _)) ∙ l,
-      sym (factors-sized _ _ _ _ (all-fetched _ _ _ (at-enum-told4 .enum-told4 .given .1) (at-fetch .fetch .ensures))) ∙ l,
+      sym (factors-sized _ _ _ _ (fetch-all (ps-of at-fetch) (at-enum-told3 .enum-told3 .given .1) (at-fetch .fetch .ensures))) ∙ l,
       (start .pre .2) ∙ l,
     )
 
@@ -219,8 +229,8 @@ returns-4 c =
     let at-variance-of = at-forward-of .before in
     let at-bs = at-variance-of .before .before in
     let at-coefficients = at-bs .before .before .before in
-    let at-enum-told4 = at-coefficients .before .before in
-    let at-fetch = at-enum-told4 .before .before .before in
+    let at-enum-told3 = at-coefficients .before .before in
+    let at-fetch = at-enum-told3 .before .before .before in
     let at-p-plus = at-fetch .before .before .before in
     let at-factor2 = at-p-plus .before .before in
     let at-day = at-factor2 .before in
@@ -231,13 +241,13 @@ returns-4 c =
     (at _ (at-p-t .p-t .given .1) (at-factor .factor .ensures))
     (at-day .day .ensures)
     (at _ (at-p-plus .p-plus .given .1) (at-factor2 .factor2 .ensures))
-    (all-fetched _ _ _ (at-enum-told4 .enum-told4 .given .1) (at-fetch .fetch .ensures))
-    (factors-front _ _ _ _ (all-fetched _ _ _ (at-enum-told4 .enum-told4 .given .1) (at-fetch .fetch .ensures)))
+    (fetch-all (ps-of at-fetch) (at-enum-told3 .enum-told3 .given .1) (at-fetch .fetch .ensures))
+    (factors-front _ _ _ _ (fetch-all (ps-of at-fetch) (at-enum-told3 .enum-told3 .given .1) (at-fetch .fetch .ensures)))
     (front _ (at-coefficients .coefficients .ensures) (coefficients-length _ _ ∙ (start .pre .1)))
     (front _ (at-bs .bs .ensures) (bs-length _ _ _))
     (at-variance-of .variance-of .ensures)
     (at-forward-of .forward-of .ensures)
-    (front _ (at-affines .affines .ensures) (affines-length _ _ _ _ _ (sym (factors-sized _ _ _ _ (all-fetched _ _ _ (at-enum-told4 .enum-told4 .given .1) (at-fetch .fetch .ensures))) ∙ sized _ (at-bs .bs .ensures) (bs-length _ _ _)) ∙ sym (sized _ (at-bs .bs .ensures) (bs-length _ _ _))))
+    (front _ (at-affines .affines .ensures) (affines-length _ _ _ _ _ (sym (factors-sized _ _ _ _ (fetch-all (ps-of at-fetch) (at-enum-told3 .enum-told3 .given .1) (at-fetch .fetch .ensures))) ∙ sized _ (at-bs .bs .ensures) (bs-length _ _ _)) ∙ sym (sized _ (at-bs .bs .ensures) (bs-length _ _ _))))
     (at-deviation .deviation .ensures)
     (c .priced-by .ensures)
 
@@ -257,9 +267,9 @@ pricer-priced-spec =
     array-borrow-prefix-p
     slice-aggregate-fetch
     fetch-requires
-    enum-told-3
+    enum-known-fetched
     returns-3
-    enum-told-4
+    enum-told-3
     array-borrow-prefix-c
     slice-aggregate-coefficients
     coefficients-requires

@@ -1,10 +1,22 @@
--- `pricers::swaption_value_on` meets its contract: turned down by its rules, or what `pricer_priced` finds; and by the definition no answer has lost its root. Assumes nothing.
-use Rattle.pricers.specs.Pricer.{pricerOutcome}
-use Rattle.pricers.proofs.Pricing.{refusing, passing, same-rule, paired}
-use Rattle.pricers.proofs.Demand3.{rooted}
+-- `pricers::swaption_value_on` meets its contract: turned down by its rules, or what `pricer_priced` finds; its root is where the outcome defined has it, and it wants a bracket where that one does. Assumes nothing.
+use mathlib.Core.Path.{_≡_, _∙_}
+use denote.Ref.{now}
+use Rattle.lists.specs.Refusals.{firstOf}
+use Rattle.pricers.specs.Pricer.{rulesOn}
+use Rattle.pricers.proofs.Pricing.{same-rules, turned-down, let-through, lists-fit}
+use Rattle.pricers.proofs.Demand3.{rooted, refused-so}
 use borrow.Author.Needs.{needs}
 use Rattle.pricers.proofs.pricer.swaption_value_on.Statement.{statement}
 use Rattle.pricers.proofs.pricer.swaption_value_on.Tie as tie
+
+-- ---- the rules, on the call's own lists
+rules : (r : tie.After-pricer-rules) → let a = r .before .before .before .before .before .before .before .before .before .before .before .before .before .args in
+    r .pricer-rules .result ≡ firstOf (rulesOn (a .alpha) (now (a .pillars)) (now (a .sigmas)) (now (a .times)) (now (a .factors)) (now (a .payments)) (now (a .accruals)) (now (a .own-dfs)) (a .strike) (a .t) (a .notional) (a .side))
+rules r =
+    let s = r .before .before .before .before .before .before .before .before .before .before .before .before .before in
+    same-rules _ _ (s .args .alpha) (s .args .strike) (s .args .t) (s .args .notional) (s .args .side) (s .pre) (r .before .before .before .before .before .pillar-faults .ensures) (r .before .before .before .before .coupon-faults .ensures) (r .before .before .before .all .ensures) (r .before .before .own-fits .ensures) (r .before .all2 .ensures) (r .pricer-rules .ensures)
+
+-- ---- the needs
 
 pillar-faults-requires : tie.Need-pillar-faults-requires
 pillar-faults-requires c κs = search needs
@@ -21,51 +33,31 @@ own-fits-requires c κs = search needs
 all-requires-2 : tie.Need-all-requires-2
 all-requires-2 c κs = search needs
 
-pricer-rule-requires : tie.Need-pricer-rule-requires
-pricer-rule-requires c κs = search needs
+pricer-rules-requires : tie.Need-pricer-rules-requires
+pricer-rules-requires c κs = search needs
 
-enum-known-checked : tie.Need-enum-known-checked
-enum-known-checked c = search needs
+enum-known-answer : tie.Need-enum-known-answer
+enum-known-answer c = search needs
 
 returns : tie.Need-returns
-unfolding pricerOutcome
 returns c =
-    let at-checked = c .before in
-    let at-pricer-rule = at-checked .before .before in
-    let at-all2 = at-pricer-rule .before in
-    let at-own-fits = at-all2 .before in
-    let at-all = at-own-fits .before in
-    let at-coupon-faults = at-all .before in
-    let at-pillar-faults = at-coupon-faults .before in
-    let start = at-pillar-faults .before .before .before .before .before .before .before .before in
-    let a = start .args in
-    let e = refusing _ _ (at-checked .checked .given .1) (same-rule _ _ _ _ _ _ _ (start .pre) (at-pillar-faults .pillar-faults .ensures) (at-coupon-faults .coupon-faults .ensures) (at-all .all .ensures) (at-own-fits .own-fits .ensures) (at-all2 .all2 .ensures) (at-pricer-rule .pricer-rule .ensures)) in
-    (e, rooted (a .option) _ _ _ _ _ _ _ (a .own-dfs .now) _ _ (a .notional) (a .side) e)
+    let a = c .before .before .before .before .before .before .before .before .before .before .before .before .before .before .before .before .args in
+    let o = turned-down (a .option) (a .alpha) (now (a .pillars)) (now (a .sigmas)) (now (a .times)) (now (a .factors)) (now (a .payments)) (now (a .accruals)) (now (a .own-dfs)) (a .strike) (a .t) (a .notional) (a .side) (rules (c .before .before .before)) (c .before .answer .given .1) in
+    (o, (rooted (a .option) (a .alpha) (now (a .pillars)) (now (a .sigmas)) (now (a .times)) (now (a .factors)) (now (a .payments)) (now (a .accruals)) (now (a .own-dfs)) (a .strike) (a .t) (a .notional) (a .side) o, refused-so (a .option) (a .alpha) (now (a .pillars)) (now (a .sigmas)) (now (a .times)) (now (a .factors)) (now (a .payments)) (now (a .accruals)) (now (a .own-dfs)) (a .strike) (a .t) (a .notional) (a .side) o))
 
 enum-told : tie.Need-enum-told
 enum-told c = search needs
 
 pricer-priced-requires : tie.Need-pricer-priced-requires
 pricer-priced-requires c κs =
-    let at-pricer-rule = c .before .before in
-    let at-coupon-faults = at-pricer-rule .before .before .before .before in
-    let start = at-coupon-faults .before .before .before .before .before .before .before .before .before in
-    paired _ _ _ _ _ _ (start .args .own-dfs .now) _ _ _ _ _ _ _ _ _ (at-coupon-faults .coupon-faults .ensures) (c .enum-told .given .1) (at-pricer-rule .pricer-rule .ensures)
+    let a = c .before .before .before .before .before .before .before .before .before .before .before .before .before .before .before .args in
+    lists-fit (a .option) (a .alpha) (now (a .pillars)) (now (a .sigmas)) (now (a .times)) (now (a .factors)) (now (a .payments)) (now (a .accruals)) (now (a .own-dfs)) (a .strike) (a .t) (a .notional) (a .side) (rules (c .before .before)) (c .enum-told .given .1)
 
 returns-2 : tie.Need-returns-2
-unfolding pricerOutcome
 returns-2 c =
-    let at-enum-told = c .before in
-    let at-pricer-rule = at-enum-told .before .before in
-    let at-all2 = at-pricer-rule .before in
-    let at-own-fits = at-all2 .before in
-    let at-all = at-own-fits .before in
-    let at-coupon-faults = at-all .before in
-    let at-pillar-faults = at-coupon-faults .before in
-    let start = at-pillar-faults .before .before .before .before .before .before .before .before in
-    let a = start .args in
-    let e = passing _ (at-enum-told .enum-told .given .1) (same-rule _ _ _ _ _ _ _ (start .pre) (at-pillar-faults .pillar-faults .ensures) (at-coupon-faults .coupon-faults .ensures) (at-all .all .ensures) (at-own-fits .own-fits .ensures) (at-all2 .all2 .ensures) (at-pricer-rule .pricer-rule .ensures)) (c .pricer-priced .ensures) in
-    (e, rooted (a .option) _ _ _ _ _ _ _ (a .own-dfs .now) _ _ (a .notional) (a .side) e)
+    let a = c .before .before .before .before .before .before .before .before .before .before .before .before .before .before .before .before .args in
+    let o = c .pricer-priced .ensures ∙ let-through (a .option) (a .alpha) (now (a .pillars)) (now (a .sigmas)) (now (a .times)) (now (a .factors)) (now (a .payments)) (now (a .accruals)) (now (a .own-dfs)) (a .strike) (a .t) (a .notional) (a .side) (rules (c .before .before .before)) (c .before .enum-told .given .1) in
+    (o, (rooted (a .option) (a .alpha) (now (a .pillars)) (now (a .sigmas)) (now (a .times)) (now (a .factors)) (now (a .payments)) (now (a .accruals)) (now (a .own-dfs)) (a .strike) (a .t) (a .notional) (a .side) o, refused-so (a .option) (a .alpha) (now (a .pillars)) (now (a .sigmas)) (now (a .times)) (now (a .factors)) (now (a .payments)) (now (a .accruals)) (now (a .own-dfs)) (a .strike) (a .t) (a .notional) (a .side) o))
 
 pub swaption-value-on-spec : {M : Type 1} → statement M
 swaption-value-on-spec =
@@ -76,8 +68,8 @@ swaption-value-on-spec =
     all-requires
     own-fits-requires
     all-requires-2
-    pricer-rule-requires
-    enum-known-checked
+    pricer-rules-requires
+    enum-known-answer
     returns
     enum-told
     pricer-priced-requires

@@ -2,9 +2,10 @@
 use mathlib.Core.Path.{sym}
 use mathlib.Core.List.{List}
 use lib.Ieee.{Float}
+use Rattle.lists.proofs.Outcomes.{at, missing}
+use Rattle.terms.proofs.Fetched.{fetch-refused, fetch-all}
 use Rattle.swaptions.specs.Model.{modelPriced}
 use Rattle.swaptions.proofs.Lending.{lent-is, back-fits, back-is, values-are}
-use Rattle.swaptions.proofs.Outcomes.{at, missing, fetch-missing, fetch-all}
 use borrow.Author.Needs.{needs}
 use Rattle.swaptions.proofs.model.model_priced.Statement.{statement}
 use Rattle.swaptions.proofs.model.model_priced.Tie as tie
@@ -16,7 +17,7 @@ ps-of g = g .fetch .last .1 .1 .1 .0
 -- ---- the needs
 
 factor-requires : tie.Need-factor-requires
-factor-requires c κs = search needs
+factor-requires c κs = c .before .before .before .before .pre .2
 
 enum-known-p-t : tie.Need-enum-known-p-t
 enum-known-p-t c = search needs
@@ -32,7 +33,7 @@ day-requires : tie.Need-day-requires
 day-requires c κs = search needs
 
 factor-requires-2 : tie.Need-factor-requires-2
-factor-requires-2 c κs = search needs
+factor-requires-2 c κs = c .before .before .before .before .before .before .before .before .before .pre .2
 
 enum-known-p-plus : tie.Need-enum-known-p-plus
 enum-known-p-plus c = search needs
@@ -42,9 +43,7 @@ enum-told-2 c = search needs
 
 returns-2 : tie.Need-returns-2
 unfolding modelPriced
-returns-2 c =
-    let i = c .before .before .before .before .before in
-    rw (at _ (i .p-t .given .1) (i .before .before .factor .ensures), ← c .before .before .before .day .ensures, missing _ (c .enum-told2 .given .1) (c .before .before .factor2 .ensures))
+returns-2 c = rw (at _ (c .before .before .before .before .before .p-t .given .1) (c .before .before .before .before .before .before .before .factor .ensures), ← c .before .before .before .day .ensures, missing _ (c .enum-told2 .given .1) (c .before .before .factor2 .ensures))
 
 array-borrow-prefix-p : tie.Need-array-borrow-prefix-p
 array-borrow-prefix-p c = search needs
@@ -53,40 +52,37 @@ slice-aggregate-fetch : tie.Need-slice-aggregate-fetch
 slice-aggregate-fetch c = lent-is _ (c .before .before .before .before .before .before .before .before .before .before .before .before .before .before .pre .0)
 
 fetch-requires : tie.Need-fetch-requires
-fetch-requires c κs = sym (lent-is _ (c .before .before .before .before .before .before .before .before .before .before .before .before .before .before .pre .0))
+fetch-requires c κs = (sym (lent-is _ (c .before .before .before .before .before .before .before .before .before .before .before .before .before .before .pre .0)), c .before .before .before .before .before .before .before .before .before .before .before .before .before .before .pre .2)
 
-enum-told-3 : tie.Need-enum-told-3
-enum-told-3 c = search needs
+enum-known-fetched : tie.Need-enum-known-fetched
+enum-known-fetched c = search needs
 
 returns-3 : tie.Need-returns-3
 unfolding modelPriced
 returns-3 c =
-    let g = c .before .before .before in
-    rw (at _ (g .before .before .before .before .before .before .before .before .p-t .given .1) (g .before .before .before .before .before .before .before .before .before .before .factor .ensures), ← g .before .before .before .before .before .before .day .ensures, at _ (g .before .before .before .p-plus .given .1) (g .before .before .before .before .before .factor2 .ensures), fetch-missing (ps-of g) (c .enum-told3 .given .1) (g .fetch .ensures))
+    let g = c .before .before .before .before in
+    rw (at _ (c .before .before .before .before .before .before .before .before .before .before .before .before .p-t .given .1) (c .before .before .before .before .before .before .before .before .before .before .before .before .before .before .factor .ensures), ← c .before .before .before .before .before .before .before .before .before .before .day .ensures, at _ (c .before .before .before .before .before .before .before .p-plus .given .1) (c .before .before .before .before .before .before .before .before .before .factor2 .ensures), fetch-refused (ps-of g) (c .before .fetched .given .1) (g .fetch .ensures))
 
-enum-told-4 : tie.Need-enum-told-4
-enum-told-4 c = search needs
+enum-told-3 : tie.Need-enum-told-3
+enum-told-3 c = search needs
 
 array-share-prefix-p : tie.Need-array-share-prefix-p
-array-share-prefix-p c =
-    let g = c .before .before .before in
-    back-fits _ (g .before .before .before .before .before .before .before .before .before .before .before .before .before .before .before .pre .0) (ps-of g) (g .fetch .kept .1 .1 .1 .0)
+array-share-prefix-p c = let g = c .before .before .before in back-fits _ (c .before .before .before .before .before .before .before .before .before .before .before .before .before .before .before .before .before .before .pre .0) (ps-of g) (g .fetch .kept .1 .1 .1 .0)
 
 slice-aggregate-terms-priced : tie.Need-slice-aggregate-terms-priced
-slice-aggregate-terms-priced c =
-    let g = c .before .before .before .before in
-    back-is _ (g .before .before .before .before .before .before .before .before .before .before .before .before .before .before .before .pre .0) (ps-of g) (g .fetch .kept .1 .1 .1 .0)
+slice-aggregate-terms-priced c = let g = c .before .before .before .before in back-is _ (c .before .before .before .before .before .before .before .before .before .before .before .before .before .before .before .before .before .before .before .pre .0) (ps-of g) (g .fetch .kept .1 .1 .1 .0)
 
 terms-priced-requires : tie.Need-terms-priced-requires
 terms-priced-requires c κs =
+    let s = c .before .before .before .before .before .before .before .before .before .before .before .before .before .before .before .before .before .before .before in
     let g = c .before .before .before .before in
-    (g .before .before .before .before .before .before .before .before .before .before .before .before .before .before .before .pre .0, g .before .before .before .before .before .before .before .before .before .before .before .before .before .before .before .pre .1, sym (back-is _ (g .before .before .before .before .before .before .before .before .before .before .before .before .before .before .before .pre .0) (ps-of g) (g .fetch .kept .1 .1 .1 .0)))
+    (s .pre .0, s .pre .1, sym (back-is _ (s .pre .0) (ps-of g) (g .fetch .kept .1 .1 .1 .0)))
 
 returns-4 : tie.Need-returns-4
 unfolding modelPriced
 returns-4 c =
     let g = c .before .before .before .before .before in
-    rw (at _ (g .before .before .before .before .before .before .before .before .p-t .given .1) (g .before .before .before .before .before .before .before .before .before .before .factor .ensures), ← g .before .before .before .before .before .before .day .ensures, at _ (g .before .before .before .p-plus .given .1) (g .before .before .before .before .before .factor2 .ensures), fetch-all (ps-of g) (c .before .before .enum-told4 .given .1) (g .fetch .ensures), ← values-are _ (g .before .before .before .before .before .before .before .before .before .before .before .before .before .before .before .pre .0) (ps-of g) (g .fetch .kept .1 .1 .1 .0)) (c .terms-priced .ensures)
+    rw (at _ (c .before .before .before .before .before .before .before .before .before .before .before .before .before .p-t .given .1) (c .before .before .before .before .before .before .before .before .before .before .before .before .before .before .before .factor .ensures), ← c .before .before .before .before .before .before .before .before .before .before .before .day .ensures, at _ (c .before .before .before .before .before .before .before .before .p-plus .given .1) (c .before .before .before .before .before .before .before .before .before .before .factor2 .ensures), fetch-all (ps-of g) (c .before .before .enum-told3 .given .1) (g .fetch .ensures), ← values-are _ (c .before .before .before .before .before .before .before .before .before .before .before .before .before .before .before .before .before .before .before .before .pre .0) (ps-of g) (g .fetch .kept .1 .1 .1 .0)) (c .terms-priced .ensures)
 
 pub model-priced-spec : {M : Type 1} → statement M
 model-priced-spec =
@@ -104,9 +100,9 @@ model-priced-spec =
     array-borrow-prefix-p
     slice-aggregate-fetch
     fetch-requires
-    enum-told-3
+    enum-known-fetched
     returns-3
-    enum-told-4
+    enum-told-3
     array-share-prefix-p
     slice-aggregate-terms-priced
     terms-priced-requires
