@@ -1,0 +1,100 @@
+// The kinds of jobs: which call each is, on which of a job's fields.
+ghost use mathlib.Core.Path.{_≡_};
+ghost use mathlib.Core.List.{[]};
+ghost use Rattle.lists.specs.Faults.{curveFaults};
+ghost use Rattle.runfile.specs.Told.{listsOf, optionTold};
+ghost use Rattle.runfile.specs.Output.{toldOf};
+use super::told;
+use super::told::Told;
+use layout::Job;
+use lists::Faults;
+use models::BondOption;
+
+// Kinds 1 to 4: caplet, floorlet, bond put, bond call.
+fn option_told(
+    curve: Faults,
+    alpha: f64,
+    pillars: &[f64],
+    sigmas: &[f64],
+    times: &[f64],
+    factors: &[f64],
+    payments: &[f64],
+    accruals: &[f64],
+    owns: &[f64],
+    j: Job,
+) -> Told
+    requires { ⌜ curve ≡ curveFaults (now times) (now factors) ⌝ }
+    ensures { λ r. ⌜ r ≡ optionTold (listsOf alpha (now (pillars .entry)) (now (sigmas .entry)) (now (times .entry)) (now (factors .entry)) (now (payments .entry)) (now (accruals .entry)) (now (owns .entry)) [] [] []) j ⌝ }
+{
+    if j.kind == 1 {
+        return told::price(models::optionlet_on(
+            BondOption::Put,
+            curve,
+            alpha,
+            times,
+            factors,
+            j.a,
+            j.b,
+            j.c,
+            j.d,
+        ));
+    }
+    if j.kind == 2 {
+        return told::price(models::optionlet_on(
+            BondOption::Call,
+            curve,
+            alpha,
+            times,
+            factors,
+            j.a,
+            j.b,
+            j.c,
+            j.d,
+        ));
+    }
+    if j.kind == 3 {
+        return told::price(models::bond_option_on(
+            BondOption::Put,
+            curve,
+            alpha,
+            times,
+            factors,
+            j.a,
+            j.b,
+            j.c,
+            j.d,
+        ));
+    }
+    told::price(models::bond_option_on(
+        BondOption::Call,
+        curve,
+        alpha,
+        times,
+        factors,
+        j.a,
+        j.b,
+        j.c,
+        j.d,
+    ))
+}
+
+// A job of kinds 1 to 11.
+pub fn told_of(
+    curve: Faults,
+    alpha: f64,
+    pillars: &[f64],
+    sigmas: &[f64],
+    times: &[f64],
+    factors: &[f64],
+    payments: &[f64],
+    accruals: &[f64],
+    owns: &[f64],
+    j: Job,
+) -> Told
+    requires { ⌜ curve ≡ curveFaults (now times) (now factors) ⌝ }
+    ensures { λ r. ⌜ r ≡ toldOf (listsOf alpha (now (pillars .entry)) (now (sigmas .entry)) (now (times .entry)) (now (factors .entry)) (now (payments .entry)) (now (accruals .entry)) (now (owns .entry)) [] [] []) j ⌝ }
+{
+    option_told(
+        curve, alpha, pillars, sigmas, times, factors, payments, accruals, owns, j,
+    )
+}
