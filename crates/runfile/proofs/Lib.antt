@@ -2,4 +2,5 @@
 pub mod Lengths
 pub mod Points
 pub mod Served
+pub mod Written
 pub mod Order
