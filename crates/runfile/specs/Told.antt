@@ -5,9 +5,15 @@ use mathlib.Core.List.{List}
 use lib.Dec.{eqb}
 use lib.Ieee.{Float}
 use Rattle.ieee.specs.Numbers.{zero}
-use Rattle.lists.specs.Refusals.{Outcome, served, refused, answerOf, answerNumber, valueOr, following}
+use Rattle.lists.specs.Refusals.{Outcome, served, refused, numberOf, answerOf, answerNumber, valueOr, following}
 use Rattle.models.specs.declared.options.BondOption.the-variants.{Put, Call}
 use Rattle.models.specs.Options.{optionletOutcome, bondOptionOutcome}
+use Rattle.swaptions.specs.Price as Model
+use Rattle.swaptions.specs.Model.{modelOutcome}
+use Rattle.pricers.specs.declared.bond_option.SwaptionType.the-variants.{Payer, Receiver}
+use Rattle.pricers.specs.Pricer as Pricer
+use Rattle.pricers.specs.Pricer.{pricerOutcome}
+use Rattle.bisection.specs.declared.result.Fit.{Fit}
 use Rattle.layout.specs.declared.records.Job.{Job}
 use Rattle.layout.specs.Request.{Request}
 use Rattle.runfile.specs.declared.told.Told.{Told}
@@ -16,6 +22,21 @@ use Rattle.runfile.specs.declared.told.Told.{Told}
 
 abbrev pub toldPrice : Outcome Float → Told
 toldPrice o = record { answer = answerNumber (answerOf o); value = valueOr zero o; note = 0 }
+
+-- "A fit's value is its sigma; its note is the halving that converged, 1 to 200, or 0."
+abbrev pub noteOf : Fit → ℕ
+noteOf fit = cond (fit .converged) (fit .halvings) 0
+
+abbrev pub toldFit : Outcome Fit → Told
+toldFit (served fit) = record { answer = 0; value = fit .sigma; note = noteOf fit }
+toldFit (refused r) = record { answer = numberOf r; value = zero; note = 0 }
+
+-- a swaption's value without its root
+abbrev pub modelValue : Outcome Model.Valued → Outcome Float
+modelValue o = following o (λ v. served (v .value))
+
+abbrev pub pricerValue : Outcome Pricer.Valued → Outcome Float
+pricerValue o = following o (λ v. served (v .value))
 
 -- ---- the lists of a file as the code has them
 abbrev pub listsOf : Float → List Float → List Float → List Float → List Float → List Float → List Float → List Float → List Float → List Float → List Job → Request
@@ -42,3 +63,11 @@ module _ (q : Request) (j : Job) where
       (cond (eqb (j .kind) 2) (toldPrice (optionletOutcome Call (q .alpha) (q .curveTimes) (q .curveFactors) (j .a) (j .b) (j .c) (j .d)))
       (cond (eqb (j .kind) 3) (toldPrice (bondOptionOutcome Put (q .alpha) (q .curveTimes) (q .curveFactors) (j .a) (j .b) (j .c) (j .d)))
       (toldPrice (bondOptionOutcome Call (q .alpha) (q .curveTimes) (q .curveFactors) (j .a) (j .b) (j .c) (j .d)))))
+
+  -- "5 model swaption (strike, option time, sigma); 6 payer, 7 receiver by the pricer (strike, option time, notional, side)"
+  unfoldable pub swaptionTold : Told
+  swaptionTold =
+      cond (eqb (j .kind) 5) (toldPrice (modelValue (modelOutcome (q .alpha) (q .curveTimes) (q .curveFactors) (q .payments) (q .accruals) (j .a) (j .b) (j .c))))
+      (cond (eqb (j .kind) 6)
+      (toldPrice (pricerValue (pricerOutcome Payer (q .alpha) (q .pillarTimes) (q .pillarSigmas) (q .curveTimes) (q .curveFactors) (q .payments) (q .accruals) (q .owns) (j .a) (j .b) (j .c) (j .d))))
+      (toldPrice (pricerValue (pricerOutcome Receiver (q .alpha) (q .pillarTimes) (q .pillarSigmas) (q .curveTimes) (q .curveFactors) (q .payments) (q .accruals) (q .owns) (j .a) (j .b) (j .c) (j .d)))))

@@ -2,13 +2,14 @@
 ghost use mathlib.Core.Path.{_≡_};
 ghost use mathlib.Core.List.{[]};
 ghost use Rattle.lists.specs.Faults.{curveFaults};
-ghost use Rattle.runfile.specs.Told.{listsOf, optionTold};
+ghost use Rattle.runfile.specs.Told.{listsOf, optionTold, swaptionTold};
 ghost use Rattle.runfile.specs.Output.{toldOf};
 use super::told;
 use super::told::Told;
 use layout::Job;
 use lists::Faults;
 use models::BondOption;
+use pricers::SwaptionType;
 
 // Kinds 1 to 4: caplet, floorlet, bond put, bond call.
 fn option_told(
@@ -78,6 +79,71 @@ fn option_told(
     ))
 }
 
+// Kind 5, the model's swaption; 6 and 7, payer and receiver by the pricer.
+fn swaption_told(
+    curve: Faults,
+    alpha: f64,
+    pillars: &[f64],
+    sigmas: &[f64],
+    times: &[f64],
+    factors: &[f64],
+    payments: &[f64],
+    accruals: &[f64],
+    owns: &[f64],
+    j: Job,
+) -> Told
+    requires { ⌜ curve ≡ curveFaults (now times) (now factors) ⌝ }
+    ensures { λ r. ⌜ r ≡ swaptionTold (listsOf alpha (now (pillars .entry)) (now (sigmas .entry)) (now (times .entry)) (now (factors .entry)) (now (payments .entry)) (now (accruals .entry)) (now (owns .entry)) [] [] []) j ⌝ }
+{
+    if j.kind == 5 {
+        return told::swaption(swaptions::swaption_price_on(
+            curve,
+            alpha,
+            times,
+            factors,
+            payments,
+            accruals,
+            j.a,
+            j.b,
+            j.c,
+        ));
+    }
+    if j.kind == 6 {
+        return told::valuation(pricers::swaption_value_on(
+            SwaptionType::Payer,
+            curve,
+            alpha,
+            pillars,
+            sigmas,
+            times,
+            factors,
+            payments,
+            accruals,
+            owns,
+            j.a,
+            j.b,
+            j.c,
+            j.d,
+        ));
+    }
+    told::valuation(pricers::swaption_value_on(
+        SwaptionType::Receiver,
+        curve,
+        alpha,
+        pillars,
+        sigmas,
+        times,
+        factors,
+        payments,
+        accruals,
+        owns,
+        j.a,
+        j.b,
+        j.c,
+        j.d,
+    ))
+}
+
 // A job of kinds 1 to 11.
 pub fn told_of(
     curve: Faults,
@@ -94,7 +160,30 @@ pub fn told_of(
     requires { ⌜ curve ≡ curveFaults (now times) (now factors) ⌝ }
     ensures { λ r. ⌜ r ≡ toldOf (listsOf alpha (now (pillars .entry)) (now (sigmas .entry)) (now (times .entry)) (now (factors .entry)) (now (payments .entry)) (now (accruals .entry)) (now (owns .entry)) [] [] []) j ⌝ }
 {
-    option_told(
-        curve, alpha, pillars, sigmas, times, factors, payments, accruals, owns, j,
+    if j.kind < 5 {
+        return option_told(
+            curve,
+            alpha,
+            pillars,
+            sigmas,
+            times,
+            factors,
+            payments,
+            accruals,
+            owns,
+            j,
+        );
+    }
+    swaption_told(
+        curve,
+        alpha,
+        pillars,
+        sigmas,
+        times,
+        factors,
+        payments,
+        accruals,
+        owns,
+        j,
     )
 }

@@ -1,9 +1,16 @@
 // What is told of a job: document 01's number, the value or +0, and the note.
 ghost use mathlib.Core.Path.{_≡_};
 ghost use Rattle.lists.specs.Refusals.{refused, outcomeOf};
-ghost use Rattle.runfile.specs.Told.{toldPrice};
+ghost use Rattle.swaptions.specs.Price.{swaptionOutcome};
+ghost use Rattle.pricers.specs.Pricer.{valuationOutcome};
+ghost use Rattle.bisection.specs.Result.{fittedOutcome};
+ghost use Rattle.runfile.specs.Told.{toldPrice, modelValue, pricerValue, toldFit, noteOf};
+use bisection::Fit;
+use bisection::Fitted;
 use lists::Price;
 use lists::Refusal;
+use pricers::Valuation;
+use swaptions::Swaption;
 
 pub struct Told {
     pub answer: u64,
@@ -37,5 +44,43 @@ pub fn price(p: Price) -> Told
     match p {
         Price::Served(value) => plain(value),
         Price::Refused(refusal) => turned_down(refusal),
+    }
+}
+
+pub fn swaption(s: Swaption) -> Told
+    ensures { λ r. ⌜ r ≡ toldPrice (modelValue (swaptionOutcome s)) ⌝ }
+{
+    match s {
+        Swaption::Served(value, _) => plain(value),
+        Swaption::Refused(refusal) => turned_down(refusal),
+    }
+}
+
+pub fn valuation(v: Valuation) -> Told
+    ensures { λ r. ⌜ r ≡ toldPrice (pricerValue (valuationOutcome v)) ⌝ }
+{
+    match v {
+        Valuation::Served { value, .. } => plain(value),
+        Valuation::Refused(refusal) => turned_down(refusal),
+    }
+}
+
+// The halving that converged, or 0.
+fn note_of(fit: Fit) -> u64
+    ensures { λ r. ⌜ r ≡ noteOf fit ⌝ }
+{
+    if fit.converged { fit.halvings } else { 0 }
+}
+
+pub fn fitted(f: Fitted) -> Told
+    ensures { λ r. ⌜ r ≡ toldFit (fittedOutcome f) ⌝ }
+{
+    match f {
+        Fitted::Served(fit) => Told {
+            answer: 0,
+            value: fit.sigma,
+            note: note_of(fit),
+        },
+        Fitted::Refused(refusal) => turned_down(refusal),
     }
 }

@@ -11,7 +11,7 @@ use Rattle.ieee.specs.Numbers.{zero}
 use Rattle.lists.specs.Refusals.{Outcome, served, answerOf}
 use Rattle.paths.specs.Generate.{generateOutcome}
 use Rattle.paths.proofs.Outcomes.{lent-is, back-fits, back-is, values-are}
-use Rattle.runfile.proofs.Served.{path-length}
+use Rattle.paths.proofs.Served.{path-length}
 use Rattle.runfile.proofs.Written.{was-refused, was-served, same-room, left-is, refused-line, empty-line, point-by-point}
 use Rattle.runfile.proofs.jobs.path_lines.Statement.{statement}
 use Rattle.runfile.proofs.jobs.path_lines.Tie as tie

@@ -1,6 +1,7 @@
--- stage 1
-use borrow.Author.Needs.{needs}
+-- `runfile::kinds::told_of` meets its contract. Assumes nothing.
+use borrow.Author.Tests.{lt-ltb, le-ltb}
 use Rattle.runfile.specs.Output.{toldOf}
+use borrow.Author.Needs.{needs}
 use Rattle.runfile.proofs.kinds.told_of.Statement.{statement}
 use Rattle.runfile.proofs.kinds.told_of.Tie as tie
 
@@ -9,7 +10,14 @@ option-told-requires c κs = search needs
 
 returns : tie.Need-returns
 unfolding toldOf
-returns c = c .option-told .ensures
+returns c = rw (lt-ltb _ 5 (c .before .if1 .taken)) (c .option-told .ensures)
+
+swaption-told-requires : tie.Need-swaption-told-requires
+swaption-told-requires c κs = search needs
+
+returns-2 : tie.Need-returns-2
+unfolding toldOf
+returns-2 c = rw (le-ltb _ 5 (c .before .if1 .left)) (c .swaption-told .ensures)
 
 pub told-of-spec : {M : Type 1} → statement M
-told-of-spec = tie.close (tie.spec option-told-requires returns)
+told-of-spec = tie.close (tie.spec option-told-requires returns swaption-told-requires returns-2)
