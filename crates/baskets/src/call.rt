@@ -1,0 +1,126 @@
+// A basket's call and its answer.
+ghost use mathlib.Core.Path.{_≡_};
+ghost use mathlib.Core.Bool.{true};
+ghost use Prim.Native.Nat.{_≤_};
+ghost use lib.ListN.{length};
+ghost use Rattle.lists.specs.Checks.{inOrder};
+ghost use Rattle.baskets.specs.Entries.{entriesOf};
+ghost use Rattle.baskets.specs.Basket.{basketOutcome, fittedBasket, basketOf};
+ghost use Rattle.baskets.specs.Demand3.{BasketHeld, BasketNeverSo};
+use super::rules;
+use super::walk;
+use lists::Answer;
+use lists::Refusal;
+
+// 64 places of each; those from `count` on are 0. A status is 1 where the fit converged.
+pub struct Basket {
+    pub count: u64,
+    pub sigmas: [f64; 64],
+    pub statuses: [f64; 64],
+    pub halvings: [f64; 64],
+    pub residuals: [f64; 64],
+    pub diagonal: [f64; 64],
+    pub bumped_statuses: [f64; 64],
+}
+
+pub enum BasketFitted {
+    Served(Basket),
+    Refused(Refusal),
+}
+
+// Entries are lent as lists of one length: whether the quote is a normal one, strike, start, end, quoted
+// volatility.
+pub fn fit_basket(
+    alpha: f64,
+    times: &[f64],
+    factors: &[f64],
+    normals: &[bool],
+    strikes: &[f64],
+    starts: &[f64],
+    ends: &[f64],
+    vols: &[f64],
+) -> BasketFitted
+    ensures answer { λ r. ⌜ basketOutcome r ≡ basketOf alpha (now (times .entry)) (now (factors .entry)) (now (normals .entry)) (now (strikes .entry)) (now (starts .entry)) (now (ends .entry)) (now (vols .entry)) ⌝ }
+    ensures held { λ r. ⌜ BasketHeld alpha (now (times .entry)) (now (factors .entry)) (now (normals .entry)) (now (strikes .entry)) (now (starts .entry)) (now (ends .entry)) (now (vols .entry)) r ⌝ }
+    ensures bracket { λ r. ⌜ BasketNeverSo r ⌝ }
+{
+    let curve = lists::curve_faults(times, factors);
+    let answer = rules::basket_rules(
+        curve,
+        alpha,
+        rules::size_wrong(normals, strikes, starts, ends, vols),
+        rules::numbers_wrong(strikes, starts, ends, vols),
+        rules::times_wrong(starts, ends),
+        rules::domain_wrong(normals, strikes, vols),
+    );
+    if let Answer::Refused(refusal) = answer {
+        return BasketFitted::Refused(refusal);
+    }
+    fitted_basket(alpha, times, factors, normals, strikes, starts, ends, vols)
+}
+
+// `fit_basket` has asked the rules: all lists are of one length of at most 64, and the curve's times
+// strictly rise.
+fn fitted_basket(
+    alpha: f64,
+    times: &[f64],
+    factors: &[f64],
+    normals: &[bool],
+    strikes: &[f64],
+    starts: &[f64],
+    ends: &[f64],
+    vols: &[f64],
+) -> BasketFitted
+    requires { ⌜ (length (now normals) ≤ 64) × (length (now strikes) ≡ length (now normals)) × (length (now starts) ≡ length (now normals)) × (length (now ends) ≡ length (now normals)) × (length (now vols) ≡ length (now normals)) × (inOrder true (now times) ≡ true) ⌝ }
+    ensures { λ r. ⌜ basketOutcome r ≡ fittedBasket alpha (now (times .entry)) (now (factors .entry)) (entriesOf (now (normals .entry)) (now (strikes .entry)) (now (starts .entry)) (now (ends .entry)) (now (vols .entry))) ⌝ }
+{
+    let n = normals.len();
+    let mut sigmas = [0.0; 64];
+    let mut statuses = [0.0; 64];
+    let mut halvings = [0.0; 64];
+    let mut residuals = [0.0; 64];
+    let fits = walk::first_fits(
+        alpha,
+        times,
+        factors,
+        normals,
+        strikes,
+        starts,
+        ends,
+        vols,
+        &mut sigmas[..n],
+        &mut statuses[..n],
+        &mut halvings[..n],
+        &mut residuals[..n],
+    );
+    if let Answer::Refused(refusal) = fits {
+        return BasketFitted::Refused(refusal);
+    }
+    let mut diagonal = [0.0; 64];
+    let mut bumped_statuses = [0.0; 64];
+    let bumps = walk::bumped_fits(
+        alpha,
+        times,
+        factors,
+        normals,
+        strikes,
+        starts,
+        ends,
+        vols,
+        &sigmas[..n],
+        &mut diagonal[..n],
+        &mut bumped_statuses[..n],
+    );
+    if let Answer::Refused(refusal) = bumps {
+        return BasketFitted::Refused(refusal);
+    }
+    BasketFitted::Served(Basket {
+        count: n as u64,
+        sigmas,
+        statuses,
+        halvings,
+        residuals,
+        diagonal,
+        bumped_statuses,
+    })
+}

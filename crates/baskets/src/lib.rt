@@ -1,0 +1,8 @@
+// calibrate_to_instruments over a basket of caplets: every entry's fit, then every entry's bumped fit.
+mod call;
+mod rules;
+mod walk;
+
+pub use call::Basket;
+pub use call::BasketFitted;
+pub use call::fit_basket;

@@ -1,0 +1,152 @@
+// The two walks over a basket's entries: their fits, and their bumped fits.
+ghost use mathlib.Core.Path.{_≡_};
+ghost use mathlib.Core.Bool.{true};
+ghost use lib.ListN.{length};
+ghost use Rattle.lists.specs.Checks.{inOrder};
+ghost use Rattle.lists.specs.Refusals.{served, after};
+ghost use Rattle.bisection.specs.Result.{fittedOutcome};
+ghost use Rattle.baskets.specs.Entries.{quoteOf, entriesOf};
+ghost use Rattle.baskets.specs.Basket.{statusOf, diagonalOf, fitsOf, bumpOf, bumpsOf};
+use super::rules;
+use bisection::Fitted;
+use lists::Answer;
+use lists::Refusal;
+
+fn status_of(converged: bool) -> f64
+    ensures { λ r. ⌜ r ≡ statusOf converged ⌝ }
+{
+    if converged { 1.0 } else { 0.0 }
+}
+
+fn diagonal_of(bumped: f64, sigma: f64) -> f64
+    ensures { λ r. ⌜ r ≡ diagonalOf bumped sigma ⌝ }
+{
+    (bumped - sigma) / 1e-6
+}
+
+// Every entry's fit, into the lists lent for them. `fit_basket` has asked the rules: all lists are of one
+// length, and the curve's times strictly rise.
+pub fn first_fits(
+    alpha: f64,
+    times: &[f64],
+    factors: &[f64],
+    normals: &[bool],
+    strikes: &[f64],
+    starts: &[f64],
+    ends: &[f64],
+    vols: &[f64],
+    sigmas: &mut [f64],
+    statuses: &mut [f64],
+    halvings: &mut [f64],
+    residuals: &mut [f64],
+) -> Answer
+    requires { ⌜ (length (now strikes) ≡ length (now normals)) × (length (now starts) ≡ length (now normals)) × (length (now ends) ≡ length (now normals)) × (length (now vols) ≡ length (now normals)) × (length (now sigmas) ≡ length (now normals)) × (length (now statuses) ≡ length (now normals)) × (length (now halvings) ≡ length (now normals)) × (length (now residuals) ≡ length (now normals)) × (inOrder true (now times) ≡ true) ⌝ }
+    ensures { λ r. ⌜ fitsOf alpha (now (times .entry)) (now (factors .entry)) (entriesOf (now (normals .entry)) (now (strikes .entry)) (now (starts .entry)) (now (ends .entry)) (now (vols .entry))) ≡ after r (served (record { sigmas = now (sigmas .exit); statuses = now (statuses .exit); halvings = now (halvings .exit); residuals = now (residuals .exit) })) ⌝ }
+{
+    let mut i = 0;
+    while i < normals.len() {
+        let fitted = calibration::caplet_fitted(
+            rules::quote_of(normals[i]),
+            alpha,
+            times,
+            factors,
+            strikes[i],
+            starts[i],
+            ends[i],
+            vols[i],
+        );
+        match fitted {
+            Fitted::Refused(refusal) => {
+                return Answer::Refused(refusal);
+            }
+            Fitted::Served(fit) => {
+                sigmas[i] = fit.sigma;
+                statuses[i] = status_of(fit.converged);
+                halvings[i] = fit.halvings as f64;
+                residuals[i] = fit.residual;
+            }
+        }
+        i += 1;
+    }
+    Answer::Served
+}
+
+// One entry's bumped fit; the diagonal's float must be finite too.
+fn bumped(
+    normal: bool,
+    alpha: f64,
+    times: &[f64],
+    factors: &[f64],
+    strike: f64,
+    start: f64,
+    end: f64,
+    vol: f64,
+    sigma: f64,
+) -> Fitted
+    requires { ⌜ inOrder true (now times) ≡ true ⌝ }
+    ensures { λ r. ⌜ fittedOutcome r ≡ bumpOf alpha (now (times .entry)) (now (factors .entry)) (record { quote = quoteOf normal; strike = strike; start = start; end = end; vol = vol }) sigma ⌝ }
+{
+    let quote = rules::quote_of(normal);
+    let fitted = calibration::caplet_fitted(
+        quote,
+        alpha,
+        times,
+        factors,
+        strike,
+        start,
+        end,
+        vol + 1e-6,
+    );
+    let Fitted::Served(fit) = fitted else {
+        return fitted;
+    };
+    if elementary::is_finite(diagonal_of(fit.sigma, sigma)) {
+        fitted
+    } else {
+        Fitted::Refused(Refusal::Overflow)
+    }
+}
+
+// Every entry's bumped fit beside the sigma fitted first.
+pub fn bumped_fits(
+    alpha: f64,
+    times: &[f64],
+    factors: &[f64],
+    normals: &[bool],
+    strikes: &[f64],
+    starts: &[f64],
+    ends: &[f64],
+    vols: &[f64],
+    sigmas: &[f64],
+    diagonal: &mut [f64],
+    statuses: &mut [f64],
+) -> Answer
+    requires { ⌜ (length (now strikes) ≡ length (now normals)) × (length (now starts) ≡ length (now normals)) × (length (now ends) ≡ length (now normals)) × (length (now vols) ≡ length (now normals)) × (length (now sigmas) ≡ length (now normals)) × (length (now diagonal) ≡ length (now normals)) × (length (now statuses) ≡ length (now normals)) × (inOrder true (now times) ≡ true) ⌝ }
+    ensures { λ r. ⌜ bumpsOf alpha (now (times .entry)) (now (factors .entry)) (entriesOf (now (normals .entry)) (now (strikes .entry)) (now (starts .entry)) (now (ends .entry)) (now (vols .entry))) (now (sigmas .entry)) ≡ after r (served (record { diagonal = now (diagonal .exit); statuses = now (statuses .exit) })) ⌝ }
+{
+    let mut i = 0;
+    while i < normals.len() {
+        let fitted = bumped(
+            normals[i],
+            alpha,
+            times,
+            factors,
+            strikes[i],
+            starts[i],
+            ends[i],
+            vols[i],
+            sigmas[i],
+        );
+        match fitted {
+            Fitted::Refused(refusal) => {
+                return Answer::Refused(refusal);
+            }
+            Fitted::Served(fit) => {
+                diagonal[i] = diagonal_of(fit.sigma, sigmas[i]);
+                statuses[i] = status_of(fit.converged);
+            }
+        }
+        i += 1;
+    }
+    Answer::Served
+}

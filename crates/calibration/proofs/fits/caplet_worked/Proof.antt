@@ -1,0 +1,46 @@
+-- `calibration::fits::caplet_worked` meets its contract: the bisection is that of the objective worked ahead, and its fit is looked at by rule 13. Assumes nothing.
+use Rattle.calibration.proofs.Worked.{caplet-fit}
+use borrow.Author.Needs.{needs}
+use Rattle.calibration.proofs.fits.caplet_worked.Statement.{statement}
+use Rattle.calibration.proofs.fits.caplet_worked.Tie as tie
+
+b-of-requires : tie.Need-b-of-requires
+b-of-requires c κs = search needs
+
+deviation-of-requires : tie.Need-deviation-of-requires
+deviation-of-requires c κs = search needs
+
+optionlet-strike-of-requires : tie.Need-optionlet-strike-of-requires
+optionlet-strike-of-requires c κs = search needs
+
+caplet-market-requires : tie.Need-caplet-market-requires
+caplet-market-requires c κs = search needs
+
+array-share-prefix-none : tie.Need-array-share-prefix-none
+array-share-prefix-none c = search needs
+
+slice-aggregate-empty : tie.Need-slice-aggregate-empty
+slice-aggregate-empty c = search needs
+
+solve-requires : tie.Need-solve-requires
+solve-requires c κs = search needs
+
+finished-requires : tie.Need-finished-requires
+finished-requires c κs = search needs
+
+returns : tie.Need-returns
+returns c = caplet-fit _ _ _ _ _ _ _ _ _ _ _ _ (c .before .before .before .before .before .before .b-of .ensures) (c .before .before .before .before .before .deviation-of .ensures) (c .before .before .before .before .optionlet-strike-of .ensures) (c .before .before .before .caplet-market .ensures) (c .before .solve .ensures) (c .finished .ensures)
+
+pub caplet-worked-spec : {M : Type 1} → statement M
+caplet-worked-spec =
+    tie.close
+    (tie.spec
+    b-of-requires
+    deviation-of-requires
+    optionlet-strike-of-requires
+    caplet-market-requires
+    array-share-prefix-none
+    slice-aggregate-empty
+    solve-requires
+    finished-requires
+    returns)

@@ -1,0 +1,333 @@
+// calibrate_to_instruments, an instrument at a time: kinds 8 to 11.
+ghost use mathlib.Core.Path.{_≡_};
+ghost use mathlib.Core.Bool.{true};
+ghost use Prim.Native.Nat.{_≤_, _<_};
+ghost use lib.ListN.{length};
+ghost use Rattle.lists.specs.Checks.{inOrder};
+ghost use Rattle.lists.specs.Refusals.{firstOf, following};
+ghost use Rattle.lists.specs.Faults.{curveFaults};
+ghost use Rattle.bisection.specs.Result.{fittedOutcome, finishingFit};
+ghost use Rattle.bisection.specs.Solve.{solveOf};
+ghost use Rattle.calibration.specs.Objective.{capletObjective, swaptionObjective};
+ghost use Rattle.calibration.specs.Fits.{strikeWrong, capletRules, swaptionRules, capletFitted, capletFitOutcome, swaptionFitted, swaptionFitOutcome};
+ghost use Rattle.calibration.specs.Demand3.{CapletHeld, CapletNeverSo, SwaptionHeld, RefusedSo};
+use super::market;
+use super::market::Quote;
+use super::objective::Instrument;
+use super::solve;
+use bisection::Fitted;
+use lists::Answer;
+use lists::Faults;
+use lists::Found;
+use lists::Refusal;
+use lists::Test;
+
+// Kinds 8 and 9: strike, start, end, quoted volatility.
+pub fn fit_caplet(
+    quote: Quote,
+    alpha: f64,
+    times: &[f64],
+    factors: &[f64],
+    strike: f64,
+    t: f64,
+    end: f64,
+    vol: f64,
+) -> Fitted
+    ensures answer { λ r. ⌜ fittedOutcome r ≡ capletFitOutcome quote alpha (now (times .entry)) (now (factors .entry)) strike t end vol ⌝ }
+    ensures held { λ r. ⌜ CapletHeld quote alpha (now (times .entry)) (now (factors .entry)) strike t end vol r ⌝ }
+    ensures bracket { λ r. ⌜ CapletNeverSo quote alpha (now (times .entry)) (now (factors .entry)) strike t end vol r ⌝ }
+{
+    let curve = lists::curve_faults(times, factors);
+    fit_caplet_on(curve, quote, alpha, times, factors, strike, t, end, vol)
+}
+
+// The same on a curve whose faults are known: the call above shows it, and so does whoever works them
+// once for many jobs.
+pub fn fit_caplet_on(
+    curve: Faults,
+    quote: Quote,
+    alpha: f64,
+    times: &[f64],
+    factors: &[f64],
+    strike: f64,
+    t: f64,
+    end: f64,
+    vol: f64,
+) -> Fitted
+    requires { ⌜ curve ≡ curveFaults (now times) (now factors) ⌝ }
+    ensures answer { λ r. ⌜ fittedOutcome r ≡ capletFitOutcome quote alpha (now (times .entry)) (now (factors .entry)) strike t end vol ⌝ }
+    ensures held { λ r. ⌜ CapletHeld quote alpha (now (times .entry)) (now (factors .entry)) strike t end vol r ⌝ }
+    ensures bracket { λ r. ⌜ CapletNeverSo quote alpha (now (times .entry)) (now (factors .entry)) strike t end vol r ⌝ }
+{
+    let answer = caplet_rules(curve, quote, alpha, strike, t, end, vol);
+    if let Answer::Refused(refusal) = answer {
+        return Fitted::Refused(refusal);
+    }
+    caplet_fitted(quote, alpha, times, factors, strike, t, end, vol)
+}
+
+// Whether a strike is one that the quote's formula cannot take.
+pub fn strike_wrong(quote: Quote, strike: f64) -> bool
+    ensures { λ r. ⌜ r ≡ strikeWrong quote strike ⌝ }
+{
+    match quote {
+        Quote::Black => strike <= 0.0,
+        Quote::Normal => false,
+    }
+}
+
+fn caplet_rules(
+    curve: Faults,
+    quote: Quote,
+    alpha: f64,
+    strike: f64,
+    t: f64,
+    end: f64,
+    vol: f64,
+) -> Answer
+    ensures { λ r. ⌜ r ≡ firstOf (capletRules curve quote alpha strike t end vol) ⌝ }
+{
+    let finite = elementary::is_finite(alpha)
+        & elementary::is_finite(strike)
+        & elementary::is_finite(t)
+        & elementary::is_finite(end)
+        & elementary::is_finite(vol);
+    let wrong = strike_wrong(quote, strike);
+    let mut answer = lists::and_rule(Answer::Served, Refusal::Size, curve.size);
+    answer = lists::and_rule(answer, Refusal::NotFinite, curve.not_finite | !finite);
+    answer = lists::and_rule(answer, Refusal::MeanReversion, alpha <= 0.0);
+    answer = lists::and_rule(answer, Refusal::Order, curve.order);
+    answer = lists::and_rule(answer, Refusal::Times, (t <= 0.0) | (end <= t));
+    lists::and_rule(answer, Refusal::Domain, (vol <= 0.0) | wrong | curve.domain)
+}
+
+// The factors, then the bisection. `fit_caplet_on`, and a basket for all its entries, has asked the rules:
+// the curve's times strictly rise.
+pub fn caplet_fitted(
+    quote: Quote,
+    alpha: f64,
+    times: &[f64],
+    factors: &[f64],
+    strike: f64,
+    t: f64,
+    end: f64,
+    vol: f64,
+) -> Fitted
+    requires { ⌜ inOrder true (now times) ≡ true ⌝ }
+    ensures { λ r. ⌜ fittedOutcome r ≡ capletFitted quote alpha (now (times .entry)) (now (factors .entry)) strike t end vol ⌝ }
+{
+    let Found::At(p_t) = lists::factor(times, factors, t) else {
+        return Fitted::Refused(Refusal::OffCurve);
+    };
+    let Found::At(p_end) = lists::factor(times, factors, end) else {
+        return Fitted::Refused(Refusal::OffCurve);
+    };
+    caplet_worked(quote, alpha, strike, t, end, vol, p_t, p_end)
+}
+
+// What does not depend on sigma, once; then the bisection.
+fn caplet_worked(
+    quote: Quote,
+    alpha: f64,
+    strike: f64,
+    t: f64,
+    end: f64,
+    vol: f64,
+    p_t: f64,
+    p_end: f64,
+) -> Fitted
+    ensures { λ r. ⌜ fittedOutcome r ≡ following (solveOf (capletObjective quote alpha strike t end vol «p_t» «p_end»)) finishingFit ⌝ }
+{
+    let caplet = Instrument::Caplet {
+        b: formulas::b_of(alpha, t, end),
+        deviation: formulas::deviation_of(alpha, t),
+        bond_strike: formulas::optionlet_strike_of(strike, t, end),
+        strike,
+        t,
+        end,
+        p_t,
+        p_end,
+    };
+    let price = market::caplet_market(quote, strike, t, end, vol, p_t, p_end);
+    let none = [0.0; 1];
+    let empty = &none[..0];
+    let fitted = solve::solve(caplet, price, empty, empty, empty, empty);
+    bisection::finished(fitted)
+}
+
+// Kinds 10 and 11: strike, option time, quoted volatility; the coupons are payment times and accruals.
+pub fn fit_swaption(
+    quote: Quote,
+    alpha: f64,
+    times: &[f64],
+    factors: &[f64],
+    payments: &[f64],
+    accruals: &[f64],
+    strike: f64,
+    t: f64,
+    vol: f64,
+) -> Fitted
+    ensures answer { λ r. ⌜ fittedOutcome r ≡ swaptionFitOutcome quote alpha (now (times .entry)) (now (factors .entry)) (now (payments .entry)) (now (accruals .entry)) strike t vol ⌝ }
+    ensures held { λ r. ⌜ SwaptionHeld quote alpha (now (times .entry)) (now (factors .entry)) (now (payments .entry)) (now (accruals .entry)) strike t vol r ⌝ }
+    ensures bracket { λ r. ⌜ RefusedSo quote alpha (now (times .entry)) (now (factors .entry)) (now (payments .entry)) (now (accruals .entry)) strike t vol r ⌝ }
+{
+    let curve = lists::curve_faults(times, factors);
+    fit_swaption_on(
+        curve,
+        quote,
+        alpha,
+        times,
+        factors,
+        payments,
+        accruals,
+        strike,
+        t,
+        vol,
+    )
+}
+
+// The same on a curve whose faults are known.
+pub fn fit_swaption_on(
+    curve: Faults,
+    quote: Quote,
+    alpha: f64,
+    times: &[f64],
+    factors: &[f64],
+    payments: &[f64],
+    accruals: &[f64],
+    strike: f64,
+    t: f64,
+    vol: f64,
+) -> Fitted
+    requires { ⌜ curve ≡ curveFaults (now times) (now factors) ⌝ }
+    ensures answer { λ r. ⌜ fittedOutcome r ≡ swaptionFitOutcome quote alpha (now (times .entry)) (now (factors .entry)) (now (payments .entry)) (now (accruals .entry)) strike t vol ⌝ }
+    ensures held { λ r. ⌜ SwaptionHeld quote alpha (now (times .entry)) (now (factors .entry)) (now (payments .entry)) (now (accruals .entry)) strike t vol r ⌝ }
+    ensures bracket { λ r. ⌜ RefusedSo quote alpha (now (times .entry)) (now (factors .entry)) (now (payments .entry)) (now (accruals .entry)) strike t vol r ⌝ }
+{
+    let coupons = lists::coupon_faults(payments, accruals);
+    let later = lists::all(payments, Test::Above(t));
+    let empty = payments.len() == 0;
+    let answer = swaption_rules(curve, coupons, later, empty, quote, alpha, strike, t, vol);
+    if let Answer::Refused(refusal) = answer {
+        return Fitted::Refused(refusal);
+    }
+    swaption_fitted(
+        quote,
+        alpha,
+        times,
+        factors,
+        payments,
+        accruals,
+        strike,
+        t,
+        vol,
+    )
+}
+
+fn swaption_rules(
+    curve: Faults,
+    coupons: Faults,
+    later: bool,
+    empty: bool,
+    quote: Quote,
+    alpha: f64,
+    strike: f64,
+    t: f64,
+    vol: f64,
+) -> Answer
+    ensures { λ r. ⌜ r ≡ firstOf (swaptionRules curve coupons later empty quote alpha strike t vol) ⌝ }
+{
+    let finite = elementary::is_finite(alpha)
+        & elementary::is_finite(strike)
+        & elementary::is_finite(t)
+        & elementary::is_finite(vol);
+    let wrong = strike_wrong(quote, strike);
+    let mut answer = lists::and_rule(Answer::Served, Refusal::Size, curve.size | coupons.size);
+    answer = lists::and_rule(
+        answer,
+        Refusal::NotFinite,
+        curve.not_finite | coupons.not_finite | !finite,
+    );
+    answer = lists::and_rule(answer, Refusal::MeanReversion, alpha <= 0.0);
+    answer = lists::and_rule(answer, Refusal::Order, curve.order);
+    answer = lists::and_rule(answer, Refusal::Times, (t <= 0.0) | !later);
+    answer = lists::and_rule(answer, Refusal::Domain, (vol <= 0.0) | wrong | curve.domain);
+    lists::and_rule(answer, Refusal::Empty, empty)
+}
+
+// The factors, then the bisection. `fit_swaption_on` has asked the rules: the coupons' lists are of one
+// length, from 1 to 64, and the curve's times strictly rise.
+fn swaption_fitted(
+    quote: Quote,
+    alpha: f64,
+    times: &[f64],
+    factors: &[f64],
+    payments: &[f64],
+    accruals: &[f64],
+    strike: f64,
+    t: f64,
+    vol: f64,
+) -> Fitted
+    requires { ⌜ (0 < length (now payments)) × (length (now payments) ≤ 64) × (length (now accruals) ≡ length (now payments)) × (inOrder true (now times) ≡ true) ⌝ }
+    ensures { λ r. ⌜ fittedOutcome r ≡ swaptionFitted quote alpha (now (times .entry)) (now (factors .entry)) (now (payments .entry)) (now (accruals .entry)) strike t vol ⌝ }
+{
+    let Found::At(p_t) = lists::factor(times, factors, t) else {
+        return Fitted::Refused(Refusal::OffCurve);
+    };
+    let Found::At(p_plus) = lists::factor(times, factors, t + formulas::day()) else {
+        return Fitted::Refused(Refusal::OffCurve);
+    };
+    let n = payments.len();
+    let mut p = [0.0; 64];
+    let fetched = terms::fetch(times, factors, payments, &mut p[..n]);
+    if let Answer::Refused(refusal) = fetched {
+        return Fitted::Refused(refusal);
+    }
+    swaption_worked(
+        quote,
+        alpha,
+        payments,
+        accruals,
+        strike,
+        t,
+        vol,
+        p_t,
+        p_plus,
+        &p[..n],
+    )
+}
+
+// What does not depend on sigma, once a coupon; then the bisection.
+fn swaption_worked(
+    quote: Quote,
+    alpha: f64,
+    payments: &[f64],
+    accruals: &[f64],
+    strike: f64,
+    t: f64,
+    vol: f64,
+    p_t: f64,
+    p_plus: f64,
+    p: &[f64],
+) -> Fitted
+    requires { ⌜ (0 < length (now payments)) × (length (now payments) ≤ 64) × (length (now accruals) ≡ length (now payments)) × (length (now p) ≡ length (now payments)) ⌝ }
+    ensures { λ r. ⌜ fittedOutcome r ≡ following (solveOf (swaptionObjective quote alpha (now (payments .entry)) (now (accruals .entry)) strike t vol «p_t» «p_plus» (now (p .entry)))) finishingFit ⌝ }
+{
+    let n = payments.len();
+    let mut c = [0.0; 64];
+    terms::coefficients(strike, accruals, &mut c[..n]);
+    let mut b = [0.0; 64];
+    terms::bs(alpha, t, payments, &mut b[..n]);
+    let mut drift = [0.0; 64];
+    let forward = formulas::forward_of(p_t, p_plus);
+    terms::drifts(forward, p_t, &b[..n], p, &mut drift[..n]);
+    let swaption = Instrument::Swaption {
+        alpha,
+        decay: formulas::decay_of(alpha, t),
+        deviation: formulas::deviation_of(alpha, t),
+        p_t,
+    };
+    let price = market::swaption_market(quote, strike, t, vol, accruals, p_t, p);
+    let fitted = solve::solve(swaption, price, &c[..n], &b[..n], &drift[..n], p);
+    bisection::finished(fitted)
+}
