@@ -23,7 +23,7 @@ use Rattle.layout.proofs.Lists.{column-length}
 use Rattle.lines.specs.Text.{Begins}
 use Rattle.lines.specs.Lines.{bitsOf, lineOf}
 use Rattle.runfile.specs.declared.told.Told.{Told}
-use Rattle.runfile.specs.Told.{listsOf, optionTold, swaptionTold}
+use Rattle.runfile.specs.Told.{listsOf, optionTold, swaptionTold, fitTold}
 use Rattle.runfile.specs.Output.{toldOf, toldLine, pointLines, pathLines, pathOf, jobLines}
 
 -- ---- an outcome, from the answer without its values
@@ -79,7 +79,7 @@ module _ (q q′ : Request) (j j′ : Job) (k res : ℕ) (d out : List ℕ) (e :
 -- kinds 1 to 11 look at no grid and at no other job
 pub told-lists : (alpha : Float) (pillars sigmas times factors payments accruals owns grid draws : List Float) (jobs : List Job) (j : Job)
     → toldOf (listsOf alpha pillars sigmas times factors payments accruals owns [] [] []) j ≡ toldOf (listsOf alpha pillars sigmas times factors payments accruals owns grid draws jobs) j
-unfolding toldOf optionTold swaptionTold
+unfolding toldOf optionTold swaptionTold fitTold
 told-lists alpha pillars sigmas times factors payments accruals owns grid draws jobs j = refl
 
 pub grid-short : (file : List ℕ) (l : Layout) → layoutOf file ≡ Parts l → (grid : List Float) → grid ≡ requestOf file l .gridTimes → length grid ≤ 1024

@@ -15,11 +15,11 @@ use Rattle.layout.specs.Layout.{layoutOf}
 use Rattle.layout.specs.Request.{Request, requestOf}
 use Rattle.lines.specs.Lines.{header, refusedLine, bitsOf, lineOf}
 use Rattle.runfile.specs.declared.told.Told.{Told}
-use Rattle.runfile.specs.Told.{optionTold, swaptionTold}
+use Rattle.runfile.specs.Told.{optionTold, swaptionTold, fitTold}
 
 -- kinds 1 to 11: one line
 unfoldable pub toldOf : Request → Job → Told
-toldOf q j = cond (ltb (j .kind) 5) (optionTold q j) (swaptionTold q j)
+toldOf q j = cond (ltb (j .kind) 5) (optionTold q j) (cond (ltb (j .kind) 8) (swaptionTold q j) (fitTold q j))
 
 abbrev pub toldLine : ℕ → ℕ → Told → List ℕ
 toldLine k kind t = lineOf k kind (t .answer) (bitsOf (t .value)) (t .note)

@@ -14,6 +14,8 @@ use Rattle.pricers.specs.declared.bond_option.SwaptionType.the-variants.{Payer,
 use Rattle.pricers.specs.Pricer as Pricer
 use Rattle.pricers.specs.Pricer.{pricerOutcome}
 use Rattle.bisection.specs.declared.result.Fit.{Fit}
+use Rattle.calibration.specs.declared.market.Quote.the-variants.{Black, Normal}
+use Rattle.calibration.specs.Fits.{capletFitOutcome, swaptionFitOutcome}
 use Rattle.layout.specs.declared.records.Job.{Job}
 use Rattle.layout.specs.Request.{Request}
 use Rattle.runfile.specs.declared.told.Told.{Told}
@@ -71,3 +73,11 @@ module _ (q : Request) (j : Job) where
       (cond (eqb (j .kind) 6)
       (toldPrice (pricerValue (pricerOutcome Payer (q .alpha) (q .pillarTimes) (q .pillarSigmas) (q .curveTimes) (q .curveFactors) (q .payments) (q .accruals) (q .owns) (j .a) (j .b) (j .c) (j .d))))
       (toldPrice (pricerValue (pricerOutcome Receiver (q .alpha) (q .pillarTimes) (q .pillarSigmas) (q .curveTimes) (q .curveFactors) (q .payments) (q .accruals) (q .owns) (j .a) (j .b) (j .c) (j .d)))))
+
+  -- "8 Black, 9 normal caplet fit (strike, start, end, quoted volatility); 10 Black, 11 normal swaption fit (strike, option time, quoted volatility)"
+  unfoldable pub fitTold : Told
+  fitTold =
+      cond (eqb (j .kind) 8) (toldFit (capletFitOutcome Black (q .alpha) (q .curveTimes) (q .curveFactors) (j .a) (j .b) (j .c) (j .d)))
+      (cond (eqb (j .kind) 9) (toldFit (capletFitOutcome Normal (q .alpha) (q .curveTimes) (q .curveFactors) (j .a) (j .b) (j .c) (j .d)))
+      (cond (eqb (j .kind) 10) (toldFit (swaptionFitOutcome Black (q .alpha) (q .curveTimes) (q .curveFactors) (q .payments) (q .accruals) (j .a) (j .b) (j .c)))
+      (toldFit (swaptionFitOutcome Normal (q .alpha) (q .curveTimes) (q .curveFactors) (q .payments) (q .accruals) (j .a) (j .b) (j .c)))))
