@@ -1,3 +1,4 @@
--- What the functions' proofs cite.
+-- What the functions' proofs cite, and, in Served, what a caller knows of a path.
 pub mod Walks
 pub mod Outcomes
+pub mod Served

@@ -1,0 +1,2 @@
+-- The laws that the proofs of `calstwid` share.
+pub mod Lists

@@ -1,0 +1,74 @@
+-- `calstwid::serve::each_job` is safe and ends: job by job, each with all that its lines ask. Assumes nothing.
+use borrow.Author.Needs.{needs}
+use mathlib.Core.Path.{_≡_}
+use Prim.Native.Nat.{_-_}
+use native.Mathlib.Omega.{arith}
+use denote.Ref.{now}
+use lib.ListN.{length}
+use Rattle.calstwid.proofs.Lists.{jobs-read}
+use Rattle.calstwid.proofs.serve.each_job.Statement.{statement}
+use Rattle.calstwid.proofs.serve.each_job.Tie as tie
+
+abbrev Inv-loop : tie.InvT-loop
+Inv-loop file l curve alpha pillars sigmas times factors payments accruals owns grid draws out₀ n-jobs k₀ out k = length out ≡ 131072
+
+abbrev μ-loop : tie.MeasureT-loop
+μ-loop file l curve alpha pillars sigmas times factors payments accruals owns grid draws out₀ n-jobs k₀ out k = n-jobs - k
+
+cast-n-jobs : tie.Need-cast-n-jobs Inv-loop μ-loop
+cast-n-jobs c = search needs
+
+loop-holds : tie.Need-loop-holds Inv-loop μ-loop
+loop-holds c = search needs
+
+slice-aggregate-job-lines : tie.Need-slice-aggregate-job-lines Inv-loop μ-loop
+slice-aggregate-job-lines c = search needs
+
+job-lines-requires : tie.Need-job-lines-requires Inv-loop μ-loop
+job-lines-requires c κs =
+    let s = c .before .before .before .before .before .before .before .before .before .before .before .before .before .before in
+    let a = s .args in
+    ((s .pre .0, c .before .loop-test .taken, omega (arith, c .before .before .loop .inv)), (s .pre .1 .0, jobs-read (now (a .file)) (a .l) (a .alpha) (now (a .pillars)) (now (a .sigmas)) (now (a .times)) (now (a .factors)) (now (a .payments)) (now (a .accruals)) (now (a .owns)) (now (a .grid)) (now (a .draws)) (s .pre .1 .1)))
+
+array-share-prefix-out : tie.Need-array-share-prefix-out Inv-loop μ-loop
+array-share-prefix-out c = search needs
+
+slice-aggregate-write-all : tie.Need-slice-aggregate-write-all Inv-loop μ-loop
+slice-aggregate-write-all c = search needs
+
+write-all-requires : tie.Need-write-all-requires Inv-loop μ-loop
+write-all-requires c κs = search needs
+
+returns : tie.Need-returns Inv-loop μ-loop
+returns c = search needs
+
+add-k : tie.Need-add-k Inv-loop μ-loop
+add-k c = search needs
+
+loop-less : tie.Need-loop-less Inv-loop μ-loop
+loop-less c = search needs
+
+loop-again : tie.Need-loop-again Inv-loop μ-loop
+loop-again c = search needs
+
+returns-2 : tie.Need-returns-2 Inv-loop μ-loop
+returns-2 c = search needs
+
+pub each-job-spec : {M : Type 1} → statement M
+each-job-spec =
+    tie.close
+    (tie.spec
+    Inv-loop
+    μ-loop
+    cast-n-jobs
+    loop-holds
+    slice-aggregate-job-lines
+    job-lines-requires
+    array-share-prefix-out
+    slice-aggregate-write-all
+    write-all-requires
+    returns
+    add-k
+    loop-less
+    loop-again
+    returns-2)

@@ -1,0 +1,81 @@
+-- `runfile::jobs::job_lines` meets its contract: job k of the file is a path, or is told in one line. Assumes nothing.
+use borrow.Author.Needs.{needs}
+use mathlib.Core.Path.{_≡_, _∙_, ap}
+use mathlib.Core.List.{List}
+use Prim.Native.Nat.{_+_, _*_}
+use denote.Ref.{now}
+use Rattle.layout.specs.declared.records.Job.{Job}
+use Rattle.layout.specs.Request.{Request, requestOf, jobAt, jobsOf}
+use Rattle.layout.proofs.Kept.{kept}
+use Rattle.runfile.specs.Told.{listsOf}
+use Rattle.runfile.proofs.Written.{path-job, told-job, told-lists, grid-short}
+use Rattle.runfile.proofs.jobs.job_lines.Statement.{statement}
+use Rattle.runfile.proofs.jobs.job_lines.Tie as tie
+
+-- ---- the request as the lists give it, and the jobs of the file
+abbrev entry : tie.After-nth-job → tie.Start
+entry n = n .before .before .before .before .before .before .before .before .before .before .before .before
+
+abbrev jobs : tie.Start → List Job
+jobs s = jobsOf (now (s .args .file)) (s .args .l .jobs)
+
+abbrev request : tie.Start → Request
+request s =
+    let a = s .args in
+    listsOf (a .alpha) (now (a .pillars)) (now (a .sigmas)) (now (a .times)) (now (a .factors)) (now (a .payments)) (now (a .accruals)) (now (a .owns)) (now (a .grid)) (now (a .draws)) (jobs s)
+
+abbrev asked : tie.Start → Request
+asked s = requestOf (now (s .args .file)) (s .args .l)
+
+abbrev nth : tie.Start → Job
+nth s = jobAt (now (s .args .file)) (s .args .l .jobs .offset + 40 * s .args .k)
+
+-- ---- the needs
+nth-job-requires : tie.Need-nth-job-requires
+nth-job-requires c κs =
+    let s = c .before .before .before .before .before .before .before .before .before .before .before in
+    (kept (now (s .args .file)) (s .args .l) (s .pre .0 .0) .jobs .inside, s .pre .0 .1)
+
+path-lines-requires : tie.Need-path-lines-requires
+path-lines-requires c κs =
+    let s = entry (c .before .before .before) in
+    (s .pre .1 .0, grid-short (now (s .args .file)) (s .args .l) (s .pre .0 .0) (now (s .args .grid)) (ap (λ (q : Request). q .gridTimes) (s .pre .1 .1)), s .pre .0 .2)
+
+same-length : tie.Need-same-length
+same-length c = search needs
+
+returns : tie.Need-returns
+returns c =
+    let n = c .before .before .before .before .before .before in
+    let s = entry n in
+    path-job (request s) (asked s) (n .nth-job .result) (nth s) (s .args .k) _ _ _ (s .pre .1 .1) (n .nth-job .ensures) (c .before .before .before .before .if1 .taken) (c .before .before .path-lines .ensures)
+
+told-of-requires : tie.Need-told-of-requires
+told-of-requires c κs = search needs
+
+one-line-requires : tie.Need-one-line-requires
+one-line-requires c κs = search needs
+
+same-length-2 : tie.Need-same-length-2
+same-length-2 c = search needs
+
+returns-2 : tie.Need-returns-2
+returns-2 c =
+    let n = c .before .before .before .before .before .before .before in
+    let s = entry n in
+    let a = s .args in
+    let t = c .before .before .before .before .told-of in
+    told-job (request s) (asked s) (n .nth-job .result) (nth s) (a .k) _ _ _ (s .pre .1 .1) (n .nth-job .ensures) (t .result) (c .before .before .before .before .before .if1 .left) (t .ensures ∙ told-lists (a .alpha) (now (a .pillars)) (now (a .sigmas)) (now (a .times)) (now (a .factors)) (now (a .payments)) (now (a .accruals)) (now (a .owns)) (now (a .grid)) (now (a .draws)) (jobs s) (n .nth-job .result)) (c .before .before .one-line .ensures)
+
+pub job-lines-spec : {M : Type 1} → statement M
+job-lines-spec =
+    tie.close
+    (tie.spec
+    nth-job-requires
+    path-lines-requires
+    same-length
+    returns
+    told-of-requires
+    one-line-requires
+    same-length-2
+    returns-2)

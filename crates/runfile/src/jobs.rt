@@ -1,0 +1,190 @@
+// The lines of a job, in the output that is lent.
+ghost use mathlib.Core.Path.{_≡_};
+ghost use Prim.Native.Nat.{_*_, _+_, _/_, _≤_, _<_};
+ghost use lib.ListN.{length};
+ghost use Rattle.lists.specs.Faults.{curveFaults};
+ghost use Rattle.paths.specs.Generate.{generateOutcome};
+ghost use Rattle.layout.specs.declared.parts.Laid.the-variants.{Parts};
+ghost use Rattle.layout.specs.Layout.{layoutOf};
+ghost use Rattle.layout.specs.Request.{requestOf, jobAt, jobsOf};
+ghost use Rattle.lines.specs.Text.{Begins, pasted};
+ghost use Rattle.lines.specs.Lines.{bitsOf, lineOf};
+ghost use Rattle.runfile.specs.Told.{listsOf};
+ghost use Rattle.runfile.specs.Output.{pointLines, pathLines, jobLines};
+use super::kinds;
+use layout::Layout;
+use lines::Line;
+use lists::Answer;
+use lists::Faults;
+
+// Puts the text behind the first `at` bytes of the output.
+fn paste(text: &[u8], at: usize, out: &mut [u8])
+    requires { ⌜ at + length (now text) ≤ length (now out) ⌝ }
+    ensures { λ _. ⌜ now (out .exit) ≡ pasted (now (out .entry)) at (now (text .entry)) ⌝ }
+{
+    let mut i = 0;
+    while i < text.len() {
+        out[at + i] = text[i];
+        i += 1;
+    }
+}
+
+// Puts a line behind the first `at` bytes of the output, and answers where it ends.
+fn add_line(l: Line, at: usize, out: &mut [u8]) -> usize
+    requires { ⌜ at + 128 ≤ length (now out) ⌝ }
+    ensures end { λ r. ⌜ (r ≡ at + length (lineOf (l .job) (l .kind) (l .answer) (bitsOf (l .value)) (l .note))) × (r ≤ at + 128) ⌝ }
+    ensures output { λ r. ⌜ now (out .exit) ≡ pasted (now (out .entry)) at (lineOf (l .job) (l .kind) (l .answer) (bitsOf (l .value)) (l .note)) ⌝ }
+{
+    let mut text = [0u8; 128];
+    let n = lines::write_line(l, &mut text);
+    paste(&text[..n], at, out);
+    at + n
+}
+
+// A line for each point of a path, the note being the point from 0. `path_lines` has room for 1,024.
+fn point_lines(k: u64, values: &[f64], out: &mut [u8]) -> usize
+    requires { ⌜ 128 * length (now values) ≤ length (now out) ⌝ }
+    ensures { λ r. ⌜ Begins r (pointLines k 0 (now (values .entry))) (now (out .entry)) (now (out .exit)) ⌝ }
+{
+    let mut at = 0;
+    let mut i = 0;
+    while i < values.len() {
+        let l = Line {
+            job: k,
+            kind: 12,
+            answer: 0,
+            value: values[i],
+            note: i as u64,
+        };
+        at = add_line(l, at, out);
+        i += 1;
+    }
+    at
+}
+
+// One line, for a job that is no served path.
+fn one_line(l: Line, out: &mut [u8]) -> usize
+    requires { ⌜ 128 ≤ length (now out) ⌝ }
+    ensures { λ r. ⌜ Begins r (lineOf (l .job) (l .kind) (l .answer) (bitsOf (l .value)) (l .note)) (now (out .entry)) (now (out .exit)) ⌝ }
+{
+    add_line(l, 0, out)
+}
+
+// Kind 12. A grid without points is served with one line of zeros.
+fn path_lines(
+    curve: Faults,
+    alpha: f64,
+    pillars: &[f64],
+    sigmas: &[f64],
+    times: &[f64],
+    factors: &[f64],
+    grid: &[f64],
+    draws: &[f64],
+    k: u64,
+    out: &mut [u8],
+) -> usize
+    requires { ⌜ (curve ≡ curveFaults (now times) (now factors)) × (length (now grid) ≤ 1024) × (131072 ≤ length (now out)) ⌝ }
+    ensures { λ r. ⌜ Begins r (pathLines k (generateOutcome alpha (now (pillars .entry)) (now (sigmas .entry)) (now (times .entry)) (now (factors .entry)) (now (grid .entry)) (now (draws .entry)) (length (now (grid .entry))))) (now (out .entry)) (now (out .exit)) ⌝ }
+{
+    let n = grid.len();
+    let mut values = [0.0; 1024];
+    let answer = paths::generate_on(
+        curve,
+        alpha,
+        pillars,
+        sigmas,
+        times,
+        factors,
+        grid,
+        draws,
+        &mut values[..n],
+    );
+    if let Answer::Refused(refusal) = answer {
+        return one_line(
+            Line {
+                job: k,
+                kind: 12,
+                answer: lists::number(refusal),
+                value: 0.0,
+                note: 0,
+            },
+            out,
+        );
+    }
+    if n == 0 {
+        return one_line(
+            Line {
+                job: k,
+                kind: 12,
+                answer: 0,
+                value: 0.0,
+                note: 0,
+            },
+            out,
+        );
+    }
+    point_lines(k, &values[..n], out)
+}
+
+// The lines of job k of the file, on the lists that were read from it and the curve's faults, worked once
+// for all jobs. The output has room for a path of 1,024 points.
+pub fn job_lines(
+    file: &[u8],
+    l: Layout,
+    curve: Faults,
+    alpha: f64,
+    pillars: &[f64],
+    sigmas: &[f64],
+    times: &[f64],
+    factors: &[f64],
+    payments: &[f64],
+    accruals: &[f64],
+    owns: &[f64],
+    grid: &[f64],
+    draws: &[f64],
+    k: usize,
+    out: &mut [u8],
+) -> usize
+    requires { ⌜ (layoutOf (now file) ≡ Parts l) × (k < l .jobs .length / 40) × (131072 ≤ length (now out)) ⌝ }
+    requires { ⌜ curve ≡ curveFaults (now times) (now factors) ⌝ }
+    requires { ⌜ listsOf alpha (now pillars) (now sigmas) (now times) (now factors) (now payments) (now accruals) (now owns) (now grid) (now draws) (jobsOf (now file) (l .jobs)) ≡ requestOf (now file) l ⌝ }
+    ensures { λ r. ⌜ Begins r (jobLines (requestOf (now (file .entry)) l) k (jobAt (now (file .entry)) (l .jobs .offset + 40 * k))) (now (out .entry)) (now (out .exit)) ⌝ }
+{
+    let j = layout::nth_job(file, l.jobs, k);
+    if j.kind == 12 {
+        return path_lines(
+            curve,
+            alpha,
+            pillars,
+            sigmas,
+            times,
+            factors,
+            grid,
+            draws,
+            k as u64,
+            out,
+        );
+    }
+    let told = kinds::told_of(
+        curve,
+        alpha,
+        pillars,
+        sigmas,
+        times,
+        factors,
+        payments,
+        accruals,
+        owns,
+        j,
+    );
+    one_line(
+        Line {
+            job: k as u64,
+            kind: j.kind,
+            answer: told.answer,
+            value: told.value,
+            note: told.note,
+        },
+        out,
+    )
+}
