@@ -1,11 +1,9 @@
 -- Demand 3 of kinds 8 to 11, of the definitions: a fit that is served is assured, at every sigma that a swaption's fit tries the root is located, and one is refused for want of a bracket exactly where a search that it tries has none. Assumes nothing.
 use mathlib.Core.Path.{_≡_, refl, sym, ap, _∙_, subst}
 use mathlib.Core.Logic.{_↔_}
-use mathlib.Core.Bool.{_&&_}
-use mathlib.Core.List.{List, [], List·Memᴰ}
+use mathlib.Core.List.{List, []}
 use lib.Dec.{T}
 use lib.Ieee.{Float}
-use lib.Ieee.Scale.{finite}
 use Rattle.ieee.specs.Rounded.{_⊕_, _⊖_}
 use Rattle.lists.specs.declared.refusals.Refusal.{Refusal}
 use Rattle.lists.specs.declared.refusals.Answer.the-variants as A
@@ -26,7 +24,6 @@ use Rattle.swaptions.specs.Demand3.{sumOf}
 use Rattle.bisection.specs.declared.result.Fit.{Fit}
 use Rattle.bisection.specs.Result.{finishingFit}
 use Rattle.bisection.specs.Solve.{solveOf}
-use Rattle.bisection.specs.Demand3.{Assured, TriedUnbracketed}
 use Rattle.bisection.proofs.Finishing.{allFinite}
 use Rattle.bisection.proofs.Demand3.{demand3}
 use Rattle.calibration.specs.declared.market.Quote.{Quote}
@@ -101,9 +98,6 @@ module _ (quote : Quote) (alpha : Float) (payments accruals : List Float) (strik
 
   valuedAt : Values → Outcome Valued
   valuedAt root = served (record { value = putsOf sigma (deviationOf alpha t) pt (root .rate) (coefficientsOf strike accruals) affs (bsOf alpha t payments) ps; root = root })
-
-  residual : Valued → Outcome Float
-  residual v = served (v .value ⊖ swaptionMarketOf quote strike t vol accruals pt ps)
 
   abbrev price : Outcome Valued
   price = modelPriceAt alpha payments accruals strike t pt pPlus ps sigma

@@ -1,6 +1,6 @@
 -- What the code takes apart on the way of a fit: a residual by the model's price, a turn and a start by their residuals. Assumes nothing.
 use mathlib.Core.Path.{_≡_, refl, sym, ap, _∙_}
-use mathlib.Core.Bool.{Bool, true, false, cond}
+use mathlib.Core.Bool.{Bool, true, false}
 use mathlib.Core.List.{List}
 use lib.Ieee.{Float, ne, binary64, ofBits}
 use Rattle.ieee.specs.Rounded.{_⊖_}

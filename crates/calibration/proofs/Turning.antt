@@ -1,6 +1,6 @@
 -- One halving as the code takes it: what a turn comes to is one step of the bisection, and a turn that moves nothing ends it. Assumes nothing.
 use mathlib.Core.Path.{_≡_, refl, sym, ap, _∙_}
-use mathlib.Core.Bool.{Bool, true, false, cond}
+use mathlib.Core.Bool.{Bool, true, cond}
 use Prim.Native.Nat.{ℕ, suc, _+_, _-_, _≤_, _<_}
 use native.Mathlib.Numerals.{add-one}
 use native.Mathlib.Omega.{arith}
@@ -11,7 +11,6 @@ use Rattle.bisection.specs.declared.halving.Ends.{Ends}
 use Rattle.bisection.specs.declared.result.Fit.{Fit}
 use Rattle.bisection.specs.Solve.{closeEnough, residualAt, movedTo, unconvergedAt, halvingsFrom}
 use Rattle.bisection.proofs.Steps.{mid, Met, stopped, close, away, met, halving-stopped, halving-close, halving-away, stays}
-use Rattle.calibration.specs.declared.solve.Turn.{Turn}
 use Rattle.calibration.specs.declared.solve.Turn.the-variants as T
 use Rattle.calibration.specs.Turn.{turned, turnAt}
 

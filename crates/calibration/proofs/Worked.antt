@@ -1,8 +1,8 @@
 -- The objective on what is worked ahead is document 01's own, at every sigma; so a fit of the one is a fit of the other. Assumes nothing.
-use mathlib.Core.Path.{_≡_, refl, sym, ap, _∙_}
+use mathlib.Core.Path.{_≡_, ap, _∙_}
 use mathlib.Core.List.{List}
 use lib.Ieee.{Float}
-use Rattle.lists.specs.Refusals.{Outcome, served, following}
+use Rattle.lists.specs.Refusals.{Outcome, following}
 use Rattle.formulas.specs.HullWhite.{forwardOf, bOf, decayOf, deviationOf, optionletStrikeOf}
 use Rattle.terms.specs.Terms.{coefficientsOf, bsOf, driftsOf}
 use Rattle.bisection.specs.declared.result.Fit.{Fit}
