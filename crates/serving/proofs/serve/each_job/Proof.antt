@@ -1,19 +1,20 @@
--- `calstwid::serve::each_job` is safe and ends: job by job, each with all that its lines ask. Assumes nothing.
+-- `serving::each_job` is safe and ends: job by job, each with all that its lines ask. Assumes nothing.
 use borrow.Author.Needs.{needs}
 use mathlib.Core.Path.{_≡_}
 use Prim.Native.Nat.{_-_}
 use native.Mathlib.Omega.{arith}
 use denote.Ref.{now}
 use lib.ListN.{length}
-use Rattle.calstwid.proofs.Lists.{jobs-read}
-use Rattle.calstwid.proofs.serve.each_job.Statement.{statement}
-use Rattle.calstwid.proofs.serve.each_job.Tie as tie
+use Rattle.layout.proofs.Kept.{kept}
+use Rattle.serving.proofs.Lists.{jobs-read}
+use Rattle.serving.proofs.serve.each_job.Statement.{statement}
+use Rattle.serving.proofs.serve.each_job.Tie as tie
 
 abbrev Inv-loop : tie.InvT-loop
-Inv-loop file l curve alpha pillars sigmas times factors payments accruals owns grid draws out₀ n-jobs k₀ out k = length out ≡ 131072
+Inv-loop file l detailed curve alpha pillars sigmas times factors payments accruals owns grid draws out₀ n-jobs k₀ out k = length out ≡ 131072
 
 abbrev μ-loop : tie.MeasureT-loop
-μ-loop file l curve alpha pillars sigmas times factors payments accruals owns grid draws out₀ n-jobs k₀ out k = n-jobs - k
+μ-loop file l detailed curve alpha pillars sigmas times factors payments accruals owns grid draws out₀ n-jobs k₀ out k = n-jobs - k
 
 cast-n-jobs : tie.Need-cast-n-jobs Inv-loop μ-loop
 cast-n-jobs c = search needs
@@ -42,6 +43,15 @@ write-all-requires c κs = search needs
 returns : tie.Need-returns Inv-loop μ-loop
 returns c = search needs
 
+nth-job-requires : tie.Need-nth-job-requires Inv-loop μ-loop
+nth-job-requires c κs =
+    let x = c .before .before .before .before .before .before in
+    let s = x .before .before .before .before .before .before .before .before .before .before .before .before .before .before in
+    (kept (now (s .args .file)) (s .args .l) (s .pre .0) .jobs .inside, x .before .loop-test .taken)
+
+write-requires : tie.Need-write-requires Inv-loop μ-loop
+write-requires c κs = search needs
+
 add-k : tie.Need-add-k Inv-loop μ-loop
 add-k c = search needs
 
@@ -68,6 +78,8 @@ each-job-spec =
     slice-aggregate-write-all
     write-all-requires
     returns
+    nth-job-requires
+    write-requires
     add-k
     loop-less
     loop-again

@@ -6,11 +6,13 @@ ghost use Rattle.layout.specs.declared.parts.Laid.the-variants.{Parts};
 ghost use Rattle.layout.specs.Layout.{layoutOf};
 ghost use Rattle.layout.specs.Request.{requestOf};
 ghost use Rattle.runfile.specs.Told.{listsOf};
+use super::details;
 use layout::Laid;
 use layout::Layout;
 use lists::Faults;
 
-pub fn serve(file: &[u8]) {
+// `detailed`: with a line of all that the library returns behind each job that has one.
+pub fn serve_file(file: &[u8], detailed: bool) {
     let laid = layout::lay_out(file);
     let mut text = [0u8; 128];
     match laid {
@@ -21,14 +23,14 @@ pub fn serve(file: &[u8]) {
         Laid::Parts(l) => {
             let n = lines::write_header(&mut text);
             if io::write_all(libc::STDOUT_FILENO, &text[..n]) {
-                serve_jobs(file, l);
+                serve_jobs(file, l, detailed);
             }
         }
     }
 }
 
 // The curve, and its faults, worked once for all jobs.
-fn serve_jobs(file: &[u8], l: Layout)
+fn serve_jobs(file: &[u8], l: Layout, detailed: bool)
     requires { ⌜ layoutOf (now file) ≡ Parts l ⌝ }
 {
     let mut times = [0.0; 2048];
@@ -38,13 +40,14 @@ fn serve_jobs(file: &[u8], l: Layout)
     layout::column(file, l.curve, 16, 1, &mut factors[..n]);
     let curve = lists::curve_faults(&times[..n], &factors[..n]);
     let alpha = layout::alpha(file, l.model);
-    with_pillars(file, l, curve, alpha, &times[..n], &factors[..n]);
+    with_pillars(file, l, detailed, curve, alpha, &times[..n], &factors[..n]);
 }
 
 // The pillars.
 fn with_pillars(
     file: &[u8],
     l: Layout,
+    detailed: bool,
     curve: Faults,
     alpha: f64,
     times: &[f64],
@@ -62,6 +65,7 @@ fn with_pillars(
     with_coupons(
         file,
         l,
+        detailed,
         curve,
         alpha,
         &pillars[..n],
@@ -75,6 +79,7 @@ fn with_pillars(
 fn with_coupons(
     file: &[u8],
     l: Layout,
+    detailed: bool,
     curve: Faults,
     alpha: f64,
     pillars: &[f64],
@@ -96,6 +101,7 @@ fn with_coupons(
     with_grid(
         file,
         l,
+        detailed,
         curve,
         alpha,
         pillars,
@@ -112,6 +118,7 @@ fn with_coupons(
 fn with_grid(
     file: &[u8],
     l: Layout,
+    detailed: bool,
     curve: Faults,
     alpha: f64,
     pillars: &[f64],
@@ -134,6 +141,7 @@ fn with_grid(
     each_job(
         file,
         l,
+        detailed,
         curve,
         alpha,
         pillars,
@@ -152,6 +160,7 @@ fn with_grid(
 fn each_job(
     file: &[u8],
     l: Layout,
+    detailed: bool,
     curve: Faults,
     alpha: f64,
     pillars: &[f64],
@@ -173,11 +182,38 @@ fn each_job(
     let mut k = 0;
     while k < n_jobs {
         let n = runfile::job_lines(
-            file, l, curve, alpha, pillars, sigmas, times, factors, payments, accruals, owns, grid,
-            draws, k, &mut out,
+            file,
+            l,
+            curve,
+            alpha,
+            pillars,
+            sigmas,
+            times,
+            factors,
+            payments,
+            accruals,
+            owns,
+            grid,
+            draws,
+            k,
+            &mut out,
         );
         if !io::write_all(libc::STDOUT_FILENO, &out[..n]) {
             return;
+        }
+        if detailed {
+            let j = layout::nth_job(file, l.jobs, k);
+            details::write(
+                alpha,
+                pillars,
+                sigmas,
+                times,
+                factors,
+                payments,
+                accruals,
+                owns,
+                j,
+            );
         }
         k += 1;
     }

@@ -1,8 +1,8 @@
--- `calstwid::serve::serve` is safe and ends: the jobs are served of a file that keeps its layout. Assumes nothing.
+-- `serving::serve` is safe and ends: the jobs are served of a file that keeps its layout. Assumes nothing.
 use borrow.Author.Needs.{needs}
 use mathlib.Core.Path.{sym, _∙_}
-use Rattle.calstwid.proofs.serve.serve.Statement.{statement}
-use Rattle.calstwid.proofs.serve.serve.Tie as tie
+use Rattle.serving.proofs.serve.serve_file.Statement.{statement}
+use Rattle.serving.proofs.serve.serve_file.Tie as tie
 
 lay-out-requires : tie.Need-lay-out-requires
 lay-out-requires c κs = search needs
@@ -49,8 +49,8 @@ returns-2 c = search needs
 returns-3 : tie.Need-returns-3
 returns-3 c = search needs
 
-pub serve-spec : {M : Type 1} → statement M
-serve-spec =
+pub serve-file-spec : {M : Type 1} → statement M
+serve-file-spec =
     tie.close
     (tie.spec
     lay-out-requires

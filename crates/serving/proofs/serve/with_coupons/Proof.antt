@@ -1,4 +1,4 @@
--- `calstwid::serve::with_coupons` is safe and ends: the coupons are read to lists of their length. Assumes nothing.
+-- `serving::with_coupons` is safe and ends: the coupons are read to lists of their length. Assumes nothing.
 use borrow.Author.Needs.{needs}
 use mathlib.Core.Path.{_≡_, sym, _∙_}
 use mathlib.Core.List.{List}
@@ -9,9 +9,9 @@ use lib.Ieee.{Float}
 use Rattle.ieee.specs.Numbers.{zero}
 use Rattle.paths.proofs.Outcomes.{lent-is, back-fits, back-is, values-are}
 use Rattle.layout.proofs.Kept.{Kept, Whole, kept}
-use Rattle.calstwid.proofs.Lists.{coupons-read}
-use Rattle.calstwid.proofs.serve.with_coupons.Statement.{statement}
-use Rattle.calstwid.proofs.serve.with_coupons.Tie as tie
+use Rattle.serving.proofs.Lists.{coupons-read}
+use Rattle.serving.proofs.serve.with_coupons.Statement.{statement}
+use Rattle.serving.proofs.serve.with_coupons.Tie as tie
 
 -- the list that is lent to each column, and what is known of the file
 abbrev work : List Float

@@ -1,0 +1,2 @@
+-- The laws that the proofs of `serving` share.
+pub mod Lists

@@ -1,0 +1,7 @@
+// A run file served to standard output: what the programs calstwid and details have in common.
+mod answers;
+mod details;
+mod serve;
+mod text;
+
+pub use serve::serve_file;
