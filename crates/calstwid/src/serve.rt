@@ -42,14 +42,7 @@ fn serve_jobs(file: &[u8], l: Layout)
 }
 
 // The pillars.
-fn with_pillars(
-    file: &[u8],
-    l: Layout,
-    curve: Faults,
-    alpha: f64,
-    times: &[f64],
-    factors: &[f64],
-)
+fn with_pillars(file: &[u8], l: Layout, curve: Faults, alpha: f64, times: &[f64], factors: &[f64])
     requires { ⌜ layoutOf (now file) ≡ Parts l ⌝ }
     requires { ⌜ curve ≡ curveFaults (now times) (now factors) ⌝ }
     requires { ⌜ (let q = requestOf (now file) l in listsOf alpha (q .pillarTimes) (q .pillarSigmas) (now times) (now factors) (q .payments) (q .accruals) (q .owns) (q .gridTimes) (q .draws) (q .jobs) ≡ q) ⌝ }
@@ -173,8 +166,21 @@ fn each_job(
     let mut k = 0;
     while k < n_jobs {
         let n = runfile::job_lines(
-            file, l, curve, alpha, pillars, sigmas, times, factors, payments, accruals, owns, grid,
-            draws, k, &mut out,
+            file,
+            l,
+            curve,
+            alpha,
+            pillars,
+            sigmas,
+            times,
+            factors,
+            payments,
+            accruals,
+            owns,
+            grid,
+            draws,
+            k,
+            &mut out,
         );
         if !io::write_all(libc::STDOUT_FILENO, &out[..n]) {
             return;
