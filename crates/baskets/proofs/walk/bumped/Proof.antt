@@ -1,0 +1,53 @@
+-- `baskets::walk::bumped` meets its contract: the fit is refused, or kept where the diagonal's float is finite. Assumes nothing.
+use denote.Ref.{now}
+use Rattle.baskets.proofs.Bumping.{bump-refused, bump-kept, bump-lost}
+use borrow.Author.Needs.{needs}
+use Rattle.baskets.proofs.walk.bumped.Statement.{statement}
+use Rattle.baskets.proofs.walk.bumped.Tie as tie
+
+quote-of-requires : tie.Need-quote-of-requires
+quote-of-requires c κs = search needs
+
+caplet-fitted-requires : tie.Need-caplet-fitted-requires
+caplet-fitted-requires c κs = search needs
+
+enum-known-fitted : tie.Need-enum-known-fitted
+enum-known-fitted c = search needs
+
+enum-told : tie.Need-enum-told
+enum-told c = search needs
+
+returns : tie.Need-returns
+returns c =
+    let a = c .before .before .before .before .before .before .args in
+    bump-refused (a .alpha) (now (a .times)) (now (a .factors)) (a .strike) (a .start) (a .end) (a .vol) (a .sigma) (a .normal) (c .before .before .before .quote-of .ensures) _ (c .before .before .caplet-fitted .ensures) (c .enum-told .given .1)
+
+diagonal-of-requires : tie.Need-diagonal-of-requires
+diagonal-of-requires c κs = search needs
+
+is-finite-requires : tie.Need-is-finite-requires
+is-finite-requires c κs = search needs
+
+returns-2 : tie.Need-returns-2
+returns-2 c =
+    let a = c .before .before .before .before .before .before .before .before .before .before .args in
+    bump-kept (a .alpha) (now (a .times)) (now (a .factors)) (a .strike) (a .start) (a .end) (a .vol) (a .sigma) (a .normal) (c .before .before .before .before .before .before .before .quote-of .ensures) _ (c .before .before .before .before .before .before .caplet-fitted .ensures) (c .before .before .before .before .fitted .given .1) (c .before .before .diagonal-of .ensures) (c .before .is-finite .ensures) (c .if1 .taken)
+
+returns-3 : tie.Need-returns-3
+returns-3 c =
+    let a = c .before .before .before .before .before .before .before .before .before .before .args in
+    bump-lost (a .alpha) (now (a .times)) (now (a .factors)) (a .strike) (a .start) (a .end) (a .vol) (a .sigma) (a .normal) (c .before .before .before .before .before .before .before .quote-of .ensures) _ (c .before .before .before .before .before .before .caplet-fitted .ensures) (c .before .before .before .before .fitted .given .1) (c .before .before .diagonal-of .ensures) (c .before .is-finite .ensures) (c .if1 .left)
+
+pub bumped-spec : {M : Type 1} → statement M
+bumped-spec =
+    tie.close
+    (tie.spec
+    quote-of-requires
+    caplet-fitted-requires
+    enum-known-fitted
+    enum-told
+    returns
+    diagonal-of-requires
+    is-finite-requires
+    returns-2
+    returns-3)
