@@ -131,13 +131,13 @@ returns-3 c =
     let a = c .before .before .before .before .before .before .before .before .before .before .before .before .before .before .before .before .before .before .before .before .before .before .before .before .before .before .args in
     let p = c .before .before .before .before .before .before .before .before .before .before .before .before .before .before .before .before .before .before .before .before .before .before .before .before .before .before .pre in
     basket-served (a .alpha) (now (a .times)) (now (a .factors)) (entriesOf (now (a .normals)) (now (a .strikes)) (now (a .starts)) (now (a .ends)) (now (a .vols))) (records g) (g .first-fits .ensures) (c .before .before .before .before .before .before .before .before .enum-told .given .1) (values-are _ (p .0) (ss-of g) (g .first-fits .kept .1 .1 .1 .1 .1 .1 .1 .1 .0)) (bumps u) (u .bumped-fits .ensures) (c .enum-told2 .given .1)
-        (counted (now (a .normals)) (now (a .strikes)) (now (a .starts)) (now (a .ends)) (now (a .vols)) (p .1) (p .2) (p .3) (p .4))
-        (padded-is _ (p .0) (ss-of g) (g .first-fits .kept .1 .1 .1 .1 .1 .1 .1 .1 .0))
-        (padded-is _ (p .0) (cs-of g) (g .first-fits .kept .1 .1 .1 .1 .1 .1 .1 .1 .1 .0))
-        (padded-is _ (p .0) (hs-of g) (g .first-fits .kept .1 .1 .1 .1 .1 .1 .1 .1 .1 .1 .0))
-        (padded-is _ (p .0) (rs-of g) (g .first-fits .kept .1 .1 .1 .1 .1 .1 .1 .1 .1 .1 .1 .0))
-        (padded-is _ (p .0) (ds-of u) (u .bumped-fits .kept .1 .1 .1 .1 .1 .1 .1 .1 .1 .0))
-        (padded-is _ (p .0) (bs-of u) (u .bumped-fits .kept .1 .1 .1 .1 .1 .1 .1 .1 .1 .1 .0))
+    (counted (now (a .normals)) (now (a .strikes)) (now (a .starts)) (now (a .ends)) (now (a .vols)) (p .1) (p .2) (p .3) (p .4))
+    (padded-is _ (p .0) (ss-of g) (g .first-fits .kept .1 .1 .1 .1 .1 .1 .1 .1 .0))
+    (padded-is _ (p .0) (cs-of g) (g .first-fits .kept .1 .1 .1 .1 .1 .1 .1 .1 .1 .0))
+    (padded-is _ (p .0) (hs-of g) (g .first-fits .kept .1 .1 .1 .1 .1 .1 .1 .1 .1 .1 .0))
+    (padded-is _ (p .0) (rs-of g) (g .first-fits .kept .1 .1 .1 .1 .1 .1 .1 .1 .1 .1 .1 .0))
+    (padded-is _ (p .0) (ds-of u) (u .bumped-fits .kept .1 .1 .1 .1 .1 .1 .1 .1 .1 .0))
+    (padded-is _ (p .0) (bs-of u) (u .bumped-fits .kept .1 .1 .1 .1 .1 .1 .1 .1 .1 .1 .0))
 
 pub fitted-basket-spec : {M : Type 1} → statement M
 fitted-basket-spec =

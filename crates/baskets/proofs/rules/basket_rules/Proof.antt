@@ -27,7 +27,7 @@ and-rule-requires-6 c κs = search needs
 
 returns : tie.Need-returns
 unfolding inTurn
-returns c = 
+returns c =
     let r5 = c .before .before in
     let r4 = r5 .before in
     let r3 = r4 .before in
