@@ -19,7 +19,7 @@ use Rattle.bisection.specs.declared.result.Fitted.the-variants as F
 use Rattle.bisection.specs.Result.{fittedOutcome}
 use Rattle.calibration.specs.declared.market.Quote.{Quote}
 use Rattle.calibration.specs.Fits.{capletFitted}
-use Rattle.baskets.specs.Entries.{Entry, quoteOf, entriesOf}
+use Rattle.baskets.specs.Entries.{quoteOf, entriesOf}
 use Rattle.baskets.specs.Basket.{diagonalOf, statusOf, Bumps, bumpOf, withBump, bumpsOf}
 use Rattle.baskets.proofs.Literals.{bump-is}
 use Rattle.baskets.proofs.Walks.{longer, from, entryAt, next-entry, no-entries}

@@ -4,7 +4,7 @@ use mathlib.Core.Bool.{Bool, false}
 use mathlib.Core.List.{List, [], _∷_, _++_, append-nil}
 use Prim.Native.Nat.{ℕ, _+_, _≤_, _<_}
 use native.Mathlib.Omega.{arith}
-use lib.ListN.{length, getD, set, take, drop, length-set}
+use lib.ListN.{length, getD, set, take, length-set}
 use lib.Seq.{take-all}
 use lib.Ieee.{Float, nan}
 use Rattle.lists.specs.declared.refusals.Refusal.{Refusal}
@@ -15,8 +15,8 @@ use Rattle.bisection.specs.declared.result.Fitted.the-variants as F
 use Rattle.bisection.specs.Result.{fittedOutcome}
 use Rattle.calibration.specs.declared.market.Quote.{Quote}
 use Rattle.calibration.specs.Fits.{capletFitted}
-use Rattle.baskets.specs.Entries.{Entry, quoteOf, entriesOf}
-use Rattle.baskets.specs.Basket.{fitOf, statusOf, countOf, Records, withFit, fitsOf}
+use Rattle.baskets.specs.Entries.{quoteOf, entriesOf}
+use Rattle.baskets.specs.Basket.{statusOf, countOf, Records, withFit, fitsOf}
 use Rattle.baskets.proofs.Walks.{longer, from, entryAt, next-entry, no-entries}
 
 -- ---- one entry's fit, as the code takes it apart

@@ -18,10 +18,9 @@ use Rattle.lists.specs.Checks.{inOrder}
 use Rattle.lists.specs.Faults.{curveFaults}
 use Rattle.lists.proofs.Outcomes.{neither}
 use Rattle.lists.proofs.Laws.{curve-rises}
-use Rattle.baskets.specs.declared.call.Basket.{Basket}
 use Rattle.baskets.specs.declared.call.BasketFit.{BasketFit}
 use Rattle.baskets.specs.Entries.{Entry, entriesOf, sizeWrong, basketRules, rulesOn}
-use Rattle.baskets.specs.Basket.{Records, fitsOf, Bumps, bumpsOf, padded, basketFrom, basketTold, fittedBasket, basketOf}
+use Rattle.baskets.specs.Basket.{Records, fitsOf, Bumps, bumpsOf, padded, basketTold, fittedBasket, basketOf}
 
 -- ---- lists of one length have an entry a place
 pub counted : (ns : List Bool) (ks ts ends vs : List Float) → length ks ≡ length ns → length ts ≡ length ns → length ends ≡ length ns → length vs ≡ length ns → length (entriesOf ns ks ts ends vs) ≡ length ns

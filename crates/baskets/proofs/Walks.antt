@@ -1,8 +1,8 @@
 -- One turn and the end of a walk along a basket's lists: what the rules say of the entries from place i on, and the entry at place i. Assumes nothing.
-use mathlib.Core.Path.{_≡_, refl}
+use mathlib.Core.Path.{_≡_}
 use mathlib.Core.Bool.{Bool, true, false, _||_}
 use mathlib.Core.List.{List, [], _∷_, _++_}
-use Prim.Native.Nat.{ℕ, zero, suc, _+_, _≤_, _<_}
+use Prim.Native.Nat.{ℕ, zero, _+_, _≤_, _<_}
 use native.Mathlib.Numerals.{add-one}
 use lib.ListN.{length, getD, drop, take, set, drop-of-length-le}
 use lib.Seq.{append-snoc, drop-cons, take-suc-set}

@@ -1,7 +1,6 @@
 -- `baskets::walk::diagonal_of` meets its contract. Assumes nothing.
 use Rattle.baskets.specs.Basket.{diagonalOf}
 use Rattle.baskets.proofs.Literals.{bump-is}
-use borrow.Author.Needs.{needs}
 use Rattle.baskets.proofs.walk.diagonal_of.Statement.{statement}
 use Rattle.baskets.proofs.walk.diagonal_of.Tie as tie
 
