@@ -4,9 +4,9 @@ ghost use mathlib.Core.Bool.{true};
 ghost use Prim.Native.Nat.{_≤_, _<_};
 ghost use lib.ListN.{length};
 ghost use Rattle.lists.specs.Checks.{inOrder};
-ghost use Rattle.lists.specs.Refusals.{firstOf, following};
+ghost use Rattle.lists.specs.Refusals.{reported, firstOf, following};
 ghost use Rattle.lists.specs.Faults.{curveFaults};
-ghost use Rattle.bisection.specs.Result.{fittedOutcome, finishingFit};
+ghost use Rattle.bisection.specs.Result.{fittedOutcome, noFit, finishingFit};
 ghost use Rattle.bisection.specs.Solve.{solveOf};
 ghost use Rattle.calibration.specs.Objective.{capletObjective, swaptionObjective};
 ghost use Rattle.calibration.specs.Fits.{strikeWrong, capletRules, swaptionRules, capletFitted, capletFitOutcome, swaptionFitted, swaptionFitOutcome};
@@ -36,6 +36,7 @@ pub fn fit_caplet(
     ensures answer { λ r. ⌜ fittedOutcome r ≡ capletFitOutcome quote alpha (now (times .entry)) (now (factors .entry)) strike t end vol ⌝ }
     ensures held { λ r. ⌜ CapletHeld quote alpha (now (times .entry)) (now (factors .entry)) strike t end vol r ⌝ }
     ensures bracket { λ r. ⌜ CapletNeverSo quote alpha (now (times .entry)) (now (factors .entry)) strike t end vol r ⌝ }
+    ensures report { λ r. ⌜ reported noFit (fittedOutcome r) ≡ reported noFit (capletFitOutcome quote alpha (now (times .entry)) (now (factors .entry)) strike t end vol) ⌝ }
 {
     let curve = lists::curve_faults(times, factors);
     fit_caplet_on(curve, quote, alpha, times, factors, strike, t, end, vol)
@@ -58,6 +59,7 @@ pub fn fit_caplet_on(
     ensures answer { λ r. ⌜ fittedOutcome r ≡ capletFitOutcome quote alpha (now (times .entry)) (now (factors .entry)) strike t end vol ⌝ }
     ensures held { λ r. ⌜ CapletHeld quote alpha (now (times .entry)) (now (factors .entry)) strike t end vol r ⌝ }
     ensures bracket { λ r. ⌜ CapletNeverSo quote alpha (now (times .entry)) (now (factors .entry)) strike t end vol r ⌝ }
+    ensures report { λ r. ⌜ reported noFit (fittedOutcome r) ≡ reported noFit (capletFitOutcome quote alpha (now (times .entry)) (now (factors .entry)) strike t end vol) ⌝ }
 {
     let answer = caplet_rules(curve, quote, alpha, strike, t, end, vol);
     if let Answer::Refused(refusal) = answer {
@@ -170,6 +172,7 @@ pub fn fit_swaption(
     ensures answer { λ r. ⌜ fittedOutcome r ≡ swaptionFitOutcome quote alpha (now (times .entry)) (now (factors .entry)) (now (payments .entry)) (now (accruals .entry)) strike t vol ⌝ }
     ensures held { λ r. ⌜ SwaptionHeld quote alpha (now (times .entry)) (now (factors .entry)) (now (payments .entry)) (now (accruals .entry)) strike t vol r ⌝ }
     ensures bracket { λ r. ⌜ RefusedSo quote alpha (now (times .entry)) (now (factors .entry)) (now (payments .entry)) (now (accruals .entry)) strike t vol r ⌝ }
+    ensures report { λ r. ⌜ reported noFit (fittedOutcome r) ≡ reported noFit (swaptionFitOutcome quote alpha (now (times .entry)) (now (factors .entry)) (now (payments .entry)) (now (accruals .entry)) strike t vol) ⌝ }
 {
     let curve = lists::curve_faults(times, factors);
     fit_swaption_on(
@@ -203,6 +206,7 @@ pub fn fit_swaption_on(
     ensures answer { λ r. ⌜ fittedOutcome r ≡ swaptionFitOutcome quote alpha (now (times .entry)) (now (factors .entry)) (now (payments .entry)) (now (accruals .entry)) strike t vol ⌝ }
     ensures held { λ r. ⌜ SwaptionHeld quote alpha (now (times .entry)) (now (factors .entry)) (now (payments .entry)) (now (accruals .entry)) strike t vol r ⌝ }
     ensures bracket { λ r. ⌜ RefusedSo quote alpha (now (times .entry)) (now (factors .entry)) (now (payments .entry)) (now (accruals .entry)) strike t vol r ⌝ }
+    ensures report { λ r. ⌜ reported noFit (fittedOutcome r) ≡ reported noFit (swaptionFitOutcome quote alpha (now (times .entry)) (now (factors .entry)) (now (payments .entry)) (now (accruals .entry)) strike t vol) ⌝ }
 {
     let coupons = lists::coupon_faults(payments, accruals);
     let later = lists::all(payments, Test::Above(t));

@@ -51,6 +51,14 @@ abbrev pub valueOr : {A : Type 0} → A → Outcome A → A
 valueOr none (served v) = v
 valueOr none (refused r) = none
 
+-- "A refused call returns zeros beside its number": what a call reports, its number and its values, which are `none` where it is refused
+pub record Report (A : Type 0) : Type 0 where
+  pub answer : ℕ
+  pub values : A
+
+abbrev pub reported : {A : Type 0} → A → Outcome A → Report A
+reported none o = record { answer = answerNumber (answerOf o); values = valueOr none o }
+
 -- ---- rules 1 to 7: "the first number below that applies"
 
 -- a rule, and whether it applies to the call

@@ -2,8 +2,8 @@
 ghost use mathlib.Core.Path.{_≡_};
 ghost use mathlib.Core.Bool.{true};
 ghost use Rattle.lists.specs.Checks.{inOrder};
-ghost use Rattle.lists.specs.Refusals.{outcomeOf};
-ghost use Rattle.models.specs.Quotes.{pairOutcome, d1d2Worked, d1d2Outcome, blackCallOutcome, blackPutOutcome, bachelierCallOutcome, annuityPriced, annuityOutcome};
+ghost use Rattle.lists.specs.Refusals.{outcomeOf, reported};
+ghost use Rattle.models.specs.Quotes.{noTwo, pairOutcome, d1d2Worked, d1d2Outcome, blackCallOutcome, blackPutOutcome, bachelierCallOutcome, annuityPriced, annuityOutcome};
 use super::rules;
 use lists::Answer;
 use lists::Found;
@@ -17,7 +17,8 @@ pub enum Pair {
 }
 
 pub fn d1_d2(fwd: f64, strike: f64, vol: f64, tau: f64) -> Pair
-    ensures { λ r. ⌜ pairOutcome r ≡ d1d2Outcome fwd strike vol tau ⌝ }
+    ensures answer { λ r. ⌜ pairOutcome r ≡ d1d2Outcome fwd strike vol tau ⌝ }
+    ensures report { λ r. ⌜ reported noTwo (pairOutcome r) ≡ reported noTwo (d1d2Outcome fwd strike vol tau) ⌝ }
 {
     let answer = rules::quote_rules(true, fwd, strike, vol, tau);
     match answer {

@@ -4,9 +4,9 @@ ghost use mathlib.Core.Bool.{true};
 ghost use Prim.Native.Nat.{_≤_};
 ghost use lib.ListN.{length};
 ghost use Rattle.lists.specs.Checks.{inOrder};
-ghost use Rattle.lists.specs.Refusals.{firstOf};
+ghost use Rattle.lists.specs.Refusals.{reported, firstOf};
 ghost use Rattle.lists.specs.Faults.{curveFaults};
-ghost use Rattle.pricers.specs.Pricer.{valuationOutcome, ownFits, pricerRules, pricedBy, pricerPriced, pricerOutcome, finishingValuation};
+ghost use Rattle.pricers.specs.Pricer.{valuationOutcome, noValued, ownFits, pricerRules, pricedBy, pricerPriced, pricerOutcome, finishingValuation};
 ghost use Rattle.pricers.specs.Demand3.{Rooted, RefusedSo};
 use super::bond_option::SwaptionType;
 use super::components;
@@ -54,6 +54,7 @@ pub fn swaption_value(
     ensures answer { λ r. ⌜ valuationOutcome r ≡ pricerOutcome option alpha (now (pillars .entry)) (now (sigmas .entry)) (now (times .entry)) (now (factors .entry)) (now (payments .entry)) (now (accruals .entry)) (now («own_dfs» .entry)) strike t notional side ⌝ }
     ensures rooted { λ r. ⌜ Rooted alpha (now (pillars .entry)) (now (sigmas .entry)) (now (times .entry)) (now (factors .entry)) (now (payments .entry)) (now (accruals .entry)) (now («own_dfs» .entry)) strike t notional side r ⌝ }
     ensures bracket { λ r. ⌜ RefusedSo alpha (now (pillars .entry)) (now (sigmas .entry)) (now (times .entry)) (now (factors .entry)) (now (payments .entry)) (now (accruals .entry)) (now («own_dfs» .entry)) strike t notional side r ⌝ }
+    ensures report { λ r. ⌜ reported noValued (valuationOutcome r) ≡ reported noValued (pricerOutcome option alpha (now (pillars .entry)) (now (sigmas .entry)) (now (times .entry)) (now (factors .entry)) (now (payments .entry)) (now (accruals .entry)) (now («own_dfs» .entry)) strike t notional side) ⌝ }
 {
     let curve = lists::curve_faults(times, factors);
     swaption_value_on(
@@ -96,6 +97,7 @@ pub fn swaption_value_on(
     ensures answer { λ r. ⌜ valuationOutcome r ≡ pricerOutcome option alpha (now (pillars .entry)) (now (sigmas .entry)) (now (times .entry)) (now (factors .entry)) (now (payments .entry)) (now (accruals .entry)) (now («own_dfs» .entry)) strike t notional side ⌝ }
     ensures rooted { λ r. ⌜ Rooted alpha (now (pillars .entry)) (now (sigmas .entry)) (now (times .entry)) (now (factors .entry)) (now (payments .entry)) (now (accruals .entry)) (now («own_dfs» .entry)) strike t notional side r ⌝ }
     ensures bracket { λ r. ⌜ RefusedSo alpha (now (pillars .entry)) (now (sigmas .entry)) (now (times .entry)) (now (factors .entry)) (now (payments .entry)) (now (accruals .entry)) (now («own_dfs» .entry)) strike t notional side r ⌝ }
+    ensures report { λ r. ⌜ reported noValued (valuationOutcome r) ≡ reported noValued (pricerOutcome option alpha (now (pillars .entry)) (now (sigmas .entry)) (now (times .entry)) (now (factors .entry)) (now (payments .entry)) (now (accruals .entry)) (now («own_dfs» .entry)) strike t notional side) ⌝ }
 {
     let schedule = lists::pillar_faults(pillars, sigmas);
     let coupons = lists::coupon_faults(payments, accruals);

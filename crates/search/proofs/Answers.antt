@@ -12,7 +12,7 @@ use Rattle.search.proofs.Demand3.{accepted}
 use Rattle.search.proofs.Reaching.{exactly}
 
 pub answered : (sum : Float → Float) (r : Critical) → r ≡ criticalOf sum → Searched sum r
-answered sum r e = subst (Searched sum) (sym e) (record { is = refl; exactly = exactly sum; accepted = accepted sum })
+answered sum r e = subst (Searched sum) (sym e) (record { is = refl; exactly = exactly sum; accepted = accepted sum; report = refl })
 
 -- for a caller of `critical_rate`: with weights that are coefficient × A, its answer is that of the terms' priced coupon sum
 pub priced : (coefficients affines bs weights : List Float) (r : Critical) → weights ≡ weightsOf coefficients affines → Searched (weightedSum weights bs) r → Searched (couponSum coefficients affines bs) r

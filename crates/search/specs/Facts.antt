@@ -13,8 +13,8 @@ use Rattle.search.specs.declared.Critical.{Critical}
 use Rattle.search.specs.Line.{Tight}
 use Rattle.search.specs.Halving.{Halvings}
 use Rattle.search.specs.Rate.{rateAt, good, criticalOf}
-use Rattle.lists.specs.Refusals.{served, answerOf}
-use Rattle.search.specs.Values.{Values, criticalOutcome}
+use Rattle.lists.specs.Refusals.{served, answerOf, reported}
+use Rattle.search.specs.Values.{Values, noValues, criticalOutcome}
 use Rattle.search.specs.Reached.{Exactly}
 
 -- "a rung number fixes the rate it names": i is the ladder's first good rung, with none before it good or NaN
@@ -54,3 +54,4 @@ pub record Searched (sum : Float → Float) (r : Critical) : Type 0 where
   pub is : r ≡ criticalOf sum
   pub exactly : Exactly sum (answerOf (criticalOutcome r))
   pub accepted : (v : Values) → criticalOutcome r ≡ served v → Located sum v
+  pub report : reported noValues (criticalOutcome r) ≡ reported noValues (criticalOutcome (criticalOf sum))

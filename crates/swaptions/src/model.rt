@@ -4,7 +4,7 @@ ghost use mathlib.Core.Bool.{true};
 ghost use Prim.Native.Nat.{_≤_};
 ghost use lib.ListN.{length};
 ghost use Rattle.lists.specs.Checks.{inOrder};
-ghost use Rattle.lists.specs.Refusals.{served, firstOf, following};
+ghost use Rattle.lists.specs.Refusals.{served, reported, firstOf, following};
 ghost use Rattle.lists.specs.Faults.{curveFaults};
 ghost use Rattle.swaptions.specs.Price.{swaptionOutcome, noValued, finishingSwaption};
 ghost use Rattle.swaptions.specs.Model.{modelRules, termsPriced, modelPriced, modelOutcome};
@@ -33,6 +33,7 @@ pub fn swaption_price(
     ensures answer { λ r. ⌜ swaptionOutcome r ≡ modelOutcome alpha (now (times .entry)) (now (factors .entry)) (now (payments .entry)) (now (accruals .entry)) strike t sigma ⌝ }
     ensures rooted { λ r. ⌜ Rooted alpha (now (times .entry)) (now (factors .entry)) (now (payments .entry)) (now (accruals .entry)) strike t sigma r ⌝ }
     ensures bracket { λ r. ⌜ RefusedSo alpha (now (times .entry)) (now (factors .entry)) (now (payments .entry)) (now (accruals .entry)) strike t sigma r ⌝ }
+    ensures report { λ r. ⌜ reported noValued (swaptionOutcome r) ≡ reported noValued (modelOutcome alpha (now (times .entry)) (now (factors .entry)) (now (payments .entry)) (now (accruals .entry)) strike t sigma) ⌝ }
 {
     let curve = lists::curve_faults(times, factors);
     swaption_price_on(
@@ -65,6 +66,7 @@ pub fn swaption_price_on(
     ensures answer { λ r. ⌜ swaptionOutcome r ≡ modelOutcome alpha (now (times .entry)) (now (factors .entry)) (now (payments .entry)) (now (accruals .entry)) strike t sigma ⌝ }
     ensures rooted { λ r. ⌜ Rooted alpha (now (times .entry)) (now (factors .entry)) (now (payments .entry)) (now (accruals .entry)) strike t sigma r ⌝ }
     ensures bracket { λ r. ⌜ RefusedSo alpha (now (times .entry)) (now (factors .entry)) (now (payments .entry)) (now (accruals .entry)) strike t sigma r ⌝ }
+    ensures report { λ r. ⌜ reported noValued (swaptionOutcome r) ≡ reported noValued (modelOutcome alpha (now (times .entry)) (now (factors .entry)) (now (payments .entry)) (now (accruals .entry)) strike t sigma) ⌝ }
 {
     let coupons = lists::coupon_faults(payments, accruals);
     let later = lists::all(payments, Test::Above(t));

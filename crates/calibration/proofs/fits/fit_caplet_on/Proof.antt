@@ -1,8 +1,9 @@
 -- `calibration::fits::fit_caplet_on` meets its contract: turned down by its rules, or what `caplet_fitted` finds; what it serves is assured, and no search of it can want a bracket. Assumes nothing.
-use mathlib.Core.Path.{_≡_, _∙_}
+use mathlib.Core.Path.{_≡_, _∙_, ap}
 use denote.Ref.{now}
-use Rattle.lists.specs.Refusals.{firstOf}
+use Rattle.lists.specs.Refusals.{reported, firstOf}
 use Rattle.lists.specs.Faults.{curveFaults}
+use Rattle.bisection.specs.Result.{noFit}
 use Rattle.calibration.specs.Fits.{capletRules}
 use Rattle.calibration.proofs.Outcomes.{caplet-rules-on, caplet-turned-down, caplet-let-through, caplet-rises}
 use Rattle.calibration.proofs.Demand3.{caplet-held, caplet-never-so}
@@ -29,7 +30,7 @@ returns c =
     let r = c .before .before .before in
     let a = r .before .before .before .args in
     let o = caplet-turned-down (a .quote) (a .alpha) (now (a .times)) (now (a .factors)) (a .strike) (a .t) (a .end) (a .vol) (rules r) (c .before .answer .given .1) in
-    (o, (caplet-held (a .quote) (a .alpha) (now (a .times)) (now (a .factors)) (a .strike) (a .t) (a .end) (a .vol) o, caplet-never-so (a .quote) (a .alpha) (now (a .times)) (now (a .factors)) (a .strike) (a .t) (a .end) (a .vol) o))
+    (o, (caplet-held (a .quote) (a .alpha) (now (a .times)) (now (a .factors)) (a .strike) (a .t) (a .end) (a .vol) o, (caplet-never-so (a .quote) (a .alpha) (now (a .times)) (now (a .factors)) (a .strike) (a .t) (a .end) (a .vol) o, ap (reported noFit) o)))
 
 enum-told : tie.Need-enum-told
 enum-told c = search needs
@@ -45,7 +46,7 @@ returns-2 c =
     let r = c .before .before .before in
     let a = r .before .before .before .args in
     let o = c .caplet-fitted .ensures ∙ caplet-let-through (a .quote) (a .alpha) (now (a .times)) (now (a .factors)) (a .strike) (a .t) (a .end) (a .vol) (rules r) (c .before .enum-told .given .1) in
-    (o, (caplet-held (a .quote) (a .alpha) (now (a .times)) (now (a .factors)) (a .strike) (a .t) (a .end) (a .vol) o, caplet-never-so (a .quote) (a .alpha) (now (a .times)) (now (a .factors)) (a .strike) (a .t) (a .end) (a .vol) o))
+    (o, (caplet-held (a .quote) (a .alpha) (now (a .times)) (now (a .factors)) (a .strike) (a .t) (a .end) (a .vol) o, (caplet-never-so (a .quote) (a .alpha) (now (a .times)) (now (a .factors)) (a .strike) (a .t) (a .end) (a .vol) o, ap (reported noFit) o)))
 
 pub fit-caplet-on-spec : {M : Type 1} → statement M
 fit-caplet-on-spec =

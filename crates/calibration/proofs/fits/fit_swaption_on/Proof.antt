@@ -1,7 +1,8 @@
 -- `calibration::fits::fit_swaption_on` meets its contract: turned down by its rules, or what `swaption_fitted` finds; what it serves is assured, and it wants a bracket where a search that it tries does. Assumes nothing.
-use mathlib.Core.Path.{_≡_, refl, _∙_}
+use mathlib.Core.Path.{_≡_, refl, _∙_, ap}
 use denote.Ref.{now}
-use Rattle.lists.specs.Refusals.{firstOf}
+use Rattle.lists.specs.Refusals.{reported, firstOf}
+use Rattle.bisection.specs.Result.{noFit}
 use Rattle.calibration.specs.Fits.{swaptionRulesOn}
 use Rattle.calibration.proofs.Outcomes.{swaption-rules-on, swaption-turned-down, swaption-let-through, lists-fit}
 use Rattle.calibration.proofs.Demand3.{swaption-held, swaption-refused-so}
@@ -34,7 +35,7 @@ returns c =
     let r = c .before .before .before in
     let a = r .before .before .before .before .before .before .before .args in
     let o = swaption-turned-down (a .quote) (a .alpha) (now (a .times)) (now (a .factors)) (now (a .payments)) (now (a .accruals)) (a .strike) (a .t) (a .vol) (rules r) (c .before .answer .given .1) in
-    (o, (swaption-held (a .quote) (a .alpha) (now (a .times)) (now (a .factors)) (now (a .payments)) (now (a .accruals)) (a .strike) (a .t) (a .vol) o, swaption-refused-so (a .quote) (a .alpha) (now (a .times)) (now (a .factors)) (now (a .payments)) (now (a .accruals)) (a .strike) (a .t) (a .vol) o))
+    (o, (swaption-held (a .quote) (a .alpha) (now (a .times)) (now (a .factors)) (now (a .payments)) (now (a .accruals)) (a .strike) (a .t) (a .vol) o, (swaption-refused-so (a .quote) (a .alpha) (now (a .times)) (now (a .factors)) (now (a .payments)) (now (a .accruals)) (a .strike) (a .t) (a .vol) o, ap (reported noFit) o)))
 
 enum-told : tie.Need-enum-told
 enum-told c = search needs
@@ -50,7 +51,7 @@ returns-2 c =
     let r = c .before .before .before in
     let a = r .before .before .before .before .before .before .before .args in
     let o = c .swaption-fitted .ensures ∙ swaption-let-through (a .quote) (a .alpha) (now (a .times)) (now (a .factors)) (now (a .payments)) (now (a .accruals)) (a .strike) (a .t) (a .vol) (rules r) (c .before .enum-told .given .1) in
-    (o, (swaption-held (a .quote) (a .alpha) (now (a .times)) (now (a .factors)) (now (a .payments)) (now (a .accruals)) (a .strike) (a .t) (a .vol) o, swaption-refused-so (a .quote) (a .alpha) (now (a .times)) (now (a .factors)) (now (a .payments)) (now (a .accruals)) (a .strike) (a .t) (a .vol) o))
+    (o, (swaption-held (a .quote) (a .alpha) (now (a .times)) (now (a .factors)) (now (a .payments)) (now (a .accruals)) (a .strike) (a .t) (a .vol) o, (swaption-refused-so (a .quote) (a .alpha) (now (a .times)) (now (a .factors)) (now (a .payments)) (now (a .accruals)) (a .strike) (a .t) (a .vol) o, ap (reported noFit) o)))
 
 pub fit-swaption-on-spec : {M : Type 1} → statement M
 fit-swaption-on-spec =

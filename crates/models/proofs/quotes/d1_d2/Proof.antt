@@ -1,6 +1,8 @@
 -- `models::d1_d2` meets its contract: turned down by its rules, or what `d1_d2_worked` finds. Assumes nothing.
+use mathlib.Core.Path.{_∙_, sym, ap}
 use borrow.Author.Needs.{needs}
-use Rattle.models.specs.Quotes.{d1d2Outcome}
+use Rattle.lists.specs.Refusals.{reported}
+use Rattle.models.specs.Quotes.{noTwo, d1d2Worked, d1d2Outcome}
 use Rattle.lists.proofs.Outcomes.{turned-down, let-through}
 use Rattle.models.proofs.quotes.d1_d2.Statement.{statement}
 use Rattle.models.proofs.quotes.d1_d2.Tie as tie
@@ -19,11 +21,15 @@ d1-d2-worked-requires c κs = search needs
 
 returns : tie.Need-returns
 unfolding d1d2Outcome
-returns c = rw (turned-down _ _ (c .before .answer .given .1) (c .before .before .before .quote-rules .ensures))
+returns c =
+    let o = sym (turned-down _ (d1d2Worked _ _ _ _) (c .before .answer .given .1) (c .before .before .before .quote-rules .ensures)) in
+    (o, ap (reported noTwo) o)
 
 returns-2 : tie.Need-returns-2
 unfolding d1d2Outcome
-returns-2 c = rw (let-through _ _ (c .before .enum-told .given .1) (c .before .before .before .quote-rules .ensures)) (c .d1-d2-worked .ensures)
+returns-2 c =
+    let o = c .d1-d2-worked .ensures ∙ sym (let-through _ _ (c .before .enum-told .given .1) (c .before .before .before .quote-rules .ensures)) in
+    (o, ap (reported noTwo) o)
 
 pub d1-d2-spec : {M : Type 1} → statement M
 d1-d2-spec =

@@ -1,8 +1,8 @@
 -- `pricers::swaption_value_on` meets its contract: turned down by its rules, or what `pricer_priced` finds; its root is where the outcome defined has it, and it wants a bracket where that one does. Assumes nothing.
-use mathlib.Core.Path.{_≡_, _∙_}
+use mathlib.Core.Path.{_≡_, _∙_, ap}
 use denote.Ref.{now}
-use Rattle.lists.specs.Refusals.{firstOf}
-use Rattle.pricers.specs.Pricer.{rulesOn}
+use Rattle.lists.specs.Refusals.{reported, firstOf}
+use Rattle.pricers.specs.Pricer.{noValued, rulesOn}
 use Rattle.pricers.proofs.Pricing.{same-rules, turned-down, let-through, lists-fit}
 use Rattle.pricers.proofs.Demand3.{rooted, refused-so}
 use borrow.Author.Needs.{needs}
@@ -43,7 +43,7 @@ returns : tie.Need-returns
 returns c =
     let a = c .before .before .before .before .before .before .before .before .before .before .before .before .before .before .before .before .args in
     let o = turned-down (a .option) (a .alpha) (now (a .pillars)) (now (a .sigmas)) (now (a .times)) (now (a .factors)) (now (a .payments)) (now (a .accruals)) (now (a .own-dfs)) (a .strike) (a .t) (a .notional) (a .side) (rules (c .before .before .before)) (c .before .answer .given .1) in
-    (o, (rooted (a .option) (a .alpha) (now (a .pillars)) (now (a .sigmas)) (now (a .times)) (now (a .factors)) (now (a .payments)) (now (a .accruals)) (now (a .own-dfs)) (a .strike) (a .t) (a .notional) (a .side) o, refused-so (a .option) (a .alpha) (now (a .pillars)) (now (a .sigmas)) (now (a .times)) (now (a .factors)) (now (a .payments)) (now (a .accruals)) (now (a .own-dfs)) (a .strike) (a .t) (a .notional) (a .side) o))
+    (o, (rooted (a .option) (a .alpha) (now (a .pillars)) (now (a .sigmas)) (now (a .times)) (now (a .factors)) (now (a .payments)) (now (a .accruals)) (now (a .own-dfs)) (a .strike) (a .t) (a .notional) (a .side) o, (refused-so (a .option) (a .alpha) (now (a .pillars)) (now (a .sigmas)) (now (a .times)) (now (a .factors)) (now (a .payments)) (now (a .accruals)) (now (a .own-dfs)) (a .strike) (a .t) (a .notional) (a .side) o, ap (reported noValued) o)))
 
 enum-told : tie.Need-enum-told
 enum-told c = search needs
@@ -57,7 +57,7 @@ returns-2 : tie.Need-returns-2
 returns-2 c =
     let a = c .before .before .before .before .before .before .before .before .before .before .before .before .before .before .before .before .args in
     let o = c .pricer-priced .ensures ∙ let-through (a .option) (a .alpha) (now (a .pillars)) (now (a .sigmas)) (now (a .times)) (now (a .factors)) (now (a .payments)) (now (a .accruals)) (now (a .own-dfs)) (a .strike) (a .t) (a .notional) (a .side) (rules (c .before .before .before)) (c .before .enum-told .given .1) in
-    (o, (rooted (a .option) (a .alpha) (now (a .pillars)) (now (a .sigmas)) (now (a .times)) (now (a .factors)) (now (a .payments)) (now (a .accruals)) (now (a .own-dfs)) (a .strike) (a .t) (a .notional) (a .side) o, refused-so (a .option) (a .alpha) (now (a .pillars)) (now (a .sigmas)) (now (a .times)) (now (a .factors)) (now (a .payments)) (now (a .accruals)) (now (a .own-dfs)) (a .strike) (a .t) (a .notional) (a .side) o))
+    (o, (rooted (a .option) (a .alpha) (now (a .pillars)) (now (a .sigmas)) (now (a .times)) (now (a .factors)) (now (a .payments)) (now (a .accruals)) (now (a .own-dfs)) (a .strike) (a .t) (a .notional) (a .side) o, (refused-so (a .option) (a .alpha) (now (a .pillars)) (now (a .sigmas)) (now (a .times)) (now (a .factors)) (now (a .payments)) (now (a .accruals)) (now (a .own-dfs)) (a .strike) (a .t) (a .notional) (a .side) o, ap (reported noValued) o)))
 
 pub swaption-value-on-spec : {M : Type 1} → statement M
 swaption-value-on-spec =

@@ -1,7 +1,8 @@
 -- `swaptions::model::swaption_price_on` meets its contract: turned down by its rules, worth 0 without coupons, or what `model_priced` finds; its root is where the outcome defined has it, and it wants a bracket where that one does. Assumes nothing.
-use mathlib.Core.Path.{_≡_, _∙_}
+use mathlib.Core.Path.{_≡_, _∙_, ap}
 use denote.Ref.{now}
-use Rattle.lists.specs.Refusals.{firstOf}
+use Rattle.lists.specs.Refusals.{firstOf, reported}
+use Rattle.swaptions.specs.Price.{noValued}
 use Rattle.swaptions.specs.Model.{rulesOn}
 use Rattle.swaptions.proofs.Outcomes.{same-rules, turned-down, no-coupons, with-coupons, lists-fit}
 use Rattle.swaptions.proofs.Demand3.{rooted, refused-so}
@@ -35,7 +36,7 @@ returns c =
     let r = c .before .before .before in
     let a = r .before .before .before .before .before .before .before .args in
     let o = turned-down (a .alpha) (now (a .times)) (now (a .factors)) (now (a .payments)) (now (a .accruals)) (a .strike) (a .t) (a .sigma) (rules r) (c .before .answer .given .1) in
-    (o, (rooted (a .alpha) (now (a .times)) (now (a .factors)) (now (a .payments)) (now (a .accruals)) (a .strike) (a .t) (a .sigma) o, refused-so (a .alpha) (now (a .times)) (now (a .factors)) (now (a .payments)) (now (a .accruals)) (a .strike) (a .t) (a .sigma) o))
+    (o, (rooted (a .alpha) (now (a .times)) (now (a .factors)) (now (a .payments)) (now (a .accruals)) (a .strike) (a .t) (a .sigma) o, (refused-so (a .alpha) (now (a .times)) (now (a .factors)) (now (a .payments)) (now (a .accruals)) (a .strike) (a .t) (a .sigma) o, ap (reported noValued) o)))
 
 enum-told : tie.Need-enum-told
 enum-told c = search needs
@@ -48,7 +49,7 @@ returns-2 c =
     let r = c .before .before .before .before in
     let a = r .before .before .before .before .before .before .before .args in
     let o = c .nothing .ensures ∙ no-coupons (a .alpha) (now (a .times)) (now (a .factors)) (now (a .payments)) (now (a .accruals)) (a .strike) (a .t) (a .sigma) (rules r) (c .before .before .enum-told .given .1) (c .before .if1 .taken) in
-    (o, (rooted (a .alpha) (now (a .times)) (now (a .factors)) (now (a .payments)) (now (a .accruals)) (a .strike) (a .t) (a .sigma) o, refused-so (a .alpha) (now (a .times)) (now (a .factors)) (now (a .payments)) (now (a .accruals)) (a .strike) (a .t) (a .sigma) o))
+    (o, (rooted (a .alpha) (now (a .times)) (now (a .factors)) (now (a .payments)) (now (a .accruals)) (a .strike) (a .t) (a .sigma) o, (refused-so (a .alpha) (now (a .times)) (now (a .factors)) (now (a .payments)) (now (a .accruals)) (a .strike) (a .t) (a .sigma) o, ap (reported noValued) o)))
 
 model-priced-requires : tie.Need-model-priced-requires
 model-priced-requires c κs =
@@ -61,7 +62,7 @@ returns-3 c =
     let r = c .before .before .before .before in
     let a = r .before .before .before .before .before .before .before .args in
     let o = c .model-priced .ensures ∙ with-coupons (a .alpha) (now (a .times)) (now (a .factors)) (now (a .payments)) (now (a .accruals)) (a .strike) (a .t) (a .sigma) (rules r) (c .before .before .enum-told .given .1) (c .before .if1 .left) in
-    (o, (rooted (a .alpha) (now (a .times)) (now (a .factors)) (now (a .payments)) (now (a .accruals)) (a .strike) (a .t) (a .sigma) o, refused-so (a .alpha) (now (a .times)) (now (a .factors)) (now (a .payments)) (now (a .accruals)) (a .strike) (a .t) (a .sigma) o))
+    (o, (rooted (a .alpha) (now (a .times)) (now (a .factors)) (now (a .payments)) (now (a .accruals)) (a .strike) (a .t) (a .sigma) o, (refused-so (a .alpha) (now (a .times)) (now (a .factors)) (now (a .payments)) (now (a .accruals)) (a .strike) (a .t) (a .sigma) o, ap (reported noValued) o)))
 
 pub swaption-price-on-spec : {M : Type 1} → statement M
 swaption-price-on-spec =
