@@ -8,8 +8,8 @@ use Rattle.lists.specs.Refusals.{Outcome, valueOr}
 use Rattle.models.specs.declared.options.BondOption.the-variants.{Put, Call}
 use Rattle.models.specs.Options.{bondOptionOutcome, optionletOutcome}
 use Rattle.models.specs.Curves.{bOutcome, volatilityOutcome, shortRateVarianceOutcome, aOutcome, zcbOutcome, thetaOutcome, forwardOutcome}
-use Rattle.models.specs.Quotes.{Two, d1d2Outcome, blackCallOutcome, blackPutOutcome, bachelierCallOutcome, annuityOutcome}
-use Rattle.models.specs.Schedules as Schedules
+use Rattle.quotes.specs.Utils.{Two, d1d2Outcome, blackCallOutcome, blackPutOutcome, bachelierCallOutcome, annuityOutcome}
+use Rattle.schedules.specs.Parameters as Schedules
 use Rattle.paths.specs.Transition.{transitionOutcome}
 use Rattle.paths.specs.Generate.{generateOutcome}
 use Rattle.calls.specs.declared.record.Record.{Record}

@@ -115,7 +115,7 @@ pub fn floorlet_price(r: Record, s: &[f64]) -> Price
 pub fn annuity(r: Record, s: &[f64]) -> Price
     ensures { λ p. ⌜ outcomeOf p ≡ annuityCall r (now (s .entry)) ⌝ }
 {
-    models::annuity(
+    quotes::annuity(
         store::part(s, r.times),
         store::part(s, r.factors),
         store::part(s, r.grid),

@@ -2,18 +2,18 @@
 ghost use mathlib.Core.Path.{_≡_};
 ghost use Prim.Native.Nat.{_≤_};
 ghost use Rattle.lists.specs.Refusals.{outcomeOf};
-ghost use Rattle.models.specs.Quotes.{pairOutcome};
+ghost use Rattle.quotes.specs.Utils.{pairOutcome};
 ghost use Rattle.calls.specs.Calls.{onNumbersOf, onListsOf};
 ghost use Rattle.calls.specs.Agree.{tellsOf, tellsBothOf, reachesOf, malformedOf, othersOf, agreesOf};
 use crate::curves;
 use crate::numbers;
 use crate::outputs;
+use crate::pillars;
 use crate::record::Record;
-use crate::schedules;
 use crate::store;
 use crate::value;
 use lists::Price;
-use models::Pair;
+use quotes::Pair;
 
 // Whether the function that the record names gives what the record expects. A malformed record never
 // agrees.
@@ -72,8 +72,8 @@ fn on_lists(function: u64, r: Record, s: &[f64]) -> Price
         13 => curves::caplet_price(r, s),
         14 => curves::floorlet_price(r, s),
         15 => curves::annuity(r, s),
-        16 => schedules::piecewise_variance(r, s),
-        _ => schedules::volatility(r, s),
+        16 => pillars::piecewise_variance(r, s),
+        _ => pillars::volatility(r, s),
     }
 }
 
@@ -83,7 +83,7 @@ fn others(function: u64, r: Record, s: &[f64]) -> bool
 {
     match function {
         18 => tells_both(numbers::d1_d2(r), r),
-        19 => reaches(schedules::pillars_reached(r, s), r, s),
+        19 => reaches(pillars::pillars_reached(r, s), r, s),
         20 => outputs::transition_variances(r, s),
         _ => outputs::generate(r, s),
     }

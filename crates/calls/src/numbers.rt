@@ -1,12 +1,12 @@
 // The calls on plain numbers alone.
 ghost use mathlib.Core.Path.{_≡_};
 ghost use Rattle.lists.specs.Refusals.{outcomeOf};
-ghost use Rattle.models.specs.Quotes.{pairOutcome};
+ghost use Rattle.quotes.specs.Utils.{pairOutcome};
 ghost use Rattle.calls.specs.Calls.{bCall, zcbVolatilityCall, shortRateVarianceCall, blackCallCall, blackPutCall, bachelierCallCall, d1d2Call};
 use crate::record::Record;
 use crate::value;
 use lists::Price;
-use models::Pair;
+use quotes::Pair;
 
 pub fn b(r: Record) -> Price
     ensures { λ p. ⌜ outcomeOf p ≡ bCall r ⌝ }
@@ -43,7 +43,7 @@ pub fn short_rate_variance(r: Record) -> Price
 pub fn black_call(r: Record) -> Price
     ensures { λ p. ⌜ outcomeOf p ≡ blackCallCall r ⌝ }
 {
-    models::black_call(
+    quotes::black_call(
         value::float_of(r.a),
         value::float_of(r.b),
         value::float_of(r.c),
@@ -54,7 +54,7 @@ pub fn black_call(r: Record) -> Price
 pub fn black_put(r: Record) -> Price
     ensures { λ p. ⌜ outcomeOf p ≡ blackPutCall r ⌝ }
 {
-    models::black_put(
+    quotes::black_put(
         value::float_of(r.a),
         value::float_of(r.b),
         value::float_of(r.c),
@@ -65,7 +65,7 @@ pub fn black_put(r: Record) -> Price
 pub fn bachelier_call(r: Record) -> Price
     ensures { λ p. ⌜ outcomeOf p ≡ bachelierCallCall r ⌝ }
 {
-    models::bachelier_call(
+    quotes::bachelier_call(
         value::float_of(r.a),
         value::float_of(r.b),
         value::float_of(r.c),
@@ -76,7 +76,7 @@ pub fn bachelier_call(r: Record) -> Price
 pub fn d1_d2(r: Record) -> Pair
     ensures { λ p. ⌜ pairOutcome p ≡ d1d2Call r ⌝ }
 {
-    models::d1_d2(
+    quotes::d1_d2(
         value::float_of(r.a),
         value::float_of(r.b),
         value::float_of(r.c),

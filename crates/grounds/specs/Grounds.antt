@@ -1,4 +1,4 @@
--- Demand 3, of refusal 10: "no call is refused so on any other ground". The calls of models and paths begin no search, and none of them is refused so, whatever it is given. (Those that begin one say so in their own contracts: the clause `bracket`.)
+-- Demand 3, of refusal 10: "no call is refused so on any other ground". The calls of quotes, schedules, models and paths begin no search, and none of them is refused so, whatever it is given. (Those that begin one say so in their own contracts: the clause `bracket`.)
 use mathlib.Core.Path.{_≡_, subst}
 use mathlib.Core.Bool.{Bool, true, false, not, cond, _&&_}
 use mathlib.Core.List.{List, [], _∷_}
@@ -22,10 +22,10 @@ use Rattle.formulas.specs.HullWhite.{h, bOf, forwardOf, aOf, zcbOf, volatilityO
 use Rattle.formulas.specs.Quotes.{d1Of, d2Of, blackCallOf, blackPutOf, bachelierCallOf, annuityStep}
 use Rattle.formulas.specs.Variance.{varianceOf}
 use Rattle.models.specs.declared.options.BondOption.{BondOption}
-use Rattle.models.specs.Quotes.{d1d2Worked, d1d2Outcome, blackCallOutcome, blackPutOutcome, bachelierCallOutcome, annuityFrom, annuityPriced, annuityOutcome}
+use Rattle.quotes.specs.Utils.{d1d2Worked, d1d2Outcome, blackCallOutcome, blackPutOutcome, bachelierCallOutcome, annuityFrom, annuityPriced, annuityOutcome}
 use Rattle.models.specs.Options.{bondOptionOf, bondOptionPriced, bondOptionOutcome, optionletPriced, optionletOutcome}
 use Rattle.models.specs.Curves as Curves
-use Rattle.models.specs.Schedules as Schedules
+use Rattle.schedules.specs.Parameters as Schedules
 use Rattle.paths.specs.declared.path.State.{State}
 use Rattle.paths.specs.Written.{finishingList}
 use Rattle.paths.specs.Generate.{stateAfter, shiftOf, startState, pathFrom, generateOutcome}

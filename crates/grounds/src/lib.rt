@@ -1,1 +1,1 @@
-// No call of models or paths is refused for want of a bracket: specs/Grounds.antt.
+// No call that begins no search is refused for want of a bracket: specs/Grounds.antt.

@@ -4,3 +4,4 @@ pub mod Outcomes
 pub mod Laws
 pub mod Order
 pub mod Halves
+pub mod Refusing

@@ -2,5 +2,3 @@
 pub mod Rules
 pub mod Options
 pub mod Curves
-pub mod Quotes
-pub mod Schedules

@@ -1,5 +1,5 @@
 -- Document 01's rules 1 to 7 for each sort of call, a line a rule, in its order: whether the rule applies to what the call uses. A rule that the call cannot break has no line. `firstOf` takes the first that applies.
-use mathlib.Core.Bool.{Bool, false, not, _&&_, _||_}
+use mathlib.Core.Bool.{false, not, _&&_, _||_}
 use mathlib.Core.List.{List, [], _∷_}
 use lib.Ieee.{Float, lt, le}
 use lib.Ieee.Scale.{finite}
@@ -42,42 +42,4 @@ forwardRules curve t =
     ∷ rule R.Order (curve .order)
     ∷ rule R.Times (lt t zero)
     ∷ rule R.Domain (curve .domain)
-    ∷ []
-
--- d1_d2, Black and Bachelier: tau is a fit's option time, which is above 0; a Black strike is above 0, a normal one need not be
-abbrev pub quoteRules : Bool → Float → Float → Float → Float → List Rule
-quoteRules black fwd strike vol tau =
-    rule R.NotFinite (not (finite fwd && finite strike && finite vol && finite tau))
-    ∷ rule R.Times (le tau zero)
-    ∷ rule R.Domain (le vol zero || (black && le strike zero))
-    ∷ []
-
--- the annuity: the curve and the coupons' payment times and accruals
-abbrev pub annuityRules : Faults → Faults → List Rule
-annuityRules curve coupons =
-    rule R.Size (curve .size || coupons .size)
-    ∷ rule R.NotFinite (curve .«not_finite» || coupons .«not_finite»)
-    ∷ rule R.Order (curve .order)
-    ∷ rule R.Domain (curve .domain)
-    ∷ []
-
--- the piecewise variance alone: any finite alpha, and no pillars too
-abbrev pub varianceRules : Faults → Float → Float → Float → List Rule
-varianceRules pillars alpha start end =
-    rule R.Size (pillars .size)
-    ∷ rule R.NotFinite (pillars .«not_finite» || not (finite alpha && finite start && finite end))
-    ∷ rule R.Order (pillars .order)
-    ∷ rule R.Times (lt start zero || le end start)
-    ∷ rule R.Domain (pillars .domain)
-    ∷ []
-
--- the volatility at a time: rule 7 wants a pillar
-abbrev pub volatilityRules : Faults → Bool → Float → List Rule
-volatilityRules pillars empty t =
-    rule R.Size (pillars .size)
-    ∷ rule R.NotFinite (pillars .«not_finite» || not (finite t))
-    ∷ rule R.Order (pillars .order)
-    ∷ rule R.Times (lt t zero)
-    ∷ rule R.Domain (pillars .domain)
-    ∷ rule R.Empty empty
     ∷ []

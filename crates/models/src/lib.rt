@@ -2,9 +2,7 @@
 // whatever it is given.
 mod curves;
 mod options;
-mod quotes;
 mod rules;
-mod schedules;
 
 pub use curves::A;
 pub use curves::B;
@@ -20,12 +18,3 @@ pub use options::bond_put_price;
 pub use options::caplet_price;
 pub use options::floorlet_price;
 pub use options::optionlet_on;
-pub use quotes::Pair;
-pub use quotes::annuity;
-pub use quotes::bachelier_call;
-pub use quotes::black_call;
-pub use quotes::black_put;
-pub use quotes::d1_d2;
-pub use schedules::piecewise_variance;
-pub use schedules::pillars_reached;
-pub use schedules::volatility;

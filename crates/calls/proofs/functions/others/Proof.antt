@@ -7,7 +7,7 @@ use borrow.Author.Tests.{ne-eqb}
 use denote.Ref.{now}
 use lib.Ieee.{Float}
 use Rattle.lists.specs.Refusals.{Outcome}
-use Rattle.models.specs.Quotes.{Two}
+use Rattle.quotes.specs.Utils.{Two}
 use Rattle.calls.specs.declared.record.Record.{Record}
 use Rattle.calls.specs.Calls.{generateCall}
 use Rattle.calls.specs.Agree.{output, tellsBothOf, reachesOf, writesOf, othersOf}

@@ -2,7 +2,7 @@
 use borrow.Author.Needs.{needs}
 use Rattle.models.specs.Curves.{aOutcome}
 use Rattle.lists.proofs.Outcomes.{turned-down, let-through}
-use Rattle.models.proofs.Refusing.{rises}
+use Rattle.lists.proofs.Refusing.{rises}
 use Rattle.models.proofs.curves.A.Statement.{statement}
 use Rattle.models.proofs.curves.A.Tie as tie
 

@@ -2,7 +2,7 @@
 use borrow.Author.Needs.{needs}
 use Rattle.models.specs.Curves.{forwardOutcome}
 use Rattle.lists.proofs.Outcomes.{turned-down, let-through}
-use Rattle.models.proofs.Refusing.{rises}
+use Rattle.lists.proofs.Refusing.{rises}
 use Rattle.models.proofs.curves.forward_rate.Statement.{statement}
 use Rattle.models.proofs.curves.forward_rate.Tie as tie
 

@@ -2,7 +2,7 @@
 use borrow.Author.Needs.{needs}
 use Rattle.models.specs.Options.{bondOptionOutcome}
 use Rattle.lists.proofs.Outcomes.{turned-down, let-through}
-use Rattle.models.proofs.Refusing.{rises}
+use Rattle.lists.proofs.Refusing.{rises}
 use Rattle.models.proofs.options.bond_option_on.Statement.{statement}
 use Rattle.models.proofs.options.bond_option_on.Tie as tie
 

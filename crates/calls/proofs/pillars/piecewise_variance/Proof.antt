@@ -1,0 +1,37 @@
+-- `calls::pillars::piecewise_variance` meets its contract: the call's arguments are those of the record. Assumes nothing.
+use borrow.Author.Needs.{needs}
+use Rattle.calls.proofs.pillars.piecewise_variance.Statement.{statement}
+use Rattle.calls.proofs.pillars.piecewise_variance.Tie as tie
+
+float-of-requires : tie.Need-float-of-requires
+float-of-requires c κs = search needs
+
+part-requires : tie.Need-part-requires
+part-requires c κs = search needs
+
+part-requires-2 : tie.Need-part-requires-2
+part-requires-2 c κs = search needs
+
+float-of-requires-2 : tie.Need-float-of-requires-2
+float-of-requires-2 c κs = search needs
+
+float-of-requires-3 : tie.Need-float-of-requires-3
+float-of-requires-3 c κs = search needs
+
+piecewise-variance-requires : tie.Need-piecewise-variance-requires
+piecewise-variance-requires c κs = search needs
+
+returns : tie.Need-returns
+returns c = cc
+
+pub piecewise-variance-spec : {M : Type 1} → statement M
+piecewise-variance-spec =
+    tie.close
+    (tie.spec
+    float-of-requires
+    part-requires
+    part-requires-2
+    float-of-requires-2
+    float-of-requires-3
+    piecewise-variance-requires
+    returns)

@@ -1,0 +1,24 @@
+-- `calls::pillars::pillars_reached` meets its contract: the call's arguments are those of the record. Assumes nothing.
+use borrow.Author.Needs.{needs}
+use Rattle.calls.proofs.pillars.pillars_reached.Statement.{statement}
+use Rattle.calls.proofs.pillars.pillars_reached.Tie as tie
+
+part-requires : tie.Need-part-requires
+part-requires c κs = search needs
+
+part-requires-2 : tie.Need-part-requires-2
+part-requires-2 c κs = search needs
+
+float-of-requires : tie.Need-float-of-requires
+float-of-requires c κs = search needs
+
+pillars-reached-requires : tie.Need-pillars-reached-requires
+pillars-reached-requires c κs = search needs
+
+returns : tie.Need-returns
+returns c = cc
+
+pub pillars-reached-spec : {M : Type 1} → statement M
+pillars-reached-spec =
+    tie.close
+    (tie.spec part-requires part-requires-2 float-of-requires pillars-reached-requires returns)

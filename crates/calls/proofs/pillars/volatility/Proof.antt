@@ -1,0 +1,24 @@
+-- `calls::pillars::volatility` meets its contract: the call's arguments are those of the record. Assumes nothing.
+use borrow.Author.Needs.{needs}
+use Rattle.calls.proofs.pillars.volatility.Statement.{statement}
+use Rattle.calls.proofs.pillars.volatility.Tie as tie
+
+part-requires : tie.Need-part-requires
+part-requires c κs = search needs
+
+part-requires-2 : tie.Need-part-requires-2
+part-requires-2 c κs = search needs
+
+float-of-requires : tie.Need-float-of-requires
+float-of-requires c κs = search needs
+
+volatility-requires : tie.Need-volatility-requires
+volatility-requires c κs = search needs
+
+returns : tie.Need-returns
+returns c = cc
+
+pub volatility-spec : {M : Type 1} → statement M
+volatility-spec =
+    tie.close
+    (tie.spec part-requires part-requires-2 float-of-requires volatility-requires returns)

@@ -1,4 +1,0 @@
--- What the functions' proofs cite.
-pub mod Refusing
-pub mod Walks
-pub mod Reached

@@ -1,0 +1,43 @@
+-- `quotes::black_put` meets its contract: turned down by its rules, or the formula. Assumes nothing.
+use mathlib.Core.Path.{ap, _∙_}
+use borrow.Author.Needs.{needs}
+use Rattle.lists.specs.Refusals.{finishing}
+use Rattle.quotes.specs.Utils.{blackPutOutcome}
+use Rattle.lists.proofs.Outcomes.{turned-down, let-through}
+use Rattle.quotes.proofs.utils.black_put.Statement.{statement}
+use Rattle.quotes.proofs.utils.black_put.Tie as tie
+
+quote-rules-requires : tie.Need-quote-rules-requires
+quote-rules-requires c κs = search needs
+
+enum-known-answer : tie.Need-enum-known-answer
+enum-known-answer c = search needs
+
+enum-told : tie.Need-enum-told
+enum-told c = search needs
+
+black-put-of-requires : tie.Need-black-put-of-requires
+black-put-of-requires c κs = search needs
+
+served-requires : tie.Need-served-requires
+served-requires c κs = search needs
+
+returns : tie.Need-returns
+unfolding blackPutOutcome
+returns c = rw (turned-down _ _ (c .before .answer .given .1) (c .before .before .before .quote-rules .ensures))
+
+returns-2 : tie.Need-returns-2
+unfolding blackPutOutcome
+returns-2 c = rw (let-through _ _ (c .before .before .enum-told .given .1) (c .before .before .before .before .quote-rules .ensures)) (c .served .ensures ∙ ap finishing (c .before .black-put-of .ensures))
+
+pub black-put-spec : {M : Type 1} → statement M
+black-put-spec =
+    tie.close
+    (tie.spec
+    quote-rules-requires
+    enum-known-answer
+    enum-told
+    black-put-of-requires
+    served-requires
+    returns
+    returns-2)

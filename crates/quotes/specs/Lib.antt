@@ -1,0 +1,3 @@
+-- What the contracts of utils.rs's calls say: the rules on their inputs, and the outcome of each.
+pub mod Rules
+pub mod Utils

@@ -1,0 +1,59 @@
+-- utils.rs as calls: d1 and d2, Black's call and put, Bachelier's call, and the annuity over given coupons.
+use mathlib.Core.Bool.{true, false, cond, _&&_}
+use mathlib.Core.List.{List, [], _∷_}
+use lib.Ieee.{Float}
+use lib.Ieee.Scale.{finite}
+use Rattle.ieee.specs.Numbers.{zero}
+use Rattle.lists.specs.declared.refusals.Refusal.the-variants as R
+use Rattle.lists.specs.Refusals.{Outcome, served, refused, unless, finishing}
+use Rattle.lists.specs.Lookups.{factorAt, needing}
+use Rattle.lists.specs.Faults.{curveFaults, couponFaults}
+use Rattle.formulas.specs.Quotes.{d1Of, d2Of, blackCallOf, blackPutOf, bachelierCallOf, annuityStep}
+use Rattle.quotes.specs.declared.utils.Pair.{Pair}
+use Rattle.quotes.specs.declared.utils.Pair.the-variants as P
+use Rattle.quotes.specs.Rules.{quoteRules, annuityRules}
+
+-- the outcome of a call with two values, from the code's answer
+pub record Two : Type 0 where
+  pub first : Float
+  pub second : Float
+
+-- beside a refusal's number
+abbrev pub noTwo : Two
+noTwo = record { first = zero; second = zero }
+
+abbrev pub pairOutcome : Pair → Outcome Two
+pairOutcome (P.Served x y) = served (record { first = x; second = y })
+pairOutcome (P.Refused r) = refused r
+
+-- d1 and d2; rule 13 looks at both
+unfoldable pub d1d2Worked : Float → Float → Float → Float → Outcome Two
+d1d2Worked fwd strike vol tau =
+    let d1 = d1Of fwd strike vol tau in
+    let d2 = d2Of vol tau d1 in
+    cond (finite d1 && finite d2) (served (record { first = d1; second = d2 })) (refused R.Overflow)
+
+unfoldable pub d1d2Outcome : Float → Float → Float → Float → Outcome Two
+d1d2Outcome fwd strike vol tau = unless (quoteRules true fwd strike vol tau) (d1d2Worked fwd strike vol tau)
+
+unfoldable pub blackCallOutcome : Float → Float → Float → Float → Outcome Float
+blackCallOutcome fwd strike vol tau = unless (quoteRules true fwd strike vol tau) (finishing (blackCallOf fwd strike vol tau))
+
+unfoldable pub blackPutOutcome : Float → Float → Float → Float → Outcome Float
+blackPutOutcome fwd strike vol tau = unless (quoteRules true fwd strike vol tau) (finishing (blackPutOf fwd strike vol tau))
+
+unfoldable pub bachelierCallOutcome : Float → Float → Float → Float → Outcome Float
+bachelierCallOutcome fwd strike vol tau = unless (quoteRules false fwd strike vol tau) (finishing (bachelierCallOf fwd strike vol tau))
+
+-- the annuity from `sum` on: each coupon wants the factor at its payment time
+unfoldable pub annuityFrom : List Float → List Float → Float → List Float → List Float → Outcome Float
+annuityFrom ts fs sum [] accruals = finishing sum
+annuityFrom ts fs sum (payment ∷ payments) [] = finishing sum
+annuityFrom ts fs sum (payment ∷ payments) (accrual ∷ accruals) = needing (factorAt ts fs payment) (λ p. annuityFrom ts fs (annuityStep sum accrual p) payments accruals)
+
+unfoldable pub annuityPriced : List Float → List Float → List Float → List Float → Outcome Float
+unfolding annuityFrom
+annuityPriced ts fs payments accruals = annuityFrom ts fs zero payments accruals
+
+unfoldable pub annuityOutcome : List Float → List Float → List Float → List Float → Outcome Float
+annuityOutcome ts fs payments accruals = unless (annuityRules (curveFaults ts fs) (couponFaults payments accruals)) (annuityPriced ts fs payments accruals)

@@ -1,0 +1,10 @@
+// utils.rs as calls: a quoted volatility's price, Black's and Bachelier's, and the annuity.
+mod rules;
+mod utils;
+
+pub use utils::Pair;
+pub use utils::annuity;
+pub use utils::bachelier_call;
+pub use utils::black_call;
+pub use utils::black_put;
+pub use utils::d1_d2;

@@ -1,0 +1,103 @@
+// utils.rs: a quoted volatility's price, Black's and Bachelier's, and the annuity over given coupons.
+ghost use mathlib.Core.Path.{_≡_};
+ghost use mathlib.Core.Bool.{true};
+ghost use Rattle.lists.specs.Checks.{inOrder};
+ghost use Rattle.lists.specs.Refusals.{outcomeOf, reported};
+ghost use Rattle.quotes.specs.Utils.{noTwo, pairOutcome, d1d2Worked, d1d2Outcome, blackCallOutcome, blackPutOutcome, bachelierCallOutcome, annuityPriced, annuityOutcome};
+use super::rules;
+use lists::Answer;
+use lists::Found;
+use lists::Price;
+use lists::Refusal;
+
+// The answer of a call with two values.
+pub enum Pair {
+    Served(f64, f64),
+    Refused(Refusal),
+}
+
+pub fn d1_d2(fwd: f64, strike: f64, vol: f64, tau: f64) -> Pair
+    ensures answer { λ r. ⌜ pairOutcome r ≡ d1d2Outcome fwd strike vol tau ⌝ }
+    ensures report { λ r. ⌜ reported noTwo (pairOutcome r) ≡ reported noTwo (d1d2Outcome fwd strike vol tau) ⌝ }
+{
+    let answer = rules::quote_rules(true, fwd, strike, vol, tau);
+    match answer {
+        Answer::Refused(refusal) => Pair::Refused(refusal),
+        Answer::Served => d1_d2_worked(fwd, strike, vol, tau),
+    }
+}
+
+fn d1_d2_worked(fwd: f64, strike: f64, vol: f64, tau: f64) -> Pair
+    ensures { λ r. ⌜ pairOutcome r ≡ d1d2Worked fwd strike vol tau ⌝ }
+{
+    let d1 = formulas::d1_of(fwd, strike, vol, tau);
+    let d2 = formulas::d2_of(vol, tau, d1);
+    if elementary::is_finite(d1) & elementary::is_finite(d2) {
+        Pair::Served(d1, d2)
+    } else {
+        Pair::Refused(Refusal::Overflow)
+    }
+}
+
+pub fn black_call(fwd: f64, strike: f64, vol: f64, tau: f64) -> Price
+    ensures { λ r. ⌜ outcomeOf r ≡ blackCallOutcome fwd strike vol tau ⌝ }
+{
+    let answer = rules::quote_rules(true, fwd, strike, vol, tau);
+    match answer {
+        Answer::Refused(refusal) => Price::Refused(refusal),
+        Answer::Served => lists::served(formulas::black_call_of(fwd, strike, vol, tau)),
+    }
+}
+
+pub fn black_put(fwd: f64, strike: f64, vol: f64, tau: f64) -> Price
+    ensures { λ r. ⌜ outcomeOf r ≡ blackPutOutcome fwd strike vol tau ⌝ }
+{
+    let answer = rules::quote_rules(true, fwd, strike, vol, tau);
+    match answer {
+        Answer::Refused(refusal) => Price::Refused(refusal),
+        Answer::Served => lists::served(formulas::black_put_of(fwd, strike, vol, tau)),
+    }
+}
+
+pub fn bachelier_call(fwd: f64, strike: f64, vol: f64, tau: f64) -> Price
+    ensures { λ r. ⌜ outcomeOf r ≡ bachelierCallOutcome fwd strike vol tau ⌝ }
+{
+    let answer = rules::quote_rules(false, fwd, strike, vol, tau);
+    match answer {
+        Answer::Refused(refusal) => Price::Refused(refusal),
+        Answer::Served => lists::served(formulas::bachelier_call_of(fwd, strike, vol, tau)),
+    }
+}
+
+// The annuity of the coupons listed: payment times and accruals.
+pub fn annuity(times: &[f64], factors: &[f64], payments: &[f64], accruals: &[f64]) -> Price
+    ensures { λ r. ⌜ outcomeOf r ≡ annuityOutcome (now (times .entry)) (now (factors .entry)) (now (payments .entry)) (now (accruals .entry)) ⌝ }
+{
+    let curve = lists::curve_faults(times, factors);
+    let coupons = lists::coupon_faults(payments, accruals);
+    let answer = rules::annuity_rules(curve, coupons);
+    match answer {
+        Answer::Refused(refusal) => Price::Refused(refusal),
+        Answer::Served => annuity_priced(times, factors, payments, accruals),
+    }
+}
+
+// Behind rule 4: the times strictly rise, so that each factor is looked up by halves.
+fn annuity_priced(times: &[f64], factors: &[f64], payments: &[f64], accruals: &[f64]) -> Price
+    requires { ⌜ inOrder true (now times) ≡ true ⌝ }
+    ensures { λ r. ⌜ outcomeOf r ≡ annuityPriced (now (times .entry)) (now (factors .entry)) (now (payments .entry)) (now (accruals .entry)) ⌝ }
+{
+    let mut sum = 0.0;
+    let mut i = 0;
+    while i < payments.len() {
+        if accruals.len() <= i {
+            return lists::served(sum);
+        }
+        let Found::At(p) = lists::factor(times, factors, payments[i]) else {
+            return Price::Refused(Refusal::OffCurve);
+        };
+        sum = formulas::annuity_step(sum, accruals[i], p);
+        i += 1;
+    }
+    lists::served(sum)
+}

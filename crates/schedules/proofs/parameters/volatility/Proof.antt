@@ -1,0 +1,41 @@
+-- `schedules::volatility` meets its contract: turned down by its rules, or what `volatility_found` finds. Assumes nothing.
+use borrow.Author.Needs.{needs}
+use Rattle.schedules.specs.Parameters.{volatilityOutcome}
+use Rattle.lists.proofs.Outcomes.{turned-down, let-through}
+use Rattle.schedules.proofs.parameters.volatility.Statement.{statement}
+use Rattle.schedules.proofs.parameters.volatility.Tie as tie
+
+pillar-faults-requires : tie.Need-pillar-faults-requires
+pillar-faults-requires c κs = search needs
+
+volatility-rules-requires : tie.Need-volatility-rules-requires
+volatility-rules-requires c κs = search needs
+
+enum-known-answer : tie.Need-enum-known-answer
+enum-known-answer c = search needs
+
+enum-told : tie.Need-enum-told
+enum-told c = search needs
+
+volatility-found-requires : tie.Need-volatility-found-requires
+volatility-found-requires c κs = search needs
+
+returns : tie.Need-returns
+unfolding volatilityOutcome
+returns c = rw (turned-down _ _ (c .before .answer .given .1) (rw (c .before .before .before .before .pillar-faults .ensures) at (c .before .before .before .volatility-rules .ensures)))
+
+returns-2 : tie.Need-returns-2
+unfolding volatilityOutcome
+returns-2 c = rw (let-through _ _ (c .before .enum-told .given .1) (rw (c .before .before .before .before .pillar-faults .ensures) at (c .before .before .before .volatility-rules .ensures))) (c .volatility-found .ensures)
+
+pub volatility-spec : {M : Type 1} → statement M
+volatility-spec =
+    tie.close
+    (tie.spec
+    pillar-faults-requires
+    volatility-rules-requires
+    enum-known-answer
+    enum-told
+    volatility-found-requires
+    returns
+    returns-2)

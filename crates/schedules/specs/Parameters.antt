@@ -1,0 +1,33 @@
+-- parameters.rs as calls: the volatility at a time, the pillar times up to it, and the piecewise variance, on pillars of times ts and volatilities ss.
+use mathlib.Core.Path.{_≡_}
+use mathlib.Core.List.{List}
+use lib.Dec.{eqb}
+use lib.ListN.{length}
+use lib.Ieee.{Float}
+use Rattle.lists.specs.declared.refusals.Refusal.the-variants as R
+use Rattle.lists.specs.Refusals.{Outcome, served, answerOf, Rule, unless, finishing}
+use Rattle.lists.specs.Lookups.{required, volatilityAt, upTo}
+use Rattle.lists.specs.Faults.{pillarFaults}
+use Rattle.formulas.specs.Variance.{varianceOf}
+use Rattle.schedules.specs.Rules.{volatilityRules, varianceRules}
+
+-- the rules on a volatility at t
+abbrev pub rulesAt : List Float → List Float → Float → List Rule
+rulesAt ts ss t = volatilityRules (pillarFaults ts ss) (eqb (length ts) 0) t
+
+unfoldable pub volatilityFound : List Float → List Float → Float → Outcome Float
+volatilityFound ts ss t = required R.Empty (volatilityAt ts ss t) finishing
+
+unfoldable pub volatilityOutcome : List Float → List Float → Float → Outcome Float
+volatilityOutcome ts ss t = unless (rulesAt ts ss t) (volatilityFound ts ss t)
+
+-- "The pillar times at or before t"
+unfoldable pub reachedOutcome : List Float → List Float → Float → Outcome (List Float)
+reachedOutcome ts ss t = unless (rulesAt ts ss t) (served (upTo t ts))
+
+-- a part that is handed back tells no number: it is served or refused exactly as the volatility at t is (proved in proofs/Reached.antt)
+abbrev pub SameAnswer : List Float → List Float → Float → Type 0
+SameAnswer ts ss t = answerOf (reachedOutcome ts ss t) ≡ answerOf (volatilityOutcome ts ss t)
+
+unfoldable pub varianceOutcome : Float → List Float → List Float → Float → Float → Outcome Float
+varianceOutcome alpha ts ss start end = unless (varianceRules (pillarFaults ts ss) alpha start end) (finishing (varianceOf alpha ts ss start end))
