@@ -102,7 +102,7 @@ pub fn vectors(args: &[String]) -> i32 {
         eprintln!("oracle vectors NAME COUNT SEED");
         return 2;
     };
-    let mut dice = Dice(seed.wrapping_mul(0x9e37_79b9_7f4a_7c15) ^ 0x5851_f42d_4c95_7f2d);
+    let mut dice = Dice::new(*seed);
     for _ in 0..*count {
         let arguments = dice.arguments(name);
         match line(name, &arguments) {
@@ -361,11 +361,14 @@ fn basket(alpha: f64, curve: &[f64], quotes: &[f64]) -> String {
 
 // ---------------------------------------------------------- random arguments
 
-struct Dice(u64);
+pub struct Dice(u64);
 
 const H: f64 = 1.0 / 365.0;
 
 impl Dice {
+    pub fn new(seed: u64) -> Dice {
+        Dice(seed.wrapping_mul(0x9e37_79b9_7f4a_7c15) ^ 0x5851_f42d_4c95_7f2d)
+    }
     fn next(&mut self) -> u64 {
         // splitmix64
         self.0 = self.0.wrapping_add(0x9e37_79b9_7f4a_7c15);
@@ -374,16 +377,16 @@ impl Dice {
         z = (z ^ (z >> 27)).wrapping_mul(0x94d0_49bb_1331_11eb);
         z ^ (z >> 31)
     }
-    fn below(&mut self, n: u64) -> u64 {
+    pub fn below(&mut self, n: u64) -> u64 {
         self.next() % n
     }
     fn unit(&mut self) -> f64 {
         (self.next() >> 11) as f64 / (1u64 << 53) as f64
     }
-    fn between(&mut self, low: f64, high: f64) -> f64 {
+    pub fn between(&mut self, low: f64, high: f64) -> f64 {
         low + (high - low) * self.unit()
     }
-    fn log_between(&mut self, low: f64, high: f64) -> f64 {
+    pub fn log_between(&mut self, low: f64, high: f64) -> f64 {
         elementary::exp(self.between(elementary::ln(low), elementary::ln(high)))
     }
 

@@ -213,6 +213,12 @@ fn pricer_swaption(case: &Case, answer: &Answer, trace: &Trace) -> Check {
     )
 }
 
+/// How often the Rust halved: it asked at two ends, at each halving, and for an
+/// unconverged fit once more at the end.
+fn halvings(solved: &calibration::Solved) -> usize {
+    solved.asked.len() - if solved.converged { 2 } else { 3 }
+}
+
 /// Kinds 8 to 11.
 fn fit(run: &Run, job: &Job, judged: &Fit, trace: &Trace) -> Check {
     let curve = TableCurve::new(&run.curve);
@@ -227,12 +233,11 @@ fn fit(run: &Run, job: &Job, judged: &Fit, trace: &Trace) -> Check {
         ));
     }
     asked_alike(&trace.asked, &rust.asked)?;
-    // Two ends, the halvings, and for an unconverged fit once more at the end.
-    let halvings = rust.asked.len() - if rust.converged { 2 } else { 3 };
-    if judged.halvings as usize != halvings {
+    if judged.halvings as usize != halvings(&rust) {
         return Err(format!(
-            "halvings: judge {}, Rust {halvings}",
-            judged.halvings
+            "halvings: judge {}, Rust {}",
+            judged.halvings,
+            halvings(&rust)
         ));
     }
     // Each end was asked, and had that residual; the sigma lies midway.
@@ -325,6 +330,9 @@ pub fn basket(alpha: f64, curve: &[(f64, f64)], entries: &[Caplet], judged: &Bas
                 equal("a fit's residual", fit.residual, rust.f)?;
                 if fit.converged != rust.converged {
                     return Err("a fit's status".into());
+                }
+                if fit.halvings as usize != halvings(&rust) {
+                    return Err("a fit's halvings".into());
                 }
             }
         }

@@ -1162,24 +1162,34 @@ pub struct Basket {
     pub fits: Vec<Fit>,
     pub bumped: Vec<Fit>,
     pub diagonal: Vec<f64>,
+    /// A bumped fit is what refuses it.
+    pub bumping: bool,
 }
 
 /// "All fits run, then all bumped fits, 13 being met at each one's end; the
 /// first refusal refuses the basket." Rules 1 to 7 look at all entries first.
 pub fn basket(alpha: f64, curve: &[(f64, f64)], entries: &[Caplet]) -> Basket {
-    match served_basket(alpha, curve, entries) {
+    let mut bumping = false;
+    match served_basket(alpha, curve, entries, &mut bumping) {
         Ok(basket) => {
             confront::basket(alpha, curve, entries, &basket);
             basket
         }
         Err(code) => Basket {
             code,
+            bumping,
             ..Basket::default()
         },
     }
 }
 
-fn served_basket(alpha: f64, curve: &[(f64, f64)], entries: &[Caplet]) -> Result<Basket, Refusal> {
+/// `bumping` is set once all fits are served.
+fn served_basket(
+    alpha: f64,
+    curve: &[(f64, f64)],
+    entries: &[Caplet],
+    bumping: &mut bool,
+) -> Result<Basket, Refusal> {
     if entries.len() > 64 || curve.len() > 2048 {
         return Err(1);
     }
@@ -1223,6 +1233,7 @@ fn served_basket(alpha: f64, curve: &[(f64, f64)], entries: &[Caplet]) -> Result
     for one in entries {
         basket.fits.push(case(one).fit_caplet(one, &mut asked)?);
     }
+    *bumping = true;
     for (one, fit) in entries.iter().zip(&basket.fits) {
         let bumped = Caplet {
             volatility: one.volatility + 1e-6,

@@ -1,6 +1,7 @@
 //! The oracle: what document 01 says the program prints, with the Rust itself
 //! as witness. See oracle/README.md.
 
+mod baskets;
 mod calls;
 mod confront;
 mod cut;
@@ -27,6 +28,8 @@ oracle slips                                            the names of the slips
 oracle call NAME ARGUMENT..                             one call of the Rust
 oracle vectors NAME COUNT SEED                          calls with random arguments
 oracle calls                                            the names of the calls
+oracle baskets PROGRAM N SEED                           a program on generated baskets
+oracle basket-vectors DIR SEED                          a short list of baskets with their answers
 ";
 
 fn main() {
@@ -37,6 +40,7 @@ fn main() {
         Some("call") => calls::call(&args[1..]),
         Some("vectors") => calls::vectors(&args[1..]),
         Some("calls") => calls::list(),
+        Some("baskets" | "basket-vectors") => baskets::main(&args),
         None | Some("help" | "--help") => {
             eprint!("{USAGE}");
             2

@@ -102,10 +102,10 @@ fn first_difference(expected: &[u8], found: &[u8]) -> Option<(usize, String, Str
 // ---------------------------------------------------------------------------
 
 /// What a program did with one file.
-struct Run {
-    output: Vec<u8>,
+pub struct Run {
+    pub output: Vec<u8>,
     /// Empty if the program ended well and wrote nothing to standard error.
-    trouble: String,
+    pub trouble: String,
 }
 
 /// Reads a pipe to its end in a thread of its own.
@@ -137,7 +137,7 @@ fn wait(child: &mut Child, deadline: Instant) -> String {
 }
 
 /// Feeds a run file to a program through a pipe, in pieces of the given size.
-fn run_program(program: &str, input: &[u8], piece: usize) -> Result<Run, String> {
+pub fn run_program(program: &str, input: &[u8], piece: usize) -> Result<Run, String> {
     let mut child = Command::new(program)
         .stdin(Stdio::piped())
         .stdout(Stdio::piped())
@@ -178,6 +178,8 @@ fn run_program(program: &str, input: &[u8], piece: usize) -> Result<Run, String>
 struct Tally {
     /// Jobs by kind and answer.
     jobs: BTreeMap<(u64, u32), u64>,
+    /// Served fits by kind and convergence.
+    fits: BTreeMap<(u64, bool), u64>,
     /// Files and differences by category.
     categories: BTreeMap<&'static str, (u64, u64)>,
     files: u64,
@@ -195,6 +197,9 @@ impl Tally {
         self.refused += u64::from(outcome.printed == b"refused 1\n");
         for &(kind, answer) in &outcome.jobs {
             *self.jobs.entry((kind, answer)).or_default() += 1;
+        }
+        for fit in served_fits(&outcome.printed) {
+            *self.fits.entry(fit).or_default() += 1;
         }
         let entry = self.categories.entry(category).or_default();
         entry.0 += 1;
@@ -226,9 +231,32 @@ fn answer_table(jobs: &BTreeMap<(u64, u32), u64>) -> String {
     text
 }
 
+/// A table of the fits that got past the rules and lookups: a row a kind.
+fn fit_table(tally: &Tally) -> String {
+    let mut text = String::from("kind | converged unconverged");
+    for answer in 9..=13 {
+        text += &format!(" {answer:>8}");
+    }
+    text += "   worked\n";
+    for kind in 8..=11 {
+        let served = |state: bool| tally.fits.get(&(kind, state)).copied().unwrap_or(0);
+        let refused = |answer: u32| tally.jobs.get(&(kind, answer)).copied().unwrap_or(0);
+        text += &format!("{kind:>4} | {:>9} {:>11}", served(true), served(false));
+        for answer in 9..=13 {
+            text += &format!(" {:>8}", refused(answer));
+        }
+        let worked = served(true) + served(false) + (9..=13).map(refused).sum::<u64>();
+        text += &format!(" {worked:>8}\n");
+    }
+    text
+}
+
 fn print_tally(tally: &Tally, seconds: f64) {
     println!("jobs by kind and answer");
     print!("{}", answer_table(&tally.jobs));
+    println!();
+    println!("fits past the rules and lookups");
+    print!("{}", fit_table(tally));
     println!();
     println!("files by category (files, differences)");
     for (name, (files, differences)) in &tally.categories {
@@ -316,7 +344,7 @@ impl Comparison<'_> {
     }
 }
 
-fn write_file(path: &Path, bytes: &[u8]) -> Result<(), String> {
+pub fn write_file(path: &Path, bytes: &[u8]) -> Result<(), String> {
     std::fs::write(path, bytes).map_err(|e| failed("cannot write", path, e))
 }
 
@@ -681,12 +709,8 @@ fn fixed_index(entries: &[&Candidate]) -> String {
 
 fn fixed_readme(entries: &[&Candidate], count: u64, seed: u64, told: usize) -> String {
     let mut tally = Tally::default();
-    let mut fits: BTreeMap<(u64, bool), u64> = BTreeMap::new();
     for entry in entries {
         tally.add(entry.category, &entry.outcome, false);
-        for fit in served_fits(&entry.outcome.printed) {
-            *fits.entry(fit).or_default() += 1;
-        }
     }
     let bytes: usize = entries.iter().map(|e| e.size() + 8).sum::<usize>() + 4;
     let mut text = format!(
@@ -715,7 +739,7 @@ fn fixed_readme(entries: &[&Candidate], count: u64, seed: u64, told: usize) -> S
     text += &format!("Files whose layout is refused: {}.\n\n", tally.refused);
     text += "Served fits:\n\n```\nkind converged unconverged\n";
     for kind in 8..=11 {
-        let of = |state: bool| fits.get(&(kind, state)).copied().unwrap_or(0);
+        let of = |state: bool| tally.fits.get(&(kind, state)).copied().unwrap_or(0);
         text += &format!("{kind:>4} {:>9} {:>11}\n", of(true), of(false));
     }
     text += "```\n\nFiles by category:\n\n```\n";

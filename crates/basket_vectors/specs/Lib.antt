@@ -1,0 +1,2 @@
+-- Which caplets of a basket have a normal quote. Definitions only.
+pub mod Marks
