@@ -1,6 +1,8 @@
 //! The oracle: what document 01 says the program prints, with the Rust itself
 //! as witness. See oracle/README.md.
 
+#[cfg(plain)]
+mod bench;
 mod calls;
 mod confront;
 mod cut;
@@ -37,6 +39,10 @@ fn main() {
         Some("call") => calls::call(&args[1..]),
         Some("vectors") => calls::vectors(&args[1..]),
         Some("calls") => calls::list(),
+        #[cfg(plain)]
+        Some("bench") => bench::main(false, &args[1..]),
+        #[cfg(plain)]
+        Some("bench-basket") => bench::main(true, &args[1..]),
         None | Some("help" | "--help") => {
             eprint!("{USAGE}");
             2
