@@ -99,15 +99,17 @@ def path(points, curve_points, pillar_count, jobs):
                grid=grid, jobs=[job(12)] * jobs)
 
 
-def basket(count):
-    """alpha, the number of points and of caplets, the points, the caplets (normal, strike, start, end, volatility)."""
+def basket(count, alpha=ALPHA):
+    """A basket as crates/basket_vectors reads it: the numbers of points and of caplets, alpha, the points, the caplets
+    (1 for a normal quote, strike, start, end, volatility)."""
     listed = [(0.25 * (i + 1), 0.25 * (i + 2)) for i in range(count)]
     points = curve(128, sorted({t for span in listed for t in span}))
-    numbers = [ALPHA, float(len(points)), float(count)] + [x for point in points for x in point]
+    made = struct.pack("<2Id", len(points), count, alpha)
+    made += b"".join(struct.pack("<2d", *point) for point in points)
     for i, (start, end) in enumerate(listed):
         normal = i % 2
-        numbers += [float(normal), STRIKES[i * 7 % 32], start, end, fit_quote(normal) * (1.0 + 0.002 * i)]
-    return struct.pack(f"<{len(numbers)}d", *numbers)
+        made += struct.pack("<5d", normal, STRIKES[i * 7 % 32], start, end, fit_quote(normal) * (1.0 + 0.002 * i))
+    return made
 
 
 def mixed(jobs):
@@ -121,7 +123,7 @@ def mixed(jobs):
     return run(alpha=ALPHA, pillars=pillars(8), curve=curve(64, needed), coupons=payments, jobs=made)
 
 
-# (section, name, file). The section says how it is called: rounds, or the whole program.
+# (section, name, file). The section says how it is called: in rounds, as a basket, or the whole program.
 CASES = [("kinds", f"kind {kind}, 128 jobs", caplets(kind)) for kind in (1, 2, 3, 4)]
 CASES += [("kinds", f"kind {kind}, 128 jobs, 10 coupons", swaptions(kind, 10, 128)) for kind in (5, 6, 7)]
 CASES += [("kinds", f"kind {kind}, 128 jobs", caplets(kind)) for kind in (8, 9)]
@@ -132,7 +134,9 @@ CASES += [("large", f"kind {kind}, 1 job, 64 coupons, {word}", swaptions(kind, 6
           for kind in (10, 11) for word, scale in (("converging", 1.0), ("unconverged", 1e8))]
 CASES += [("large", "kind 12, 1 job of 1,024 points, 64 pillars, 2,048 points", path(1024, 2048, 64, 1))]
 CASES += [("large", "kind 6, 128 jobs, 64 coupons", swaptions(6, 64, 128, 72))]
-CASES += [("basket", "64 caplets", basket(64))]
+CASES += [("basket", "a basket of 64 caplets", basket(64))]
+# The same basket turned down at once, by its alpha: what it costs to read it and to write the answer.
+IDLE_BASKET = basket(64, 0.0)
 CASES += [("growth", f"kind 6, 128 jobs, coupons {n}", swaptions(6, n, 128)) for n in (1, 4, 16, 64)]
 CASES += [("growth", f"kind 1, 128 jobs, curve points {n}", spread(n)) for n in (16, 128, 2048)]
 CASES += [("program", f"mixed kinds 1 to 11, jobs {n}", mixed(n)) for n in (1, 16, 128)]

@@ -112,19 +112,21 @@ fn line(text: &mut Vec<u8>, number: usize, kind: u64, value: f64, note: usize) {
     writeln!(text, "{number} {kind} 0 {:016x} {note}", value.to_bits()).unwrap();
 }
 
-/// A basket as `crates/basket_rounds` reads it: alpha, the number of curve
-/// points and of caplets, the points, the caplets; every number an f64.
+/// A basket as `crates/basket_vectors` reads it: the numbers of points and of
+/// caplets (u32), alpha, the points, the caplets. A line a caplet: its sigma
+/// and its place on the diagonal.
 fn work_basket(bytes: &[u8], rounds: u32) -> Vec<u8> {
-    let numbers: Vec<f64> = bytes
+    let points = u32::from_le_bytes(bytes[..4].try_into().unwrap()) as usize;
+    let numbers: Vec<f64> = bytes[8..]
         .chunks_exact(8)
         .map(|one| f64::from_le_bytes(one.try_into().unwrap()))
         .collect();
-    let (alpha, points, rest) = (numbers[0], numbers[1] as usize, &numbers[3..]);
-    let listed: Vec<(f64, f64)> = rest[..2 * points].chunks_exact(2).map(|p| (p[0], p[1])).collect();
-    let quotes: Vec<CapletQuote> = rest[2 * points..]
+    let (listed, quoted) = numbers[1..].split_at(2 * points);
+    let listed: Vec<(f64, f64)> = listed.chunks_exact(2).map(|one| (one[0], one[1])).collect();
+    let quotes: Vec<CapletQuote> = quoted
         .chunks_exact(5)
         .map(|one| CapletQuote {
-            normal: one[0] != 0.0,
+            normal: one[0] == 1.0,
             strike: one[1],
             start: one[2],
             end: one[3],
@@ -135,7 +137,7 @@ fn work_basket(bytes: &[u8], rounds: u32) -> Vec<u8> {
     let mut text = Vec::new();
     for _ in 0..rounds {
         text.clear();
-        let (sigmas, diagonal) = calibration::calibrate(alpha, &curve, &cut::caplets(&quotes))
+        let (sigmas, diagonal) = calibration::calibrate(numbers[0], &curve, &cut::caplets(&quotes))
             .expect("the Rust serves the basket");
         for (sigma, slope) in sigmas.iter().zip(&diagonal) {
             writeln!(text, "{:016x} {:016x}", sigma.to_bits(), slope.to_bits()).unwrap();
