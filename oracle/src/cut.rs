@@ -345,24 +345,43 @@ pub fn model_swaption(
     HullWhite::new(alpha, curve).swaption_price(strike, option_time, &schedule, sigma, curve)
 }
 
-/// Kinds 6 and 7: the pricer's `swaption_value`.
-#[allow(clippy::too_many_arguments)]
-pub fn pricer_swaption(
+/// The curves that the pricer asks: the forward curve and the own factors.
+pub fn swaption_state(
+    curve: &[(f64, f64)],
+    coupons: &[(f64, f64, f64)],
+) -> HullWhiteSwaptionState {
+    let mut own_factors = vec![0.0];
+    own_factors.extend(coupons.iter().map(|coupon| coupon.2));
+    HullWhiteSwaptionState {
+        forward: DiscountCurveElement(TableCurve::new(curve)),
+        own: DiscountCurveElement(TableCurve::of_own_factors(own_factors)),
+    }
+}
+
+pub fn swaption_parameters(
     alpha: f64,
     pillars: &[(f64, f64)],
-    curve: &[(f64, f64)],
+) -> shim::HullWhiteParameters<DualFwd> {
+    shim::HullWhiteParameters {
+        alpha,
+        schedule: pillars
+            .iter()
+            .map(|pillar| (pillar.0, DualFwd(pillar.1)))
+            .collect(),
+    }
+}
+
+/// The trade of kinds 6 and 7; lays out its dates.
+pub fn swaption_trade(
     coupons: &[(f64, f64, f64)],
     payer: bool,
     strike: f64,
     option_time: f64,
     notional: f64,
     side: f64,
-) -> Result<f64> {
+) -> shim::EuropeanSwaptionTrade<DualFwd> {
     lay_out_swap(option_time, coupons);
-    let own = coupons.iter().any(|coupon| coupon.2 != 0.0);
-    let mut own_factors = vec![0.0];
-    own_factors.extend(coupons.iter().map(|coupon| coupon.2));
-    let trade = shim::EuropeanSwaptionTrade {
+    shim::EuropeanSwaptionTrade {
         instrument: shim::EuropeanSwaption {
             strike,
             kind: if payer {
@@ -384,19 +403,29 @@ pub fn pricer_swaption(
         notional,
         side: Side(side),
         number: std::marker::PhantomData,
-    };
-    let state = HullWhiteSwaptionState {
-        forward: DiscountCurveElement(TableCurve::new(curve)),
-        own: DiscountCurveElement(TableCurve::of_own_factors(own_factors)),
-    };
-    let parameters = shim::HullWhiteParameters {
-        alpha,
-        schedule: pillars
-            .iter()
-            .map(|pillar| (pillar.0, DualFwd(pillar.1)))
-            .collect(),
-    };
-    pricer::value(&pricer::new(alpha, own), &trade, &state, &parameters)
+    }
+}
+
+/// Kinds 6 and 7: the pricer's `swaption_value`.
+#[allow(clippy::too_many_arguments)]
+pub fn pricer_swaption(
+    alpha: f64,
+    pillars: &[(f64, f64)],
+    curve: &[(f64, f64)],
+    coupons: &[(f64, f64, f64)],
+    payer: bool,
+    strike: f64,
+    option_time: f64,
+    notional: f64,
+    side: f64,
+) -> Result<f64> {
+    let own = coupons.iter().any(|coupon| coupon.2 != 0.0);
+    pricer::value(
+        &pricer::new(alpha, own),
+        &swaption_trade(coupons, payer, strike, option_time, notional, side),
+        &swaption_state(curve, coupons),
+        &swaption_parameters(alpha, pillars),
+    )
 }
 
 /// Kind 12's `generate`.

@@ -1,7 +1,8 @@
 //! Document 01's elementary functions, in its words and order. The cut-out
 //! Rust calls these in place of the platform's. Square root and fused
 //! product-and-sum are the hardware's (`f64::sqrt`, `f64::mul_add`), which
-//! round once as IEEE 754 says.
+//! round once as IEEE 754 says. The divisors of a loop are listed, so that the
+//! compiler unrolls it.
 
 /// The first and the second part of ln 2.
 const LN2_FIRST: f64 = 0.693147180369123816490;
@@ -31,8 +32,8 @@ pub fn exp(x: f64) -> f64 {
     let k = product.round(); // nearest, ties away from zero
     let r = (x - k * LN2_FIRST) - k * LN2_SECOND;
     let mut p = 1.0;
-    for n in (1..=13).rev() {
-        p = 1.0 + (r * p) / f64::from(n);
+    for n in [13.0, 12.0, 11.0, 10.0, 9.0, 8.0, 7.0, 6.0, 5.0, 4.0, 3.0, 2.0, 1.0] {
+        p = 1.0 + (r * p) / n;
     }
     let k = k as i64;
     let a = k / 2; // toward zero
@@ -45,8 +46,10 @@ pub fn exp(x: f64) -> f64 {
 pub fn exp_m1(y: f64) -> f64 {
     if y.abs() <= 0.5 {
         let mut q = 1.0;
-        for n in (2..=17).rev() {
-            q = 1.0 + (y * q) / f64::from(n);
+        for n in [
+            17.0, 16.0, 15.0, 14.0, 13.0, 12.0, 11.0, 10.0, 9.0, 8.0, 7.0, 6.0, 5.0, 4.0, 3.0, 2.0,
+        ] {
+            q = 1.0 + (y * q) / n;
         }
         y * q
     } else {
@@ -90,8 +93,8 @@ pub fn ln(x: f64) -> f64 {
     let s = (m - 1.0) / (m + 1.0);
     let z = s * s;
     let mut t = 0.0;
-    for n in (1..=25).rev().step_by(2) {
-        t = 1.0 / f64::from(n) + z * t;
+    for n in [25.0, 23.0, 21.0, 19.0, 17.0, 15.0, 13.0, 11.0, 9.0, 7.0, 5.0, 3.0, 1.0] {
+        t = 1.0 / n + z * t;
     }
     k * LN2_FIRST + (2.0 * (s * t) + k * LN2_SECOND)
 }

@@ -2,6 +2,8 @@
 //! as witness. See oracle/README.md.
 
 mod baskets;
+#[cfg(plain)]
+mod bench;
 mod calls;
 mod confront;
 mod cut;
@@ -41,6 +43,10 @@ fn main() {
         Some("vectors") => calls::vectors(&args[1..]),
         Some("calls") => calls::list(),
         Some("baskets" | "basket-vectors") => baskets::main(&args),
+        #[cfg(plain)]
+        Some("bench") => bench::main(false, &args[1..]),
+        #[cfg(plain)]
+        Some("bench-basket") => bench::main(true, &args[1..]),
         None | Some("help" | "--help") => {
             eprint!("{USAGE}");
             2

@@ -41,7 +41,8 @@ pub type Result<T> = std::result::Result<T, QSError>;
 
 // The Rust evaluates A and B anew at every trial rate, so the same arguments
 // come back a few hundred times. A small table of (argument, result) saves the
-// work; it gives back what the function gave.
+// work; it gives back what the function gave. With `--cfg plain`, which the
+// timing is compiled with, there is no table and no trace.
 const PLACE_BITS: u32 = 14;
 
 struct Memo {
@@ -113,12 +114,22 @@ pub trait Elementary {
 }
 
 impl Elementary for f64 {
+    #[cfg(plain)]
+    fn exp_01(self) -> f64 {
+        elementary::exp(self)
+    }
+    #[cfg(plain)]
+    fn ln_01(self) -> f64 {
+        elementary::ln(self)
+    }
+    #[cfg(not(plain))]
     fn exp_01(self) -> f64 {
         if TRACING.with(Cell::get) {
             TRACE.with(|trace| trace.borrow_mut().push(self));
         }
         EXP.with(|memo| memo.at(self))
     }
+    #[cfg(not(plain))]
     fn ln_01(self) -> f64 {
         LN.with(|memo| memo.at(self))
     }

@@ -3,5 +3,5 @@
 fn main() {
     let mut file = [0u8; 65537];
     let n = io::read_full(libc::STDIN_FILENO, &mut file);
-    serving::serve_file(&file[..n], true);
+    serving::serve_file(&file[..n], 1, true);
 }

@@ -1,4 +1,4 @@
-// A run file served to standard output: what the programs calstwid and details have in common.
+// A run file served to standard output: what the programs calstwid, details and rounds have in common.
 mod answers;
 mod details;
 mod serve;

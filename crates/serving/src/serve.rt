@@ -11,8 +11,9 @@ use layout::Laid;
 use layout::Layout;
 use lists::Faults;
 
-// `detailed`: with a line of all that the library returns behind each job that has one.
-pub fn serve_file(file: &[u8], detailed: bool) {
+// `rounds`: how often the jobs are worked, for timing; the last round is the one that is written, and a program
+// asks for one. `detailed`: with a line of all that the library returns behind each job that has one.
+pub fn serve_file(file: &[u8], rounds: u64, detailed: bool) {
     let laid = layout::lay_out(file);
     let mut text = [0u8; 128];
     match laid {
@@ -23,14 +24,14 @@ pub fn serve_file(file: &[u8], detailed: bool) {
         Laid::Parts(l) => {
             let n = lines::write_header(&mut text);
             if io::write_all(libc::STDOUT_FILENO, &text[..n]) {
-                serve_jobs(file, l, detailed);
+                serve_jobs(file, l, rounds, detailed);
             }
         }
     }
 }
 
 // The curve, and its faults, worked once for all jobs.
-fn serve_jobs(file: &[u8], l: Layout, detailed: bool)
+fn serve_jobs(file: &[u8], l: Layout, rounds: u64, detailed: bool)
     requires { ⌜ layoutOf (now file) ≡ Parts l ⌝ }
 {
     let mut times = [0.0; 2048];
@@ -40,13 +41,23 @@ fn serve_jobs(file: &[u8], l: Layout, detailed: bool)
     layout::column(file, l.curve, 16, 1, &mut factors[..n]);
     let curve = lists::curve_faults(&times[..n], &factors[..n]);
     let alpha = layout::alpha(file, l.model);
-    with_pillars(file, l, detailed, curve, alpha, &times[..n], &factors[..n]);
+    with_pillars(
+        file,
+        l,
+        rounds,
+        detailed,
+        curve,
+        alpha,
+        &times[..n],
+        &factors[..n],
+    );
 }
 
 // The pillars.
 fn with_pillars(
     file: &[u8],
     l: Layout,
+    rounds: u64,
     detailed: bool,
     curve: Faults,
     alpha: f64,
@@ -65,6 +76,7 @@ fn with_pillars(
     with_coupons(
         file,
         l,
+        rounds,
         detailed,
         curve,
         alpha,
@@ -79,6 +91,7 @@ fn with_pillars(
 fn with_coupons(
     file: &[u8],
     l: Layout,
+    rounds: u64,
     detailed: bool,
     curve: Faults,
     alpha: f64,
@@ -101,6 +114,7 @@ fn with_coupons(
     with_grid(
         file,
         l,
+        rounds,
         detailed,
         curve,
         alpha,
@@ -118,6 +132,7 @@ fn with_coupons(
 fn with_grid(
     file: &[u8],
     l: Layout,
+    rounds: u64,
     detailed: bool,
     curve: Faults,
     alpha: f64,
@@ -141,6 +156,7 @@ fn with_grid(
     each_job(
         file,
         l,
+        rounds,
         detailed,
         curve,
         alpha,
@@ -156,10 +172,11 @@ fn with_grid(
     );
 }
 
-// The jobs in order, until the output takes no more.
+// The jobs in order, round by round; the last round's lines are written, until the output takes no more.
 fn each_job(
     file: &[u8],
     l: Layout,
+    rounds: u64,
     detailed: bool,
     curve: Faults,
     alpha: f64,
@@ -179,31 +196,15 @@ fn each_job(
 {
     let mut out = [0u8; 131072];
     let n_jobs = (l.jobs.length / 40) as usize;
-    let mut k = 0;
-    while k < n_jobs {
-        let n = runfile::job_lines(
-            file,
-            l,
-            curve,
-            alpha,
-            pillars,
-            sigmas,
-            times,
-            factors,
-            payments,
-            accruals,
-            owns,
-            grid,
-            draws,
-            k,
-            &mut out,
-        );
-        if !io::write_all(libc::STDOUT_FILENO, &out[..n]) {
-            return;
-        }
-        if detailed {
-            let j = layout::nth_job(file, l.jobs, k);
-            details::write(
+    let mut left = rounds;
+    while left > 0 {
+        left -= 1;
+        let mut k = 0;
+        while k < n_jobs {
+            let n = runfile::job_lines(
+                file,
+                l,
+                curve,
                 alpha,
                 pillars,
                 sigmas,
@@ -212,9 +213,31 @@ fn each_job(
                 payments,
                 accruals,
                 owns,
-                j,
+                grid,
+                draws,
+                k,
+                &mut out,
             );
+            if left == 0 {
+                if !io::write_all(libc::STDOUT_FILENO, &out[..n]) {
+                    return;
+                }
+                if detailed {
+                    let j = layout::nth_job(file, l.jobs, k);
+                    details::write(
+                        alpha,
+                        pillars,
+                        sigmas,
+                        times,
+                        factors,
+                        payments,
+                        accruals,
+                        owns,
+                        j,
+                    );
+                }
+            }
+            k += 1;
         }
-        k += 1;
     }
 }
