@@ -5,8 +5,45 @@ ghost use lib.ListN.{length};
 ghost use Rattle.lines.specs.Text.{pasted};
 ghost use Rattle.lines.specs.Lines.{decimalOf, hexOf, bitsOf, ending};
 
-// Puts n in decimal, and the byte `end`, at place `at`, and answers the place behind them.
+// Puts n in decimal, and the byte `end`, at place `at`, and answers the place behind them. Nearly every
+// number that is printed has at most three digits; they go straight to their places.
 pub fn put_decimal(n: u64, end: u8, out: &mut [u8], at: usize) -> usize
+    requires { ⌜ at + 21 ≤ length (now out) ⌝ }
+    ensures { λ r. ⌜ r ≤ at + 21 ⌝ }
+    ensures { λ r. ⌜ r ≡ at + length (ending end (decimalOf n)) ⌝ }
+    ensures { λ _. ⌜ now (out .exit) ≡ pasted (now (out .entry)) at (ending end (decimalOf n)) ⌝ }
+{
+    if n < 10 {
+        out[at] = digit(n);
+        out[at + 1] = end;
+        return at + 2;
+    }
+    if n < 100 {
+        out[at] = digit(n / 10);
+        out[at + 1] = digit(n % 10);
+        out[at + 2] = end;
+        return at + 3;
+    }
+    if n < 1000 {
+        out[at] = digit(n / 10 / 10);
+        out[at + 1] = digit(n / 10 % 10);
+        out[at + 2] = digit(n % 10);
+        out[at + 3] = end;
+        return at + 4;
+    }
+    put_long(n, end, out, at)
+}
+
+// A decimal digit.
+fn digit(d: u64) -> u8
+    requires { ⌜ d < 10 ⌝ }
+    ensures { λ r. ⌜ r ≡ 48 + d ⌝ }
+{
+    48 + d as u8
+}
+
+// `put_decimal` for a number of any length.
+fn put_long(n: u64, end: u8, out: &mut [u8], at: usize) -> usize
     requires { ⌜ at + 21 ≤ length (now out) ⌝ }
     ensures { λ r. ⌜ r ≤ at + 21 ⌝ }
     ensures { λ r. ⌜ r ≡ at + length (ending end (decimalOf n)) ⌝ }
