@@ -1,9 +1,9 @@
 -- The digits that the kit writes are those of document 01.
-use mathlib.Core.Path.{_≡_, refl, sym, _∙_}
+use mathlib.Core.Path.{_≡_, refl, sym, _∙_, ap}
 use mathlib.Core.Bool.{Bool, true, false}
-use mathlib.Core.List.{List, [], _∷_, _++_}
+use mathlib.Core.List.{List, [], _∷_, _++_, append-assoc, append-nil}
 use Prim.Native.Nat.{ℕ, zero, suc, _+_, _-_, _*_, _/_, _%_, _^_, _≤_, _<_}
-use native.Mathlib.Nat.{pow-suc, mod-lt, mod-eq-of-lt, div-lt-iff-lt-mul, le-div-iff-mul-le, pow-le-pow-right}
+use native.Mathlib.Nat.{pow-suc, mod-lt, mod-eq-of-lt, add-zero, add-suc, mul-comm, div-one, div-div-eq-div-mul, div-lt-iff-lt-mul, le-div-iff-mul-le, pow-le-pow-right}
 use native.Mathlib.Omega.{arith}
 use borrow.Author.Tests.{lt-ltb, le-ltb, ltb-true, ltb-false}
 use lib.Dec.{ltb}
@@ -68,7 +68,10 @@ pub three-digits : (n x y z : ℕ) → 100 ≤ n → n < 1000 → x ≡ 48 + n /
 three-digits n x y z l h e f g =
     rw (e, f, g) (sym (one-more 19 n (omega arith) ∙ rw (one-more 18 (n / 10) (omega arith), last-digit 17 (n / 10 / 10) (omega arith))))
 
-pub hex-is : (k n : ℕ) → digits 16 k n ≡ hexIn k n
+-- ---- the first j digits, and then the last k
+pub hex-split : (j k n : ℕ) → hexIn j (n / 16 ^ k) ++ hexIn k n ≡ hexIn (j + k) n
 unfolding hexIn
-hex-is zero n = refl
-hex-is (suc k) n = rw (hex-is k (n / 16))
+hex-split j zero n = rw (append-nil, div-one, add-zero)
+hex-split j (suc k) n =
+    let e : n / 16 ^ suc k ≡ n / 16 / 16 ^ k = ap (λ (m : ℕ). n / m) (pow-suc 16 k ∙ mul-comm (16 ^ k) 16) ∙ sym (div-div-eq-div-mul n 16 (16 ^ k)) in
+    rw (e, add-suc, ← hex-split j k (n / 16), append-assoc)

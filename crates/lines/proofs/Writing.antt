@@ -28,12 +28,15 @@ module _ (d s : List ℕ) (at : ℕ) where
   pub whole : (n : ℕ) → n ≡ length s → paste d at s n ≡ pasted d at s
   whole n e = rw (e, take-length)
 
--- two to four bytes, stored one after the other
+-- one to four bytes, stored one after the other
 module _ (d : List ℕ) (at : ℕ) where
   first : (s : List ℕ) (x : ℕ) → at + length s ≤ length d → 0 < length s → x ≡ getD s 0 0 → set d at x ≡ paste d at s 1
   first s x h k q =
       let z : at + 0 ≡ at = omega arith in
       rw z at (turn d s at 0 x d h k q (paste-zero d at s))
+
+  one : (x : ℕ) → at + 1 ≤ length d → set d at x ≡ pasted d at (x ∷ [])
+  one x h = first (x ∷ []) x h (omega arith) refl ∙ whole d (x ∷ []) at 1 refl
 
   pub two : (x y : ℕ) → at + 2 ≤ length d → set (set d at x) (at + 1) y ≡ pasted d at (x ∷ y ∷ [])
   two x y h =
@@ -103,3 +106,13 @@ module _ (n : ℕ) (t d out : List ℕ) where
     rest = rw (b .whole) (drop-at t (drop n d) n (sym (b .counted)));
     part = sym (length-take-le n out (omega (arith, b .within, same-size b)));
   }
+
+-- two words of eight bytes, and the byte that ends them
+pub two-words : (at end : ℕ) (u v s d mid last : List ℕ) → length u ≡ 8 → length v ≡ 8 → u ++ v ≡ s → at + 17 ≤ length d → mid ≡ pasted d at u → last ≡ pasted mid (at + 8) v
+    → (at + 17 ≡ at + length (ending end s)) × (set last (at + 16) end ≡ pasted d at (ending end s))
+two-words at end u v s d mid last p q e h m l =
+    let first-word = next at (take at d) d d (start-at d at (omega arith)) (at + 8) u mid (omega arith) (omega arith) m in
+    let both = next (at + 8) (take at d ++ u) d mid first-word (at + 16) v last (omega arith) (omega arith) l in
+    let long : length last ≡ length d = same-size (at + 16) (take at d ++ u ++ v) d last both in
+    let all = next (at + 16) (take at d ++ u ++ v) d last both (at + 17) (end ∷ []) (set last (at + 16) end) (omega arith) (omega arith) (one last (at + 16) end (omega arith)) in
+    rw (← e) (from-there (at + 17) at (u ++ v ++ end ∷ []) d (set last (at + 16) end) (omega arith) (simp append-assoc (simp append-assoc at all)))

@@ -2,8 +2,8 @@
 ghost use mathlib.Core.Path.{_≡_};
 ghost use Prim.Native.Nat.{_+_, _<_, _≤_};
 ghost use lib.ListN.{length};
-ghost use Rattle.lines.specs.Text.{pasted};
-ghost use Rattle.lines.specs.Lines.{decimalOf, hexOf, bitsOf, ending};
+ghost use Rattle.lines.specs.Text.{bytesOf, pasted};
+ghost use Rattle.lines.specs.Lines.{decimalOf, hexIn, hexOf, bitsOf, ending};
 
 // Puts n in decimal, and the byte `end`, at place `at`, and answers the place behind them. Nearly every
 // number that is printed has at most three digits; they go straight to their places.
@@ -61,9 +61,38 @@ pub fn put_hex(n: u64, end: u8, out: &mut [u8], at: usize) -> usize
     ensures { λ r. ⌜ r ≡ at + length (ending end (hexOf n)) ⌝ }
     ensures { λ _. ⌜ now (out .exit) ≡ pasted (now (out .entry)) at (ending end (hexOf n)) ⌝ }
 {
-    let mut text = [0u8; 16];
-    let k = io::hex(n, 16, &mut text);
-    put(&text[..k], end, out, at)
+    put_word(spelled(n / 0x1_0000_0000), out, at);
+    put_word(spelled(n), out, at + 8);
+    out[at + 16] = end;
+    at + 17
+}
+
+// The last 8 hexadecimal digits of x as the bytes of a word, the first digit in the lowest byte. All are worked at once:
+// halves, bytes and digits of x go to lanes of 32, 16 and 8 bits, each time the upper part to the lower lane; then a
+// digit is raised to its character, by 48, and by 39 more where 6 more make it 16.
+fn spelled(x: u64) -> u64
+    ensures { λ r. ⌜ bytesOf 8 r ≡ hexIn 8 x ⌝ }
+{
+    let halves = ((x / 0x1_0000) & 0xffff) + (x & 0xffff) * 0x1_0000_0000;
+    let bytes = ((halves / 0x100) & 0x0000_00ff_0000_00ff)
+        + (halves & 0x0000_00ff_0000_00ff) * 0x1_0000;
+    let digits = ((bytes / 0x10) & 0x000f_000f_000f_000f) + (bytes & 0x000f_000f_000f_000f) * 0x100;
+    let letters = ((digits + 0x0606_0606_0606_0606) / 0x10) & 0x0101_0101_0101_0101;
+    digits + 0x3030_3030_3030_3030 + letters * 39
+}
+
+// Puts the 8 bytes of a word, the lowest first, at place `at`.
+fn put_word(word: u64, out: &mut [u8], at: usize)
+    requires { ⌜ at + 8 ≤ length (now out) ⌝ }
+    ensures { λ _. ⌜ now (out .exit) ≡ pasted (now (out .entry)) at (bytesOf 8 word) ⌝ }
+{
+    let mut rest = word;
+    let mut i = 0;
+    while i < 8 {
+        out[at + i] = (rest % 256) as u8;
+        rest /= 256;
+        i += 1;
+    }
 }
 
 // The same with a text.
