@@ -1,8 +1,9 @@
 -- The digits that the kit writes are those of document 01.
-use mathlib.Core.Path.{_≡_, refl}
+use mathlib.Core.Path.{_≡_, refl, sym, _∙_, ap}
 use mathlib.Core.Bool.{Bool, true, false}
+use mathlib.Core.List.{List, [], _∷_, _++_, append-assoc, append-nil}
 use Prim.Native.Nat.{ℕ, zero, suc, _+_, _-_, _*_, _/_, _%_, _^_, _≤_, _<_}
-use native.Mathlib.Nat.{pow-suc, mod-lt, div-lt-iff-lt-mul, le-div-iff-mul-le, pow-le-pow-right}
+use native.Mathlib.Nat.{pow-suc, mod-lt, mod-eq-of-lt, add-zero, add-suc, mul-comm, div-one, div-div-eq-div-mul, div-lt-iff-lt-mul, le-div-iff-mul-le, pow-le-pow-right}
 use native.Mathlib.Omega.{arith}
 use borrow.Author.Tests.{lt-ltb, le-ltb, ltb-true, ltb-false}
 use lib.Dec.{ltb}
@@ -48,7 +49,29 @@ pub decimal-is : (r n : ℕ) → r ≤ 20 → Fewest 10 1 n r → digits 10 r n 
 decimal-is zero n h f = absurd (let z : ⊥ = omega (arith, f .0) in z)
 decimal-is (suc r) n h f = decimal-from r 20 n h (f .1) (λ w. let z : suc r - 1 ≡ r = omega arith in rw z at (f .2 w))
 
-pub hex-is : (k n : ℕ) → digits 16 k n ≡ hexIn k n
+-- ---- numbers of one, two and three digits
+last-digit : (k n : ℕ) → n < 10 → decimalIn (suc k) n ≡ (48 + n) ∷ []
+unfolding decimalIn
+last-digit k n h = rw (lt-ltb n 10 h, mod-eq-of-lt h)
+
+one-more : (k n : ℕ) → 10 ≤ n → decimalIn (suc k) n ≡ decimalIn k (n / 10) ++ (48 + n % 10) ∷ []
+unfolding decimalIn
+one-more k n h = rw (le-ltb n 10 h)
+
+pub one-digit : (n x : ℕ) → n < 10 → x ≡ 48 + n → x ∷ [] ≡ decimalIn 20 n
+one-digit n x h e = rw e (sym (last-digit 19 n h))
+
+pub two-digits : (n x y : ℕ) → 10 ≤ n → n < 100 → x ≡ 48 + n / 10 → y ≡ 48 + n % 10 → x ∷ y ∷ [] ≡ decimalIn 20 n
+two-digits n x y l h e f = rw (e, f) (sym (one-more 19 n l ∙ rw (last-digit 18 (n / 10) (omega arith))))
+
+pub three-digits : (n x y z : ℕ) → 100 ≤ n → n < 1000 → x ≡ 48 + n / 10 / 10 → y ≡ 48 + n / 10 % 10 → z ≡ 48 + n % 10 → x ∷ y ∷ z ∷ [] ≡ decimalIn 20 n
+three-digits n x y z l h e f g =
+    rw (e, f, g) (sym (one-more 19 n (omega arith) ∙ rw (one-more 18 (n / 10) (omega arith), last-digit 17 (n / 10 / 10) (omega arith))))
+
+-- ---- the first j digits, and then the last k
+pub hex-split : (j k n : ℕ) → hexIn j (n / 16 ^ k) ++ hexIn k n ≡ hexIn (j + k) n
 unfolding hexIn
-hex-is zero n = refl
-hex-is (suc k) n = rw (hex-is k (n / 16))
+hex-split j zero n = rw (append-nil, div-one, add-zero)
+hex-split j (suc k) n =
+    let e : n / 16 ^ suc k ≡ n / 16 / 16 ^ k = ap (λ (m : ℕ). n / m) (pow-suc 16 k ∙ mul-comm (16 ^ k) 16) ∙ sym (div-div-eq-div-mul n 16 (16 ^ k)) in
+    rw (e, add-suc, ← hex-split j k (n / 16), append-assoc)

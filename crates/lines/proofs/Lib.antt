@@ -3,3 +3,5 @@ pub mod Nans
 pub mod Writing
 pub mod Digits
 pub mod Worked
+pub mod Lanes
+pub mod Spelled

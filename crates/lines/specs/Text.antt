@@ -1,6 +1,6 @@
 -- Text as bytes, and what a buffer holds that was written to from its front.
 use mathlib.Core.Path.{_≡_}
-use Prim.Native.Nat.{ℕ, _+_, _≤_}
+use Prim.Native.Nat.{ℕ, zero, suc, _+_, _/_, _%_, _≤_}
 use Prim.Native.Char.{code}
 use Prim.Native.String.{String, [] as []ˢ, _∷_ as _∷ˢ_}
 use mathlib.Core.List.{List, [], _∷_, _++_}
@@ -10,6 +10,11 @@ use lib.ListN.{length, take, drop}
 abbrev pub ascii : String → List ℕ
 ascii []ˢ = []
 ascii (c ∷ˢ s) = code c ∷ ascii s
+
+-- the k lowest bytes of a word, the lowest first
+unfoldable pub bytesOf : ℕ → ℕ → List ℕ
+bytesOf zero n = []
+bytesOf (suc k) n = n % 256 ∷ bytesOf k (n / 256)
 
 -- d with s from place `at` on
 abbrev pub pasted : List ℕ → ℕ → List ℕ → List ℕ

@@ -2,11 +2,48 @@
 ghost use mathlib.Core.Path.{_≡_};
 ghost use Prim.Native.Nat.{_+_, _<_, _≤_};
 ghost use lib.ListN.{length};
-ghost use Rattle.lines.specs.Text.{pasted};
-ghost use Rattle.lines.specs.Lines.{decimalOf, hexOf, bitsOf, ending};
+ghost use Rattle.lines.specs.Text.{bytesOf, pasted};
+ghost use Rattle.lines.specs.Lines.{decimalOf, hexIn, hexOf, bitsOf, ending};
 
-// Puts n in decimal, and the byte `end`, at place `at`, and answers the place behind them.
+// Puts n in decimal, and the byte `end`, at place `at`, and answers the place behind them. Nearly every
+// number that is printed has at most three digits; they go straight to their places.
 pub fn put_decimal(n: u64, end: u8, out: &mut [u8], at: usize) -> usize
+    requires { ⌜ at + 21 ≤ length (now out) ⌝ }
+    ensures { λ r. ⌜ r ≤ at + 21 ⌝ }
+    ensures { λ r. ⌜ r ≡ at + length (ending end (decimalOf n)) ⌝ }
+    ensures { λ _. ⌜ now (out .exit) ≡ pasted (now (out .entry)) at (ending end (decimalOf n)) ⌝ }
+{
+    if n < 10 {
+        out[at] = digit(n);
+        out[at + 1] = end;
+        return at + 2;
+    }
+    if n < 100 {
+        out[at] = digit(n / 10);
+        out[at + 1] = digit(n % 10);
+        out[at + 2] = end;
+        return at + 3;
+    }
+    if n < 1000 {
+        out[at] = digit(n / 10 / 10);
+        out[at + 1] = digit(n / 10 % 10);
+        out[at + 2] = digit(n % 10);
+        out[at + 3] = end;
+        return at + 4;
+    }
+    put_long(n, end, out, at)
+}
+
+// A decimal digit.
+fn digit(d: u64) -> u8
+    requires { ⌜ d < 10 ⌝ }
+    ensures { λ r. ⌜ r ≡ 48 + d ⌝ }
+{
+    48 + d as u8
+}
+
+// `put_decimal` for a number of any length.
+fn put_long(n: u64, end: u8, out: &mut [u8], at: usize) -> usize
     requires { ⌜ at + 21 ≤ length (now out) ⌝ }
     ensures { λ r. ⌜ r ≤ at + 21 ⌝ }
     ensures { λ r. ⌜ r ≡ at + length (ending end (decimalOf n)) ⌝ }
@@ -24,9 +61,38 @@ pub fn put_hex(n: u64, end: u8, out: &mut [u8], at: usize) -> usize
     ensures { λ r. ⌜ r ≡ at + length (ending end (hexOf n)) ⌝ }
     ensures { λ _. ⌜ now (out .exit) ≡ pasted (now (out .entry)) at (ending end (hexOf n)) ⌝ }
 {
-    let mut text = [0u8; 16];
-    let k = io::hex(n, 16, &mut text);
-    put(&text[..k], end, out, at)
+    put_word(spelled(n / 0x1_0000_0000), out, at);
+    put_word(spelled(n), out, at + 8);
+    out[at + 16] = end;
+    at + 17
+}
+
+// The last 8 hexadecimal digits of x as the bytes of a word, the first digit in the lowest byte. All are worked at once:
+// halves, bytes and digits of x go to lanes of 32, 16 and 8 bits, each time the upper part to the lower lane; then a
+// digit is raised to its character, by 48, and by 39 more where 6 more make it 16.
+fn spelled(x: u64) -> u64
+    ensures { λ r. ⌜ bytesOf 8 r ≡ hexIn 8 x ⌝ }
+{
+    let halves = ((x / 0x1_0000) & 0xffff) + (x & 0xffff) * 0x1_0000_0000;
+    let bytes = ((halves / 0x100) & 0x0000_00ff_0000_00ff)
+        + (halves & 0x0000_00ff_0000_00ff) * 0x1_0000;
+    let digits = ((bytes / 0x10) & 0x000f_000f_000f_000f) + (bytes & 0x000f_000f_000f_000f) * 0x100;
+    let letters = ((digits + 0x0606_0606_0606_0606) / 0x10) & 0x0101_0101_0101_0101;
+    digits + 0x3030_3030_3030_3030 + letters * 39
+}
+
+// Puts the 8 bytes of a word, the lowest first, at place `at`.
+fn put_word(word: u64, out: &mut [u8], at: usize)
+    requires { ⌜ at + 8 ≤ length (now out) ⌝ }
+    ensures { λ _. ⌜ now (out .exit) ≡ pasted (now (out .entry)) at (bytesOf 8 word) ⌝ }
+{
+    let mut rest = word;
+    let mut i = 0;
+    while i < 8 {
+        out[at + i] = (rest % 256) as u8;
+        rest /= 256;
+        i += 1;
+    }
 }
 
 // The same with a text.

@@ -1,5 +1,8 @@
 // The lines that the program prints.
-ghost use Rattle.lines.specs.Text.{Begins};
+ghost use mathlib.Core.Path.{_≡_};
+ghost use Prim.Native.Nat.{_+_, _≤_};
+ghost use lib.ListN.{length};
+ghost use Rattle.lines.specs.Text.{Begins, pasted};
 ghost use Rattle.lines.specs.Lines.{header, refusedLine, bitsOf, lineOf};
 use crate::fields;
 
@@ -25,11 +28,13 @@ pub fn write_refused(out: &mut [u8; 128]) -> usize
     fields::put(b"refused 1", b'\n', out, 0)
 }
 
-// The same with a line of its own.
-pub fn write_line(l: Line, out: &mut [u8; 128]) -> usize
-    ensures { λ r. ⌜ Begins r (lineOf (l .job) (l .kind) (l .answer) (bitsOf (l .value)) (l .note)) (now (out .entry)) (now (out .exit)) ⌝ }
+// Puts a line at place `at`, and answers the place behind it.
+pub fn write_line(l: Line, out: &mut [u8], at: usize) -> usize
+    requires { ⌜ at + 128 ≤ length (now out) ⌝ }
+    ensures end { λ r. ⌜ (r ≡ at + length (lineOf (l .job) (l .kind) (l .answer) (bitsOf (l .value)) (l .note))) × (r ≤ at + 128) ⌝ }
+    ensures output { λ r. ⌜ now (out .exit) ≡ pasted (now (out .entry)) at (lineOf (l .job) (l .kind) (l .answer) (bitsOf (l .value)) (l .note)) ⌝ }
 {
-    let kind = fields::put_decimal(l.job, b' ', out, 0);
+    let kind = fields::put_decimal(l.job, b' ', out, at);
     let answer = fields::put_decimal(l.kind, b' ', out, kind);
     let value = fields::put_decimal(l.answer, b' ', out, answer);
     let note = fields::put_hex(fields::bits_of(l.value), b' ', out, value);

@@ -7,7 +7,7 @@ ghost use Rattle.paths.specs.Generate.{generateOutcome};
 ghost use Rattle.layout.specs.declared.parts.Laid.the-variants.{Parts};
 ghost use Rattle.layout.specs.Layout.{layoutOf};
 ghost use Rattle.layout.specs.Request.{requestOf, jobAt, jobsOf};
-ghost use Rattle.lines.specs.Text.{Begins, pasted};
+ghost use Rattle.lines.specs.Text.{Begins};
 ghost use Rattle.lines.specs.Lines.{bitsOf, lineOf};
 ghost use Rattle.runfile.specs.Told.{listsOf};
 ghost use Rattle.runfile.specs.Output.{pointLines, pathLines, jobLines};
@@ -16,30 +16,6 @@ use layout::Layout;
 use lines::Line;
 use lists::Answer;
 use lists::Faults;
-
-// Puts the text behind the first `at` bytes of the output.
-fn paste(text: &[u8], at: usize, out: &mut [u8])
-    requires { ⌜ at + length (now text) ≤ length (now out) ⌝ }
-    ensures { λ _. ⌜ now (out .exit) ≡ pasted (now (out .entry)) at (now (text .entry)) ⌝ }
-{
-    let mut i = 0;
-    while i < text.len() {
-        out[at + i] = text[i];
-        i += 1;
-    }
-}
-
-// Puts a line behind the first `at` bytes of the output, and answers where it ends.
-fn add_line(l: Line, at: usize, out: &mut [u8]) -> usize
-    requires { ⌜ at + 128 ≤ length (now out) ⌝ }
-    ensures end { λ r. ⌜ (r ≡ at + length (lineOf (l .job) (l .kind) (l .answer) (bitsOf (l .value)) (l .note))) × (r ≤ at + 128) ⌝ }
-    ensures output { λ r. ⌜ now (out .exit) ≡ pasted (now (out .entry)) at (lineOf (l .job) (l .kind) (l .answer) (bitsOf (l .value)) (l .note)) ⌝ }
-{
-    let mut text = [0u8; 128];
-    let n = lines::write_line(l, &mut text);
-    paste(&text[..n], at, out);
-    at + n
-}
 
 // A line for each point of a path, the note being the point from 0. `path_lines` has room for 1,024.
 fn point_lines(k: u64, values: &[f64], out: &mut [u8]) -> usize
@@ -56,7 +32,7 @@ fn point_lines(k: u64, values: &[f64], out: &mut [u8]) -> usize
             value: values[i],
             note: i as u64,
         };
-        at = add_line(l, at, out);
+        at = lines::write_line(l, out, at);
         i += 1;
     }
     at
@@ -67,7 +43,7 @@ fn one_line(l: Line, out: &mut [u8]) -> usize
     requires { ⌜ 128 ≤ length (now out) ⌝ }
     ensures { λ r. ⌜ Begins r (lineOf (l .job) (l .kind) (l .answer) (bitsOf (l .value)) (l .note)) (now (out .entry)) (now (out .exit)) ⌝ }
 {
-    add_line(l, 0, out)
+    lines::write_line(l, out, 0)
 }
 
 // Kind 12. A grid without points is served with one line of zeros.

@@ -1,50 +1,71 @@
--- `lines::fields::put_hex` meets its contract: the kit's digits are those of the definition. Assumes nothing.
-use mathlib.Core.Path.{_≡_, _∙_, ap}
-use Prim.Native.Nat.{ℕ, _≤_}
+-- `lines::fields::put_hex` meets its contract: the first eight digits, the last eight, and the byte behind them. Assumes nothing.
+use mathlib.Core.Path.{_≡_, _∙_, ap₂}
+use mathlib.Core.List.{List, _++_}
+use Prim.Native.Nat.{ℕ}
 use native.Mathlib.Omega.{arith}
 use denote.Ref.{now}
-use Rattle.io.specs.Digits.{digits}
+use lib.ListN.{length-set}
+use Rattle.lines.specs.Text.{bytesOf}
 use Rattle.lines.specs.Lines.{hexOf}
-use Rattle.lines.proofs.Digits.{few, hex-is}
-use Rattle.lines.proofs.Writing.{same-text}
+use Rattle.lines.proofs.Digits.{hex-split}
+use Rattle.lines.proofs.Lanes.{bytes-length}
+use Rattle.lines.proofs.Writing.{two-words}
 use borrow.Author.Needs.{needs}
 use Rattle.lines.proofs.fields.put_hex.Statement.{statement}
 use Rattle.lines.proofs.fields.put_hex.Tie as tie
 
-hex-requires : tie.Need-hex-requires
-hex-requires c κs = search needs
+spelled-requires : tie.Need-spelled-requires
+spelled-requires c κs = search needs
 
-array-share-prefix-text : tie.Need-array-share-prefix-text
-array-share-prefix-text c = search needs
+put-word-requires : tie.Need-put-word-requires
+put-word-requires c κs = search needs
 
-slice-aggregate-put : tie.Need-slice-aggregate-put
-slice-aggregate-put c = search needs
+spelled-requires-2 : tie.Need-spelled-requires-2
+spelled-requires-2 c κs = search needs
 
-put-requires : tie.Need-put-requires
-put-requires c κs =
-    let s = c .before .before .before .before .before in
-    let d = c .before .before .hex in
-    let m : d .result ≤ 16 = few 16 16 16 (s .args .n) (d .result) (omega arith) (omega arith) (omega (arith, s .fits .n .fits)) (d .ensures .1 .0) in
-    omega (arith, m, d .ensures .0 .1, s .pre)
+add-put-word : tie.Need-add-put-word
+add-put-word c = search needs
+
+put-word-requires-2 : tie.Need-put-word-requires-2
+put-word-requires-2 c κs = search needs
+
+add-out : tie.Need-add-out
+add-out c = search needs
+
+slice-write-out : tie.Need-slice-write-out
+slice-write-out c = search needs
+
+add-result : tie.Need-add-result
+add-result c = search needs
 
 same-length : tie.Need-same-length
-same-length c = search needs
+same-length c =
+    let l = c .before .before in
+    let f = l .before .before .before .before .before in
+    simp length-set (l .put-word2 .kept .1 .0 ∙ f .put-word .kept .1 .0)
 
 returns : tie.Need-returns
 returns c =
-    let s = c .before .before .before .before .before .before .before .before in
-    let d = c .before .before .before .before .before .hex in
-    let m : d .result ≤ 16 = few 16 16 16 (s .args .n) (d .result) (omega arith) (omega arith) (omega (arith, s .fits .n .fits)) (d .ensures .1 .0) in
-    let e : d .result ≡ 16 = omega (arith, m, d .ensures .1 .0 .0) in
-    same-text _ (s .args .at) (s .args .end) 17 _ (hexOf (s .args .n)) (now (s .args .out)) _ (d .ensures .1 .1 ∙ ap (λ (k : ℕ). digits 16 k (s .args .n)) e ∙ hex-is 16 (s .args .n)) (omega (arith, m, d .ensures .0 .1)) (c .before .before .put .ensures)
+    let l = c .before .before in
+    let f = l .before .before .before .before .before in
+    let s = f .before .before .before .before in
+    let a = s .args in
+    let u = f .before .before .spelled in
+    let v = l .before .before .spelled2 in
+    let both = ap₂ (λ (x y : List ℕ). x ++ y) (u .ensures) (v .ensures) ∙ hex-split 8 8 (a .n) in
+    (omega arith, two-words (a .at) (a .end) (bytesOf 8 (u .result)) (bytesOf 8 (v .result)) (hexOf (a .n)) (now (a .out)) _ _ (bytes-length 8 (u .result)) (bytes-length 8 (v .result)) both (s .pre) (f .put-word .ensures) (l .put-word2 .ensures))
 
 pub put-hex-spec : {M : Type 1} → statement M
 put-hex-spec =
     tie.close
     (tie.spec
-    hex-requires
-    array-share-prefix-text
-    slice-aggregate-put
-    put-requires
+    spelled-requires
+    put-word-requires
+    spelled-requires-2
+    add-put-word
+    put-word-requires-2
+    add-out
+    slice-write-out
+    add-result
     same-length
     returns)

@@ -1,9 +1,9 @@
 -- `lines::lines::write_line` meets its contract: each field is put behind the one before it. Assumes nothing.
 use native.Mathlib.Omega.{arith}
-use mathlib.Core.List.{[]}
 use denote.Ref.{now}
+use lib.ListN.{take}
 use Rattle.lines.specs.Lines.{decimalOf, hexOf, ending, lineOf}
-use Rattle.lines.proofs.Writing.{start, next, begins}
+use Rattle.lines.proofs.Writing.{start-at, next, five-from-there}
 use borrow.Author.Needs.{needs}
 use Rattle.lines.proofs.lines.write_line.Statement.{statement}
 use Rattle.lines.proofs.lines.write_line.Tie as tie
@@ -26,24 +26,35 @@ put-hex-requires c κs = search needs
 put-decimal-requires-4 : tie.Need-put-decimal-requires-4
 put-decimal-requires-4 c κs = search needs
 
+same-length : tie.Need-same-length
+same-length c = search needs
+
 returns : tie.Need-returns
 unfolding lineOf
 returns c =
-    let s = c .before .before .before .before .before .before .before .before .before .before .before in
+    let n = c .before .before in
+    let h = n .before .before .before .before in
+    let b = h .before .before in
+    let r = b .before .before .before in
+    let q = r .before .before .before .before in
+    let p = q .before .before .before .before in
+    let s = p .before .before .before in
     let l = s .args .l in
+    let at = s .args .at in
     let d = now (s .args .out) in
-    let long = c .before .before .before .before .before .before .before .before .before .before .put-decimal-arg .given in
-    let p = c .before .before .before .before .before .before .before .before .before .put-decimal in
-    let q = c .before .before .before .before .before .before .before .put-decimal2 in
-    let r = c .before .before .before .before .before .put-decimal3 in
-    let h = c .before .before .put-hex in
-    let n = c .put-decimal4 in
-    let job = next 0 [] d d (start d) (p .result) (ending 32 (decimalOf (l .job))) _ (omega (arith, long, p .ensures)) (p .ensures .1 .0) (p .ensures .1 .1) in
-    let kind = next _ _ d _ job (q .result) (ending 32 (decimalOf (l .kind))) _ (omega (arith, long, p .ensures .0, q .ensures .0, q .ensures .1 .0)) (q .ensures .1 .0) (q .ensures .1 .1) in
-    let answer = next _ _ d _ kind (r .result) (ending 32 (decimalOf (l .answer))) _ (omega (arith, long, p .ensures .0, q .ensures .0, r .ensures .0, r .ensures .1 .0)) (r .ensures .1 .0) (r .ensures .1 .1) in
-    let value = next _ _ d _ answer (h .result) (ending 32 (hexOf (c .before .before .before .before .bits-of .result))) _ (omega (arith, long, p .ensures .0, q .ensures .0, r .ensures .0, h .ensures .0, h .ensures .1 .0)) (h .ensures .1 .0) (h .ensures .1 .1) in
-    let note = next _ _ d _ value (n .result) (ending 10 (decimalOf (l .note))) _ (omega (arith, long, p .ensures .0, q .ensures .0, r .ensures .0, h .ensures .0, n .ensures .0, n .ensures .1 .0)) (n .ensures .1 .0) (n .ensures .1 .1) in
-    rw (← (c .before .before .before .before .bits-of .ensures)) (begins _ _ d _ note)
+    let put-job = p .put-decimal in
+    let put-kind = q .put-decimal2 in
+    let put-answer = r .put-decimal3 in
+    let put-value = h .put-hex in
+    let put-note = n .put-decimal4 in
+    let here = start-at d at (omega (arith, s .pre)) in
+    let job = next at (take at d) d d here (put-job .result) (ending 32 (decimalOf (l .job))) _ (omega (arith, s .pre, put-job .ensures .0, put-job .ensures .1 .0)) (put-job .ensures .1 .0) (put-job .ensures .1 .1) in
+    let kind = next _ _ d _ job (put-kind .result) (ending 32 (decimalOf (l .kind))) _ (omega (arith, s .pre, put-job .ensures .0, put-kind .ensures .0, put-kind .ensures .1 .0)) (put-kind .ensures .1 .0) (put-kind .ensures .1 .1) in
+    let answer = next _ _ d _ kind (put-answer .result) (ending 32 (decimalOf (l .answer))) _ (omega (arith, s .pre, put-job .ensures .0, put-kind .ensures .0, put-answer .ensures .0, put-answer .ensures .1 .0)) (put-answer .ensures .1 .0) (put-answer .ensures .1 .1) in
+    let value = next _ _ d _ answer (put-value .result) (ending 32 (hexOf (b .bits-of .result))) _ (omega (arith, s .pre, put-job .ensures .0, put-kind .ensures .0, put-answer .ensures .0, put-value .ensures .0, put-value .ensures .1 .0)) (put-value .ensures .1 .0) (put-value .ensures .1 .1) in
+    let note = next _ _ d _ value (put-note .result) (ending 10 (decimalOf (l .note))) _ (omega (arith, s .pre, put-job .ensures .0, put-kind .ensures .0, put-answer .ensures .0, put-value .ensures .0, put-note .ensures .0, put-note .ensures .1 .0)) (put-note .ensures .1 .0) (put-note .ensures .1 .1) in
+    let w = five-from-there (put-note .result) at _ _ _ _ _ d _ (omega (arith, s .pre)) note in
+    rw (← (b .bits-of .ensures)) ((w .0, omega (arith, put-job .ensures .0, put-kind .ensures .0, put-answer .ensures .0, put-value .ensures .0, put-note .ensures .0)), w .1)
 
 pub write-line-spec : {M : Type 1} → statement M
 write-line-spec =
@@ -55,4 +66,5 @@ write-line-spec =
     bits-of-requires
     put-hex-requires
     put-decimal-requires-4
+    same-length
     returns)

@@ -8,8 +8,8 @@ use Rattle.lines.proofs.Writing.{start, next, begins}
 use Rattle.runfile.proofs.jobs.one_line.Statement.{statement}
 use Rattle.runfile.proofs.jobs.one_line.Tie as tie
 
-add-line-requires : tie.Need-add-line-requires
-add-line-requires c κs = search needs
+write-line-requires : tie.Need-write-line-requires
+write-line-requires c κs = search needs
 
 same-length : tie.Need-same-length
 same-length c = search needs
@@ -19,9 +19,9 @@ returns c =
     let s = c .before .before .before .before .before in
     let l = s .args .l in
     let d = now (s .args .out) in
-    let w = c .before .before .add-line .ensures in
+    let w = c .before .before .write-line .ensures in
     let line = lineOf (l .job) (l .kind) (l .answer) (bitsOf (l .value)) (l .note) in
     begins _ line d _ (next 0 [] d d (start d) _ line _ (omega (arith, w .0 .0, w .0 .1, s .pre)) (w .0 .0) (w .1))
 
 pub one-line-spec : {M : Type 1} → statement M
-one-line-spec = tie.close (tie.spec add-line-requires same-length returns)
+one-line-spec = tie.close (tie.spec write-line-requires same-length returns)

@@ -31,8 +31,8 @@ mul-t7 c = search needs
 shared-slice-read-t10 : tie.Need-shared-slice-read-t10 Inv-loop μ-loop
 shared-slice-read-t10 c = search needs
 
-add-line-requires : tie.Need-add-line-requires Inv-loop μ-loop
-add-line-requires c κs =
+write-line-requires : tie.Need-write-line-requires Inv-loop μ-loop
+write-line-requires c κs =
     let l = c .before .before .before in
     omega (arith, l .loop .inv .0, l .loop .inv .1, l .loop .inv .2, c .before .before .loop-test .taken, l .before .before .before .pre)
 
@@ -50,11 +50,11 @@ loop-again c =
     let a = s .args in
     let d = now (a .out) in
     let values = now (a .values) in
-    let call = c .before .before .add-line in
+    let call = c .before .before .write-line in
     let w = call .ensures in
     let line = lineOf (a .k) 12 0 (bitsOf (getD values (l .loop .i) nan)) (l .loop .i) in (
       omega (arith, t),
-      call .kept .1 .1 .0 ∙ l .loop .inv .1,
+      call .kept .1 .0 ∙ l .loop .inv .1,
       omega (arith, w .0 .1, l .loop .inv .2),
       rw (points-turn (a .k) values (l .loop .i) t) (next (l .loop .at) (pointLines (a .k) 0 (take (l .loop .i) values)) d (l .loop .out) (l .loop .inv .3) _ line _ (omega (arith, t, w .0 .0, w .0 .1, l .loop .inv .2, s .pre)) (w .0 .0) (w .1)),
     )
@@ -77,7 +77,7 @@ point-lines-spec =
     loop-holds
     mul-t7
     shared-slice-read-t10
-    add-line-requires
+    write-line-requires
     add-i
     loop-less
     loop-again
