@@ -1,7 +1,6 @@
 -- `runfile::jobs::point_lines` meets its contract. The loop's invariant: the output begins with the lines of the first i points. Assumes nothing.
 use borrow.Author.Needs.{needs}
 use mathlib.Core.Path.{_≡_, refl, _∙_}
-use mathlib.Core.List.{[]}
 use Prim.Native.Nat.{_*_, _-_, _≤_}
 use native.Mathlib.Omega.{arith}
 use denote.Ref.{now}
