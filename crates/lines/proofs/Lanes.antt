@@ -10,9 +10,9 @@ use lib.Arith.{digits-div, digits-mod}
 use lib.Bits.{bitAnd, and-zero-r, and-mask, and-shr, and-mod}
 use lib.Dec.{T}
 use lib.ListN.{length, drop, getD}
+use lib.Pow.{split, high, low, shr-shr, field, mod-mod-pow, ones-lt, pow-mono}
 use lib.Seq.{drop-cons}
 use Rattle.lines.specs.Text.{bytesOf}
-use lib.Pow.{split, high, low, shr-shr, field, mod-mod-pow, ones-lt, pow-mono}
 
 -- the word whose lanes, below b, these are
 unfoldable pub lanes : ℕ → List ℕ → ℕ
