@@ -1,18 +1,18 @@
 -- A word as lanes of one width, the lowest first, and what a shift with a mask and a sum do to each lane. Assumes nothing.
 use mathlib.Core.Path.{_≡_, refl, sym, _∙_, ap, ap₂}
-use mathlib.Core.Bool.{Bool, true}
-use mathlib.Core.List.{List, [], _∷_, _++_, map}
-use Prim.Native.Nat.{ℕ, zero, suc, _+_, _-_, _*_, _/_, _%_, _^_, _≤_, _<_}
-use native.Mathlib.Nat.{add-comm, add-mul, mul-assoc, zero-div, div-one}
+use mathlib.Core.Bool.{true}
+use mathlib.Core.List.{List, [], _∷_, map}
+use Prim.Native.Nat.{ℕ, zero, suc, _+_, _-_, _*_, _/_, _%_, _^_, _<_}
+use native.Mathlib.Nat.{add-comm, add-mul, mul-assoc, div-one}
 use native.Mathlib.Numerals.{add-one}
 use native.Mathlib.Omega.{arith}
 use lib.Arith.{digits-div, digits-mod}
 use lib.Bits.{bitAnd, and-zero-r, and-mask, and-shr, and-mod}
 use lib.Dec.{T}
 use lib.ListN.{length, drop, getD}
+use lib.Pow.{split, high, low, shr-shr, field, mod-mod-pow, ones-lt, pow-mono}
 use lib.Seq.{drop-cons}
 use Rattle.lines.specs.Text.{bytesOf}
-use lib.Pow.{split, high, low, shr-shr, field, mod-mod-pow, ones-lt, pow-mono}
 
 -- the word whose lanes, below b, these are
 unfoldable pub lanes : ℕ → List ℕ → ℕ

@@ -1,7 +1,8 @@
 -- The definitions at document 01's whole case, and at a few numbers, worked by the checker.
 use mathlib.Core.Path.{_≡_, refl}
+use mathlib.Core.List.{_++_}
 use Rattle.lines.specs.Text.{ascii}
-use Rattle.lines.specs.Lines.{decimalIn, decimalOf, hexIn, lineOf}
+use Rattle.lines.specs.Lines.{decimalIn, decimalOf, hexIn, ending, lineOf}
 
 zero-is : decimalOf 0 ≡ ascii "0"
 unfolding decimalIn
@@ -14,6 +15,11 @@ ten-is = refl
 greatest-is : decimalOf 0xffff_ffff_ffff_ffff ≡ ascii "18446744073709551615"
 unfolding decimalIn
 greatest-is = refl
+
+-- the fields of every point of a path
+pub path-fields : ending 32 (decimalOf 12) ++ ending 32 (decimalOf 0) ≡ ascii "12 0 "
+unfolding decimalIn
+path-fields = refl
 
 first-line : lineOf 0 3 0 0 0 ≡ ascii "0 3 0 0000000000000000 0\n"
 unfolding decimalIn hexIn lineOf

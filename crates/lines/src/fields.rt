@@ -6,7 +6,7 @@ ghost use Rattle.lines.specs.Text.{bytesOf, pasted};
 ghost use Rattle.lines.specs.Lines.{decimalOf, hexIn, hexOf, bitsOf, ending};
 
 // Puts n in decimal, and the byte `end`, at place `at`, and answers the place behind them. Nearly every
-// number that is printed has at most three digits; they go straight to their places.
+// number that is printed has at most three digits: those go straight to their places.
 pub fn put_decimal(n: u64, end: u8, out: &mut [u8], at: usize) -> usize
     requires { ⌜ at + 21 ≤ length (now out) ⌝ }
     ensures { λ r. ⌜ r ≤ at + 21 ⌝ }
@@ -54,7 +54,7 @@ fn put_long(n: u64, end: u8, out: &mut [u8], at: usize) -> usize
     put(&text[..k], end, out, at)
 }
 
-// The same with the 16 hexadecimal digits of n.
+// The same with the 16 hexadecimal digits of n, the first eight and the last eight.
 pub fn put_hex(n: u64, end: u8, out: &mut [u8], at: usize) -> usize
     requires { ⌜ at + 17 ≤ length (now out) ⌝ }
     ensures { λ r. ⌜ r ≤ at + 17 ⌝ }
@@ -67,9 +67,10 @@ pub fn put_hex(n: u64, end: u8, out: &mut [u8], at: usize) -> usize
     at + 17
 }
 
-// The last 8 hexadecimal digits of x as the bytes of a word, the first digit in the lowest byte. All are worked at once:
-// halves, bytes and digits of x go to lanes of 32, 16 and 8 bits, each time the upper part to the lower lane; then a
-// digit is raised to its character, by 48, and by 39 more where 6 more make it 16.
+// The last eight hexadecimal digits of x as the bytes of a word, the first digit in the lowest byte, all
+// worked at once. The halves of x go to lanes of 32 bits, their bytes to lanes of 16 and their digits to
+// lanes of 8, the first to the lowest lane. Then each digit has 48 added, and 39 more where it is a letter:
+// where 6 more bring it to 16.
 fn spelled(x: u64) -> u64
     ensures { λ r. ⌜ bytesOf 8 r ≡ hexIn 8 x ⌝ }
 {
@@ -95,7 +96,7 @@ fn put_word(word: u64, out: &mut [u8], at: usize)
     }
 }
 
-// The same with a text.
+// Puts a text, and the byte `end`, at place `at`, and answers the place behind them.
 pub fn put(text: &[u8], end: u8, out: &mut [u8], at: usize) -> usize
     requires { ⌜ at + length (now text) < length (now out) ⌝ }
     ensures { λ r. ⌜ r ≡ at + length (ending end (now (text .entry))) ⌝ }

@@ -6,4 +6,5 @@ mod lines;
 pub use lines::Line;
 pub use lines::write_header;
 pub use lines::write_line;
+pub use lines::write_point;
 pub use lines::write_refused;

@@ -40,3 +40,15 @@ pub fn write_line(l: Line, out: &mut [u8], at: usize) -> usize
     let note = fields::put_hex(fields::bits_of(l.value), b' ', out, value);
     fields::put_decimal(l.note, b'\n', out, note)
 }
+
+// The same with the line of a point of a served path: its kind is 12 and its answer 0.
+pub fn write_point(job: u64, value: f64, note: u64, out: &mut [u8], at: usize) -> usize
+    requires { ⌜ at + 128 ≤ length (now out) ⌝ }
+    ensures end { λ r. ⌜ (r ≡ at + length (lineOf job 12 0 (bitsOf value) note)) × (r ≤ at + 128) ⌝ }
+    ensures output { λ r. ⌜ now (out .exit) ≡ pasted (now (out .entry)) at (lineOf job 12 0 (bitsOf value) note) ⌝ }
+{
+    let kind = fields::put_decimal(job, b' ', out, at);
+    let bits = fields::put(b"12 0", b' ', out, kind);
+    let last = fields::put_hex(fields::bits_of(value), b' ', out, bits);
+    fields::put_decimal(note, b'\n', out, last)
+}

@@ -25,14 +25,7 @@ fn point_lines(k: u64, values: &[f64], out: &mut [u8]) -> usize
     let mut at = 0;
     let mut i = 0;
     while i < values.len() {
-        let l = Line {
-            job: k,
-            kind: 12,
-            answer: 0,
-            value: values[i],
-            note: i as u64,
-        };
-        at = lines::write_line(l, out, at);
+        at = lines::write_point(k, values[i], i as u64, out, at);
         i += 1;
     }
     at

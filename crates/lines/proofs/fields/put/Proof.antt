@@ -1,4 +1,3 @@
-use borrow.Author.Needs.{needs}
 -- `lines::fields::put` meets its contract. The loop's invariant: i bytes of the text are written. Assumes nothing.
 use borrow.Author.Needs.{needs}
 use mathlib.Core.Path.{_≡_, refl, _∙_}

@@ -1,5 +1,5 @@
 -- `lines::fields::put_hex` meets its contract: the first eight digits, the last eight, and the byte behind them. Assumes nothing.
-use mathlib.Core.Path.{_≡_, _∙_, ap₂}
+use mathlib.Core.Path.{_∙_, ap₂}
 use mathlib.Core.List.{List, _++_}
 use Prim.Native.Nat.{ℕ}
 use native.Mathlib.Omega.{arith}

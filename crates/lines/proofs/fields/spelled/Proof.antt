@@ -1,8 +1,8 @@
 -- `lines::fields::spelled` meets its contract: no lane overflows into the next. Assumes nothing.
 use mathlib.Core.Path.{refl}
-use Prim.Native.Nat.{ℕ, _+_, _*_, _/_}
+use Prim.Native.Nat.{ℕ, _+_, _/_}
 use native.Mathlib.Omega.{arith}
-use lib.Bits.{bitAnd, and-le-r}
+use lib.Bits.{and-le-r}
 use Rattle.lines.proofs.Spelled.{halvesOf, bytesIn, digitsIn, spelled-is}
 use Rattle.lines.proofs.fields.spelled.Statement.{statement}
 use Rattle.lines.proofs.fields.spelled.Tie as tie

@@ -1,7 +1,6 @@
 -- `runfile::jobs::point_lines` meets its contract. The loop's invariant: the output begins with the lines of the first i points. Assumes nothing.
 use borrow.Author.Needs.{needs}
 use mathlib.Core.Path.{_≡_, refl, _∙_}
-use mathlib.Core.List.{[]}
 use Prim.Native.Nat.{_*_, _-_, _≤_}
 use native.Mathlib.Omega.{arith}
 use denote.Ref.{now}
@@ -25,14 +24,14 @@ loop-holds : tie.Need-loop-holds Inv-loop μ-loop
 unfolding pointLines
 loop-holds c = (search needs, refl, search needs, start (now (c .before .before .args .out)))
 
-mul-t7 : tie.Need-mul-t7 Inv-loop μ-loop
-mul-t7 c = search needs
+mul-write-point : tie.Need-mul-write-point Inv-loop μ-loop
+mul-write-point c = search needs
 
-shared-slice-read-t10 : tie.Need-shared-slice-read-t10 Inv-loop μ-loop
-shared-slice-read-t10 c = search needs
+shared-slice-read-write-point : tie.Need-shared-slice-read-write-point Inv-loop μ-loop
+shared-slice-read-write-point c = search needs
 
-write-line-requires : tie.Need-write-line-requires Inv-loop μ-loop
-write-line-requires c κs =
+write-point-requires : tie.Need-write-point-requires Inv-loop μ-loop
+write-point-requires c κs =
     let l = c .before .before .before in
     omega (arith, l .loop .inv .0, l .loop .inv .1, l .loop .inv .2, c .before .before .loop-test .taken, l .before .before .before .pre)
 
@@ -50,11 +49,11 @@ loop-again c =
     let a = s .args in
     let d = now (a .out) in
     let values = now (a .values) in
-    let call = c .before .before .write-line in
+    let call = c .before .before .write-point in
     let w = call .ensures in
     let line = lineOf (a .k) 12 0 (bitsOf (getD values (l .loop .i) nan)) (l .loop .i) in (
       omega (arith, t),
-      call .kept .1 .0 ∙ l .loop .inv .1,
+      call .kept .1 .1 .1 .0 ∙ l .loop .inv .1,
       omega (arith, w .0 .1, l .loop .inv .2),
       rw (points-turn (a .k) values (l .loop .i) t) (next (l .loop .at) (pointLines (a .k) 0 (take (l .loop .i) values)) d (l .loop .out) (l .loop .inv .3) _ line _ (omega (arith, t, w .0 .0, w .0 .1, l .loop .inv .2, s .pre)) (w .0 .0) (w .1)),
     )
@@ -75,9 +74,9 @@ point-lines-spec =
     Inv-loop
     μ-loop
     loop-holds
-    mul-t7
-    shared-slice-read-t10
-    write-line-requires
+    mul-write-point
+    shared-slice-read-write-point
+    write-point-requires
     add-i
     loop-less
     loop-again
