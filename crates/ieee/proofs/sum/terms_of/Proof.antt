@@ -36,6 +36,9 @@ add-t15 c = search needs
 add-t16 : tie.Need-add-t16
 add-t16 c = search needs
 
+add-t17 : tie.Need-add-t17
+add-t17 c = search needs
+
 returns : tie.Need-returns
 returns c =
     let v = c .before .before .before .before .before in
@@ -49,7 +52,7 @@ returns c =
     let h = k .read3 in
     let s = k .before .before .before .args in
     terms-are (s .a) (s .b) (s .c) (x .result .sign) (y .result .sign) (z .result .sign) (x .result .sig) (x .result .exp) (y .result .sig) (y .result .exp) (z .result .sig) (z .result .exp)
-    (v .product .result .hi) (v .product .result .lo) (x .result .exp + y .result .exp) (z .result .sig) (z .result .exp + 1074)
+    (v .product .result .hi) (v .product .result .lo) (x .result .exp + y .result .exp + 1) (z .result .sig) (z .result .exp + 1075)
     (unpacked (s .a) (f .result .sign) (x .result .sign) ((f .result .digits + 2 ^ 52) * 2 ^ (f .result .exp + 63)) (x .result .sig) (x .result .exp) (f .ensures .high (t .before .before .before .before .if1 .taken)) (x .ensures .0) (x .ensures .1) (x .ensures .2))
     (unpacked (s .b) (g .result .sign) (y .result .sign) ((g .result .digits + 2 ^ 52) * 2 ^ (g .result .exp + 63)) (y .result .sig) (y .result .exp) (g .ensures .high (t .before .before .if2 .taken)) (y .ensures .0) (y .ensures .1) (y .ensures .2))
     (unpacked (s .c) (h .result .sign) (z .result .sign) ((h .result .digits + 2 ^ 52) * 2 ^ (h .result .exp + 63)) (z .result .sig) (z .result .exp) (h .ensures .high (t .if3 .taken)) (z .ensures .0) (z .ensures .1) (z .ensures .2))
@@ -75,6 +78,7 @@ terms-of-spec =
     product-requires
     add-t15
     add-t16
+    add-t17
     returns
     any-terms-requires
     returns-2)
