@@ -21,7 +21,7 @@ returns-2 : tie.Need-returns-2
 returns-2 c =
     let s = c .before .before .args in
     record {
-      value = c .sum2 .ensures .value ∙ sum-swap binary64 (s .t) (words (s .yh) (s .yl) * 2 ^ s .d) (s .s) (words (s .xh) (s .xl) * 2 ^ s .e) (2 ^ 2276);
+      value = c .sum2 .ensures .value ∙ sum-swap binary64 (s .t) (words (s .yh) (s .yl) * 2 ^ s .d) (s .s) (words (s .xh) (s .xl) * 2 ^ s .e) (2 ^ 2277);
       under = c .sum2 .ensures .under;
       small = c .sum2 .ensures .small;
     }
