@@ -1,2 +1,3 @@
--- On what grounds no call is refused for want of a bracket.
+-- In what order, and on what grounds, calls are refused.
+pub mod Order
 pub mod Grounds

@@ -1,0 +1,101 @@
+-- Demand 1, "the FIRST refusal in document 01's order": the rules of every call stand in the order of document 01's numbers, so that the first of them that applies has the smallest number of all that apply.
+use mathlib.Core.Path.{_≡_, _∙_, ap, sym, subst}
+use mathlib.Core.Logic.{inl, inr}
+use mathlib.Core.Bool.{Bool, true, false, _&&_, true≢false}
+use mathlib.Core.List.{List, [], _∷_, List·Memᴰ, List·Memᴰ·cases-cons, List·Memᴰ·not-nil}
+use Prim.Native.Nat.{ℕ, _≤_, _<_}
+use native.Mathlib.Omega.{arith}
+use lib.Dec.{T, ltb, ltb→lt}
+use lib.Ieee.{Float}
+use lib.Ieee.Fits.{and-l, and-r}
+use Rattle.lists.specs.declared.refusals.Refusal.{Refusal}
+use Rattle.lists.specs.declared.refusals.Answer.the-variants as A
+use Rattle.lists.specs.declared.curves.Faults.{Faults}
+use Rattle.lists.specs.Refusals.{numberOf, Rule, firstOf}
+use Rattle.lists.specs.Order.{First, first-applies}
+use Rattle.quotes.specs.Rules.{quoteRules, annuityRules}
+use Rattle.schedules.specs.Rules.{varianceRules, volatilityRules}
+use Rattle.models.specs.Rules.{optionRules, thetaRules, forwardRules}
+use Rattle.paths.specs.Generate.{pathRules}
+use Rattle.paths.specs.Transition.{transitionRules}
+use Rattle.swaptions.specs.Model.{modelRules}
+use Rattle.pricers.specs.Pricer.{pricerRules}
+use Rattle.calibration.specs.declared.market.Quote.{Quote}
+use Rattle.calibration.specs.Fits.{capletRules, swaptionRules}
+use Rattle.baskets.specs.Entries.{basketRules}
+
+-- numbers that rise from rule to rule, all above n
+abbrev rising : ℕ → List Rule → Bool
+rising n [] = true
+rising n (x ∷ xs) = ltb n (numberOf (x .refusal)) && rising (numberOf (x .refusal)) xs
+
+abbrev pub InOrder : List Rule → Type 0
+InOrder rules = T (rising 0 rules)
+
+-- ---- of rules in order, the one that turns a call down has the smallest number of those that apply
+above : (n : ℕ) (rules : List Rule) → T (rising n rules) → (x : Rule) → List·Memᴰ x rules → n < numberOf (x .refusal)
+above n [] k x m = absurd (List·Memᴰ·not-nil m)
+above n (y ∷ ys) k x m =
+    let l = ltb→lt n (numberOf (y .refusal)) (and-l (ltb n (numberOf (y .refusal))) (rising (numberOf (y .refusal)) ys) k) in
+    elim (List·Memᴰ·cases-cons m) [
+      | inl e ↦ subst (λ (z : Rule). n < numberOf (z .refusal)) (sym e) l
+      | inr t ↦ let h = above (numberOf (y .refusal)) ys (and-r (ltb n (numberOf (y .refusal))) (rising (numberOf (y .refusal)) ys) k) x t in omega arith
+    ]
+
+least : (r : Refusal) (n : ℕ) (rules : List Rule) → T (rising n rules) → First r rules → (x : Rule) → List·Memᴰ x rules → x .applies ≡ true → numberOf r ≤ numberOf (x .refusal)
+least r n [] k f x m a = absurd f
+least r n (y ∷ ys) k (inl h) x m a = elim (List·Memᴰ·cases-cons m) [
+  | inl e ↦ let p = ap (λ (z : Rule). numberOf (z .refusal)) e in let q = ap numberOf (h .1) in omega arith
+  | inr t ↦ let q = ap numberOf (h .1) in let l = above (numberOf (y .refusal)) ys (and-r (ltb n (numberOf (y .refusal))) (rising (numberOf (y .refusal)) ys) k) x t in omega arith
+]
+least r n (y ∷ ys) k (inr h) x m a = elim (List·Memᴰ·cases-cons m) [
+  | inl e ↦ absurd (true≢false (sym a ∙ ap (λ (z : Rule). z .applies) e ∙ h .0))
+  | inr t ↦ least r (numberOf (y .refusal)) ys (and-r (ltb n (numberOf (y .refusal))) (rising (numberOf (y .refusal)) ys) k) (h .1) x t a
+]
+
+pub smallest : (rules : List Rule) → InOrder rules → (r : Refusal) → firstOf rules ≡ A.Refused r → (x : Rule) → List·Memᴰ x rules → x .applies ≡ true → numberOf r ≤ numberOf (x .refusal)
+smallest rules k r e x m a = least r 0 rules k (first-applies r rules .0 e) x m a
+
+-- ---- the rules of every call
+pub option-rules : (curve : Faults) (alpha t T sigma other : Float) → InOrder (optionRules curve alpha t T sigma other)
+option-rules curve alpha t T sigma other = tt
+
+pub theta-rules : (curve : Faults) (alpha t sigma : Float) → InOrder (thetaRules curve alpha t sigma)
+theta-rules curve alpha t sigma = tt
+
+pub forward-rules : (curve : Faults) (t : Float) → InOrder (forwardRules curve t)
+forward-rules curve t = tt
+
+pub quote-rules : (black : Bool) (fwd strike vol tau : Float) → InOrder (quoteRules black fwd strike vol tau)
+quote-rules black fwd strike vol tau = tt
+
+pub annuity-rules : (curve coupons : Faults) → InOrder (annuityRules curve coupons)
+annuity-rules curve coupons = tt
+
+pub variance-rules : (pillars : Faults) (alpha start end : Float) → InOrder (varianceRules pillars alpha start end)
+variance-rules pillars alpha start end = tt
+
+pub volatility-rules : (pillars : Faults) (empty : Bool) (t : Float) → InOrder (volatilityRules pillars empty t)
+volatility-rules pillars empty t = tt
+
+pub transition-rules : (pillars : Faults) (empty : Bool) (alpha : Float) (steps room : ℕ) (timeStep : Float) → InOrder (transitionRules pillars empty alpha steps room timeStep)
+transition-rules pillars empty alpha steps room timeStep = tt
+
+pub path-rules : (schedule curve points : Faults) (empty below short : Bool) (alpha : Float) → InOrder (pathRules schedule curve points empty below short alpha)
+path-rules schedule curve points empty below short alpha = tt
+
+pub model-rules : (curve coupons : Faults) (later : Bool) (alpha strike t sigma : Float) → InOrder (modelRules curve coupons later alpha strike t sigma)
+model-rules curve coupons later alpha strike t sigma = tt
+
+pub pricer-rules : (curve schedule coupons : Faults) (unpaired ownFinite ownFit later empty : Bool) (alpha strike t notional side : Float)
+    → InOrder (pricerRules curve schedule coupons unpaired ownFinite ownFit later empty alpha strike t notional side)
+pricer-rules curve schedule coupons unpaired ownFinite ownFit later empty alpha strike t notional side = tt
+
+pub caplet-rules : (curve : Faults) (quote : Quote) (alpha strike t S vol : Float) → InOrder (capletRules curve quote alpha strike t S vol)
+caplet-rules curve quote alpha strike t S vol = tt
+
+pub swaption-rules : (curve coupons : Faults) (later empty : Bool) (quote : Quote) (alpha strike t vol : Float) → InOrder (swaptionRules curve coupons later empty quote alpha strike t vol)
+swaption-rules curve coupons later empty quote alpha strike t vol = tt
+
+pub basket-rules : (curve : Faults) (alpha : Float) (size numbers times domain : Bool) → InOrder (basketRules curve alpha size numbers times domain)
+basket-rules curve alpha size numbers times domain = tt
