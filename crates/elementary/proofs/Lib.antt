@@ -6,6 +6,7 @@ pub mod Powers
 pub mod Turns
 pub mod Nearest
 pub mod Range
+pub mod Limits
 pub mod Digits53
 pub mod Unique
 pub mod Splits

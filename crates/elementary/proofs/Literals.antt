@@ -20,8 +20,8 @@ pub expTop-is : ofBits binary64 0x4086_3000_0000_0000 ≡ expTop
 unfolding ofBits decimal
 expTop-is = refl
 
-pub expBottom-is : neg (ofBits binary64 0x4087_5000_0000_0000) ≡ expBottom
-unfolding ofBits decimal
+pub expBottom-is : ofBits binary64 0xc087_5000_0000_0000 ≡ expBottom
+unfolding neg ofBits decimal
 expBottom-is = refl
 
 pub sqrt2pi-is : ofBits binary64 0x4004_0d93_1ff6_2706 ≡ sqrt2pi

@@ -96,8 +96,8 @@ unfolding mul decimal
 product true m e h = signed-moderate true (m * up e * 3248660424278399) (down e * 2251799813685248) (mul-pos (down-pos e) (lit< tt)) (scaled (m * up e) (down e) h)
 product false m e h = signed-moderate false (m * up e * 3248660424278399) (down e * 2251799813685248) (mul-pos (down-pos e) (lit< tt)) (scaled (m * up e) (down e) h)
 
-pub exp-moderate : (x : Float) → ne x x ≡ false → lt (ofBits binary64 0x4086_3000_0000_0000) x ≡ false → lt x (neg (ofBits binary64 0x4087_5000_0000_0000)) ≡ false → T (moderate (mul binary64 x log2e))
-unfolding ne lt neg ofBits
+pub exp-moderate : (x : Float) → ne x x ≡ false → lt (ofBits binary64 0x4086_3000_0000_0000) x ≡ false → lt x (ofBits binary64 0xc087_5000_0000_0000) ≡ false → T (moderate (mul binary64 x log2e))
+unfolding ne lt ofBits
 exp-moderate nan n h k = absurd (true≢false n)
 exp-moderate (inf true) n h k = absurd (true≢false k)
 exp-moderate (inf false) n h k = absurd (true≢false h)

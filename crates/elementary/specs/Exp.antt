@@ -1,6 +1,6 @@
 -- Document 01, "exp" and "exp_m1": every operation rounds once, in the order written. The rounded operations are ⊕ ⊖ ⊗ ⊘.
 use Prim.Native.Nat.{ℕ, zero, suc, _+_, _*_, _/_}
-use mathlib.Core.Bool.{Bool, false, cond}
+use mathlib.Core.Bool.{Bool, false, cond, not, _&&_}
 use lib.Dec.{leb}
 use lib.IntN.{ℤ, pos, negℤ, _-ℤ_}
 use lib.Signed.{quotZ}
@@ -55,7 +55,11 @@ unfoldable pub expM1Of : Float → Float
 unfolding expOf
 expM1Of y = cond (le (absOf y) half) (y ⊗ seriesOf y 2 16 one) (expOf y ⊖ one)
 
--- ---- for a private function's contract
+-- ---- for private functions' contracts
+-- none of the cases that come before the series of exp
+abbrev pub withinLimits : Float → Bool
+withinLimits x = not (isNan x) && not (lt expTop x) && not (lt x expBottom)
+
 -- finite, and at most 1200 in size: what the code's way to the nearest whole number asks
 abbrev pub moderate : Float → Bool
 moderate nan = false

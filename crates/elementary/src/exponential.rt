@@ -1,13 +1,18 @@
-// exp and exp_m1.
+// exp, also of two arguments at once, and exp_m1.
 ghost use mathlib.Core.Path.{_≡_};
 ghost use Prim.Native.Nat.{_<_};
 ghost use lib.Dec.{T};
 ghost use lib.Signed.{mag};
 ghost use Rattle.ieee.specs.Numbers.{one};
 ghost use Rattle.ieee.specs.Rows.{Gives};
-ghost use Rattle.elementary.specs.Exp.{moderate, nearestWhole, reducedOf, seriesOf, twoTo, scaleOf, expOf, expM1Of};
+ghost use Rattle.elementary.specs.Exp.{moderate, nearestWhole, reducedOf, seriesOf, twoTo, scaleOf, withinLimits, expOf, expM1Of};
 ghost use Rattle.elementary.specs.ExactCases.{exactCases};
 use super::simple;
+
+// Above the first exp is infinite, below the second 0.
+const TOP: f64 = 710.0;
+
+const BOTTOM: f64 = -746.0;
 
 const LOG2_E: f64 = 1.4426950408889634;
 
@@ -23,15 +28,42 @@ pub fn exp(x: f64) -> f64
     if x != x {
         return x;
     }
-    if x > 710.0 {
+    if x > TOP {
         return 1.0 / 0.0;
     }
-    if x < -746.0 {
+    if x < BOTTOM {
         return 0.0;
     }
     let k = nearest_whole(x * LOG2_E);
     let r = reduced(x, k);
     scale(series(r, 1, 13), k)
+}
+
+pub struct Two {
+    pub first: f64,
+    pub second: f64,
+}
+
+// exp of both. A series is a chain of divisions, each of which waits for the one before; two chains
+// side by side take little longer than one.
+pub fn exp_two(x: f64, y: f64) -> Two
+    ensures { λ r. ⌜ (r .first ≡ expOf x) × (r .second ≡ expOf y) ⌝ }
+{
+    if within_limits(x) {
+        if within_limits(y) {
+            let k = nearest_whole(x * LOG2_E);
+            let l = nearest_whole(y * LOG2_E);
+            let p = series_two(reduced(x, k), reduced(y, l));
+            return Two {
+                first: scale(p.first, k),
+                second: scale(p.second, l),
+            };
+        }
+    }
+    Two {
+        first: exp(x),
+        second: exp(y),
+    }
 }
 
 pub fn exp_m1(y: f64) -> f64
@@ -42,6 +74,19 @@ pub fn exp_m1(y: f64) -> f64
     } else {
         exp(y) - 1.0
     }
+}
+
+// Whether exp works x by its series.
+fn within_limits(x: f64) -> bool
+    ensures { λ r. ⌜ r ≡ withinLimits x ⌝ }
+{
+    if x != x {
+        return false;
+    }
+    if x > TOP {
+        return false;
+    }
+    !(x < BOTTOM)
 }
 
 // The whole number nearest to p, a tie away from zero. Twice p is exact, and cutting it to a whole
@@ -76,6 +121,25 @@ fn series(x: f64, last: u32, turns: u32) -> f64
         p = 1.0 + (x * p) / (n as f64);
     }
     p
+}
+
+// The series of exp for two numbers, in one loop.
+fn series_two(x: f64, y: f64) -> Two
+    ensures { λ r. ⌜ (r .first ≡ seriesOf x 1 13 one) × (r .second ≡ seriesOf y 1 13 one) ⌝ }
+{
+    let mut p = 1.0;
+    let mut q = 1.0;
+    let mut k: u32 = 13;
+    while k > 0 {
+        k -= 1;
+        let n = (1 + k) as f64;
+        p = 1.0 + (x * p) / n;
+        q = 1.0 + (y * q) / n;
+    }
+    Two {
+        first: p,
+        second: q,
+    }
 }
 
 // p × 2^a × 2^b, a being k/2 toward zero and b = k - a. `exp` has k in range.

@@ -7,8 +7,10 @@ mod simple;
 
 pub use density::SQRT_2PI;
 pub use density::norm_pdf;
+pub use exponential::Two;
 pub use exponential::exp;
 pub use exponential::exp_m1;
+pub use exponential::exp_two;
 pub use logarithm::ln;
 pub use simple::abs;
 pub use simple::is_finite;

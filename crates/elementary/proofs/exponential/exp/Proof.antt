@@ -1,22 +1,17 @@
 -- `elementary::exp` meets its contract: by the three tests, and inside the range by what its parts give. Assumes nothing.
-use mathlib.Core.Path.{_≡_, ap, _∙_}
+use mathlib.Core.Path.{_≡_, sym, ap, _∙_}
+use mathlib.Core.Bool.{true, not}
 use native.Mathlib.Omega.{arith}
 use borrow.Author.Needs.{needs}
-use lib.IntN.{ℤ}
-use lib.Signed.{mag}
-use Prim.Native.Nat.{_≤_}
 use mir.Syntax.{w32}
 use mir.Val.{toZ, ofZ}
-use mir.ValLaws.{toZ-ofZ}
 use lib.Ieee.{Float, div, ofBits}
-use Rattle.ieee.specs.Numbers.{one}
 use Rattle.ieee.specs.Rows.{Gives, by-rows}
-use Rattle.elementary.specs.Exp.{expOf, kOf, reducedOf, scaleOf, seriesOf}
+use Rattle.elementary.specs.Exp.{expOf, kOf, expWithin, withinLimits}
 use Rattle.elementary.specs.ExactCases.{exactCases, exact-cases}
 use Rattle.elementary.proofs.Floats.{is-nan, nan-yes, nan-no}
 use Rattle.elementary.proofs.Literals.{log2e-is, expTop-is, expBottom-is}
-use Rattle.elementary.proofs.Nearest.{nearest-mag}
-use Rattle.elementary.proofs.Range.{exp-moderate}
+use Rattle.elementary.proofs.Limits.{past-tests, by-series, within-moderate, k-small, k-back}
 use Rattle.elementary.proofs.exponential.exp.Statement.{statement}
 use Rattle.elementary.proofs.exponential.exp.Tie as tie
 
@@ -36,19 +31,19 @@ returns-3 : tie.Need-returns-3
 unfolding expOf ofBits
 returns-3 c = both _ _ (rw (nan-no _ (c .before .before .if1 .left), ← expTop-is, c .before .if2 .left, ← expBottom-is, c .if3 .taken))
 
-nearest-whole-requires : tie.Need-nearest-whole-requires
-nearest-whole-requires c κs = rw log2e-is (exp-moderate _ (c .before .before .if1 .left) (c .before .if2 .left) (c .if3 .left))
-
--- k, as the machine reads it back from its bits
-module _ (c : tie.After-nearest-whole) where
+-- past the three tests
+module _ (c : tie.Else3) where
   abbrev x : Float
-  x = c .before .before .before .before .args .x
+  x = c .before .before .before .args .x
 
-  small : mag (kOf x) ≤ 1200
-  small = nearest-mag _ (exp-moderate x (c .before .before .before .if1 .left) (c .before .before .if2 .left) (c .before .if3 .left))
+  x-within : withinLimits x ≡ true
+  x-within = past-tests x (c .before .before .if1 .left) (c .before .if2 .left) ∙ ap not (c .if3 .left)
 
-  k-is : toZ w32 (ofZ w32 (c .nearest-whole .result)) ≡ kOf x
-  k-is = ap (λ (z : ℤ). toZ w32 (ofZ w32 z)) (rw log2e-is at (c .nearest-whole .ensures)) ∙ toZ-ofZ w32 (kOf x) (record { sfits = omega (arith, small) })
+nearest-whole-requires : tie.Need-nearest-whole-requires
+nearest-whole-requires c κs = rw log2e-is (within-moderate (x c) (x-within c))
+
+k-is : (c : tie.After-nearest-whole) → toZ w32 (ofZ w32 (c .nearest-whole .result)) ≡ kOf (x (c .before))
+k-is c = k-back _ (x-within (c .before)) _ (c .nearest-whole .ensures)
 
 reduced-requires : tie.Need-reduced-requires
 reduced-requires c κs = search needs
@@ -57,14 +52,15 @@ series-requires : tie.Need-series-requires
 series-requires c κs = search needs
 
 scale-requires : tie.Need-scale-requires
-scale-requires c κs = rw (k-is (c .before .before)) (omega (arith, small (c .before .before)))
+scale-requires c κs =
+    let b = c .before .before in
+    rw (k-is b) (omega (arith, k-small _ (x-within (b .before))))
 
 returns-4 : tie.Need-returns-4
-unfolding expOf
 returns-4 c =
     let b = c .before .before .before in
-    let w : c .scale .result ≡ scaleOf (seriesOf (reducedOf (x b) (kOf (x b))) 1 13 one) (kOf (x b)) = cc (k-is b) in
-    both _ _ (rw (nan-no _ (b .before .before .before .if1 .left), ← expTop-is, b .before .before .if2 .left, ← expBottom-is, b .before .if3 .left) w)
+    let p : c .scale .result ≡ expWithin (x (b .before)) = cc (k-is b) in
+    both _ _ (p ∙ sym (by-series (x (b .before)) (x-within (b .before))))
 
 pub exp-spec : {M : Type 1} → statement M
 exp-spec = tie.close (tie.spec returns returns-2 returns-3 nearest-whole-requires reduced-requires series-requires scale-requires returns-4)
