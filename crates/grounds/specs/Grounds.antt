@@ -175,7 +175,7 @@ pub annuity-never : (ts fs payments accruals : List Float) → NeverSo (annuityO
 unfolding annuityOutcome annuityPriced
 annuity-never ts fs payments accruals = never (turned _ tt (annuity-on ts fs zero payments accruals))
 
--- ---- parameters.rs
+-- ---- schedules of pillars
 pub volatility-never : (ts ss : List Float) (t : Float) → NeverSo (Schedules.volatilityOutcome ts ss t)
 unfolding Schedules.volatilityOutcome Schedules.volatilityFound
 volatility-never ts ss t = never (turned _ tt (looked R.Empty (volatilityAt ts ss t) tt finished))

@@ -1,4 +1,4 @@
--- parameters.rs as calls: the volatility at a time, the pillar times up to it, and the piecewise variance, on pillars of times ts and volatilities ss.
+-- parameters.rs as calls: the pillar times up to a time and the piecewise variance, and with them the volatility at a time (`vol` of hullwhitecalibration.rs), on pillars of times ts and volatilities ss.
 use mathlib.Core.Path.{_≡_}
 use mathlib.Core.List.{List}
 use lib.Dec.{eqb}

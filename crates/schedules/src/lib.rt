@@ -1,4 +1,5 @@
-// parameters.rs as calls: the volatility at a time, the pillar times up to it, the piecewise variance.
+// parameters.rs as calls: the pillar times up to a time, the piecewise variance, and the volatility at a
+// time.
 mod parameters;
 mod rules;
 

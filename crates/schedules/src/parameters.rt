@@ -1,5 +1,5 @@
-// parameters.rs: what a schedule of pillars gives: the volatility at a time, the pillars up to it, and
-// the variance over an interval.
+// parameters.rs: what a schedule of pillars gives: the pillars up to a time, the variance over an
+// interval, and the volatility at a time (`vol` of hullwhitecalibration.rs).
 ghost use mathlib.Core.Path.{_≡_};
 ghost use mathlib.Core.List.{[]};
 ghost use Rattle.lists.specs.Refusals.{outcomeOf, valueOr};
