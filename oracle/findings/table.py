@@ -146,4 +146,16 @@ FINDINGS = [
         ["panics"],
         "The lookup reads the first pillar of an empty list. Document 01: 7.",
     ),
+    (
+        "fit-without-coupons", "A swaption fit without coupons comes out as sigma 1e-8",
+        run(0.1, curve=[(1, 0.98), (1 + H, 0.9799)], jobs=[job(10, 0.03, 1, 0.2), job(11, 0.03, 1, 0.01)]),
+        ["serves 3e45798ee2308c3a unconverged, calibrates 3e45798ee2308c3a 0000000000000000"] * 2,
+        "No test turns an empty list of coupons down; the solver does not converge and returns its lower end. Document 01: 7.",
+    ),
+    (
+        "payment-in-the-past", "A swaption fit over a payment before its option time comes out as sigma 1e-8",
+        run(0.1, curve=[(0.5, 0.99), (1, 0.98), (1 + H, 0.9799)], coupons=[(0.5, 0.5)], jobs=[job(10, 0.03, 1, 0.2), job(11, 0.03, 1, 0.01)]),
+        ["serves 3e45798ee2308c3a unconverged, calibrates 3e45798ee2308c3a 0000000000000000"] * 2,
+        "A payment that has been made has a B below 0, and no test turns it down; the solver does not converge and returns its lower end. Document 01: 5.",
+    ),
 ]
