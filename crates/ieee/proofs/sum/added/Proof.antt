@@ -1,10 +1,11 @@
 -- `ieee::sum::added` meets its contract. A sum is the same in either order. Assumes nothing.
 use mathlib.Core.Path.{_∙_}
 use Prim.Native.Nat.{_*_, _^_}
+use native.Mathlib.Nat.{le-of-lt}
 use borrow.Author.Needs.{needs}
 use lib.Ieee.{binary64}
 use Rattle.ieee.specs.Words.{words}
-use Rattle.ieee.proofs.Sums.{sum-swap}
+use Rattle.ieee.proofs.Sums.{sum-swap, beq-swap}
 use Rattle.ieee.proofs.sum.added.Statement.{statement}
 use Rattle.ieee.proofs.sum.added.Tie as tie
 
@@ -12,7 +13,9 @@ sum-requires : tie.Need-sum-requires
 sum-requires c κs = search needs
 
 sum-requires-2 : tie.Need-sum-requires-2
-sum-requires-2 c κs = search needs
+sum-requires-2 c κs =
+    let s = c .before in
+    (s .pre .0 ∙ beq-swap (s .args .s) (s .args .t), s .pre .2, s .pre .1, le-of-lt (c .if1 .left))
 
 returns : tie.Need-returns
 returns c = search needs

@@ -21,13 +21,14 @@ placed-requires c κs = search needs
 
 returns : tie.Need-returns
 returns c =
-    let k = c .before .before in
-    let x = k .before .before .before .before .unpack in
-    let y = k .before .before .before .unpack2 in
-    let z = k .before .before .unpack3 in
+    let k = c .before in
+    let u = k .before .before .before .before in
+    let x = u .before .before .unpack in
+    let y = u .before .unpack2 in
+    let z = u .unpack3 in
     let p = k .before .times in
     let q = k .placed in
-    let s = k .before .before .before .before .before .args in
+    let s = u .before .before .before .args in
     terms-are (s .a) (s .b) (s .c) (x .result .sign) (y .result .sign) (z .result .sign) (x .result .sig) (x .result .exp) (y .result .sig) (y .result .exp) (z .result .sig) (z .result .exp)
     (p .result .hi) (p .result .lo) (p .result .exp) (q .result .top) (q .result .place) (x .ensures) (y .ensures) (z .ensures) (p .ensures) (q .ensures)
 

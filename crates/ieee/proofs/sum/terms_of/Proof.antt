@@ -30,22 +30,23 @@ ordinary-requires-3 c κs = search needs
 product-requires : tie.Need-product-requires
 product-requires c κs = search needs
 
-add-t15 : tie.Need-add-t15
-add-t15 c = search needs
-
 add-t16 : tie.Need-add-t16
 add-t16 c = search needs
 
 add-t17 : tie.Need-add-t17
 add-t17 c = search needs
 
+add-t18 : tie.Need-add-t18
+add-t18 c = search needs
+
 returns : tie.Need-returns
 returns c =
-    let v = c .before .before .before .before .before in
-    let x = v .before .before .before .ordinary in
-    let y = v .before .before .ordinary2 in
-    let z = v .before .ordinary3 in
-    let t = v .before .before .before .before in
+    let v = c .before .before .before .before in
+    let o = v .before .before .before in
+    let x = o .before .before .ordinary in
+    let y = o .before .ordinary2 in
+    let z = o .ordinary3 in
+    let t = o .before .before .before in
     let k = t .before .before .before .before .before .before in
     let f = k .before .before .read in
     let g = k .before .read2 in
@@ -76,9 +77,9 @@ terms-of-spec =
     ordinary-requires-2
     ordinary-requires-3
     product-requires
-    add-t15
     add-t16
     add-t17
+    add-t18
     returns
     any-terms-requires
     returns-2)

@@ -2,7 +2,6 @@
 use Prim.Native.Nat.{_+_, _*_, _/_, _%_, _^_}
 use native.Mathlib.Omega.{arith}
 use native.Mathlib.Nat.{le-add-right}
-use borrow.Author.Needs.{needs}
 use mir.Facts.{fits-le}
 use Rattle.ieee.proofs.Words.{half-fits, half-product, mid-fits, next-fits, low, mid, next, high-fits, upper-is, upper}
 use Rattle.ieee.proofs.wide.upper.Statement.{statement}
