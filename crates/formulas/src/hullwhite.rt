@@ -121,8 +121,9 @@ pub fn bond_put_of(sigma_p: f64, strike: f64, p_t: f64, p_bond: f64) -> f64
 {
     let d1 = bond_d1(sigma_p, p_bond, strike * p_t);
     let d2 = d1 - sigma_p;
-    let taken = p_bond * probability::norm_cdf(-d1);
-    ieee::fused(strike * p_t, probability::norm_cdf(-d2), -taken)
+    let n = probability::norm_cdf_two(-d1, -d2);
+    let taken = p_bond * n.first;
+    ieee::fused(strike * p_t, n.second, -taken)
 }
 
 // A call on a bond.
@@ -131,8 +132,9 @@ pub fn bond_call_of(sigma_p: f64, strike: f64, p_t: f64, p_bond: f64) -> f64
 {
     let d1 = bond_d1(sigma_p, p_bond, strike * p_t);
     let d2 = d1 - sigma_p;
-    let taken = strike * p_t * probability::norm_cdf(d2);
-    ieee::fused(p_bond, probability::norm_cdf(d1), -taken)
+    let n = probability::norm_cdf_two(d1, d2);
+    let taken = strike * p_t * n.second;
+    ieee::fused(p_bond, n.first, -taken)
 }
 
 // 1 + δ × K over an accrual period.

@@ -3,3 +3,4 @@ mod normal;
 
 pub use normal::norm_cdf;
 pub use normal::norm_cdf_dual;
+pub use normal::norm_cdf_two;

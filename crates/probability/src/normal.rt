@@ -2,7 +2,12 @@
 // step of the two polynomials fused; the DualFwd one rounds the product and then the sum, so the two
 // differ in the last bits and neither may stand in for the other.
 ghost use mathlib.Core.Path.{_≡_};
+ghost use mathlib.Core.Bool.{cond};
+ghost use lib.Ieee.{neg, lt};
+ghost use Rattle.ieee.specs.Rounded.{_⊖_, _⊗_};
+ghost use Rattle.ieee.specs.Numbers.{zero, half, one};
 ghost use Rattle.ieee.specs.Fused.{fusedOf};
+ghost use Rattle.elementary.specs.Exp.{expOf};
 ghost use Rattle.probability.specs.NormCdf.{productThenSum, stepOf, horner, numFirst, numRest, denFirst, denRest, hartOf, tailOf, upperOf, normCdfOf, normCdfDualOf};
 ghost use Rattle.probability.specs.Between.{Probability};
 ghost use Rattle.probability.specs.AsWritten.{normCdfDualAsWritten};
@@ -15,7 +20,7 @@ pub fn norm_cdf(x: f64) -> f64
     ensures between { λ r. ⌜ Probability x r ⌝ }
 {
     let cum = upper(elementary::abs(x), false);
-    if x > 0.0 { 1.0 - cum } else { cum }
+    below(x, cum)
 }
 
 pub fn norm_cdf_dual(x: f64) -> f64
@@ -24,6 +29,26 @@ pub fn norm_cdf_dual(x: f64) -> f64
     ensures as_written { λ r. ⌜ r ≡ normCdfDualAsWritten x ⌝ }
 {
     let cum = upper(elementary::abs(x), true);
+    below(x, cum)
+}
+
+// norm_cdf of both, with their exps worked side by side.
+pub fn norm_cdf_two(x: f64, y: f64) -> elementary::Two
+    ensures { λ r. ⌜ (r .first ≡ normCdfOf x) × (r .second ≡ normCdfOf y) ⌝ }
+{
+    let u = elementary::abs(x);
+    let v = elementary::abs(y);
+    let e = elementary::exp_two(-u * u * 0.5, -v * v * 0.5);
+    elementary::Two {
+        first: below(x, upper_by(u, e.first, false)),
+        second: below(y, upper_by(v, e.second, false)),
+    }
+}
+
+// What lies below x, from what lies above |x|.
+fn below(x: f64, cum: f64) -> f64
+    ensures { λ r. ⌜ r ≡ cond (lt zero x) (one ⊖ cum) cum ⌝ }
+{
     if x > 0.0 { 1.0 - cum } else { cum }
 }
 
@@ -31,10 +56,17 @@ pub fn norm_cdf_dual(x: f64) -> f64
 fn upper(z: f64, dual: bool) -> f64
     ensures { λ r. ⌜ r ≡ upperOf (stepOf dual) z ⌝ }
 {
+    upper_by(z, elementary::exp(-z * z * 0.5), dual)
+}
+
+// The same, where the caller has worked the exp.
+fn upper_by(z: f64, e: f64, dual: bool) -> f64
+    requires { ⌜ e ≡ expOf (neg z ⊗ z ⊗ half) ⌝ }
+    ensures { λ r. ⌜ r ≡ upperOf (stepOf dual) z ⌝ }
+{
     if z > 37.0 {
         return 0.0;
     }
-    let e = elementary::exp(-z * z * 0.5);
     if z < HART_THRESHOLD {
         hart(z, e, dual)
     } else {

@@ -7,11 +7,8 @@ use Rattle.formulas.proofs.hullwhite.bond_put_of.Tie as tie
 bond-d1-requires : tie.Need-bond-d1-requires
 bond-d1-requires c κs = search needs
 
-norm-cdf-requires : tie.Need-norm-cdf-requires
-norm-cdf-requires c κs = search needs
-
-norm-cdf-requires-2 : tie.Need-norm-cdf-requires-2
-norm-cdf-requires-2 c κs = search needs
+norm-cdf-two-requires : tie.Need-norm-cdf-two-requires
+norm-cdf-two-requires c κs = search needs
 
 fused-requires : tie.Need-fused-requires
 fused-requires c κs = search needs
@@ -21,6 +18,4 @@ unfolding bondPutOf
 returns c = cc
 
 pub bond-put-of-spec : {M : Type 1} → statement M
-bond-put-of-spec =
-    tie.close
-    (tie.spec bond-d1-requires norm-cdf-requires norm-cdf-requires-2 fused-requires returns)
+bond-put-of-spec = tie.close (tie.spec bond-d1-requires norm-cdf-two-requires fused-requires returns)

@@ -1,8 +1,7 @@
--- `probability::norm_cdf` meets its contract: by the test of the sign and by what `upper` gives; `norm-within` has the bounds. Assumes nothing.
+-- `probability::norm_cdf` meets its contract: by what `upper` and `below` give; `norm-within` has the bounds. Assumes nothing.
 use mathlib.Core.Path.{_≡_, sym, subst}
 use borrow.Author.Needs.{needs}
-use lib.Ieee.{Float, binary64, sub}
-use Rattle.ieee.specs.Numbers.{one}
+use lib.Ieee.{Float}
 use Rattle.ieee.specs.Fused.{fusedOf}
 use Rattle.probability.specs.NormCdf.{normBy, normCdfOf}
 use Rattle.probability.specs.Between.{Probability}
@@ -20,17 +19,14 @@ abs-requires c κs = search needs
 upper-requires : tie.Need-upper-requires
 upper-requires c κs = search needs
 
+below-requires : tie.Need-below-requires
+below-requires c κs = search needs
+
 returns : tie.Need-returns
 unfolding normBy
 returns c =
-    let w : sub binary64 one (c .before .upper .result) ≡ normCdfOf (c .before .before .before .args .x) = rw (c .if1 .taken) (cc) in
-    both _ _ w
-
-returns-2 : tie.Need-returns-2
-unfolding normBy
-returns-2 c =
-    let w : c .before .upper .result ≡ normCdfOf (c .before .before .before .args .x) = rw (c .if1 .left) (cc) in
+    let w : c .below .result ≡ normCdfOf (c .before .before .before .args .x) = cc in
     both _ _ w
 
 pub norm-cdf-spec : {M : Type 1} → statement M
-norm-cdf-spec = tie.close (tie.spec abs-requires upper-requires returns returns-2)
+norm-cdf-spec = tie.close (tie.spec abs-requires upper-requires below-requires returns)

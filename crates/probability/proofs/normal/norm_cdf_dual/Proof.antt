@@ -1,8 +1,7 @@
--- `probability::norm_cdf_dual` meets its contract: by the test of the sign and by what `upper` gives; `norm-within` has the bounds, and `as-written` that no bit differs from norm_cdf.rs. Assumes nothing.
+-- `probability::norm_cdf_dual` meets its contract: by what `upper` and `below` give; `norm-within` has the bounds, and `as-written` that no bit differs from norm_cdf.rs. Assumes nothing.
 use mathlib.Core.Path.{_≡_, sym, _∙_, subst}
 use borrow.Author.Needs.{needs}
-use lib.Ieee.{Float, binary64, sub}
-use Rattle.ieee.specs.Numbers.{one}
+use lib.Ieee.{Float}
 use Rattle.probability.specs.NormCdf.{normBy, normCdfDualOf, productThenSum}
 use Rattle.probability.specs.Between.{Probability}
 use Rattle.probability.proofs.Between.{norm-within}
@@ -21,17 +20,14 @@ abs-requires c κs = search needs
 upper-requires : tie.Need-upper-requires
 upper-requires c κs = search needs
 
+below-requires : tie.Need-below-requires
+below-requires c κs = search needs
+
 returns : tie.Need-returns
 unfolding normBy
 returns c =
-    let w : sub binary64 one (c .before .upper .result) ≡ normCdfDualOf (c .before .before .before .args .x) = rw (c .if1 .taken) (cc) in
-    all _ _ w
-
-returns-2 : tie.Need-returns-2
-unfolding normBy
-returns-2 c =
-    let w : c .before .upper .result ≡ normCdfDualOf (c .before .before .before .args .x) = rw (c .if1 .left) (cc) in
+    let w : c .below .result ≡ normCdfDualOf (c .before .before .before .args .x) = cc in
     all _ _ w
 
 pub norm-cdf-dual-spec : {M : Type 1} → statement M
-norm-cdf-dual-spec = tie.close (tie.spec abs-requires upper-requires returns returns-2)
+norm-cdf-dual-spec = tie.close (tie.spec abs-requires upper-requires below-requires returns)

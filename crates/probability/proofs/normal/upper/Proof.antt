@@ -1,31 +1,16 @@
--- `probability::upper` meets its contract: by the tests against 37 and against the threshold. Assumes nothing.
+-- `probability::upper` meets its contract: by what `upper_by` gives on the exp. Assumes nothing.
 use borrow.Author.Needs.{needs}
-use lib.Ieee.{ofBits}
-use Rattle.probability.specs.NormCdf.{upperOf}
-use Rattle.probability.proofs.Literals.{limit-is, threshold-is}
 use Rattle.probability.proofs.normal.upper.Statement.{statement}
 use Rattle.probability.proofs.normal.upper.Tie as tie
-
-returns : tie.Need-returns
-unfolding upperOf ofBits
-returns c = rw (← limit-is, c .if1 .taken)
 
 exp-requires : tie.Need-exp-requires
 exp-requires c κs = search needs
 
-hart-requires : tie.Need-hart-requires
-hart-requires c κs = search needs
+upper-by-requires : tie.Need-upper-by-requires
+upper-by-requires c κs = c .exp .ensures .0
 
-tail-requires : tie.Need-tail-requires
-tail-requires c κs = search needs
-
-returns-2 : tie.Need-returns-2
-unfolding upperOf
-returns-2 c = rw (← limit-is, c .before .before .before .if1 .left, ← threshold-is, c .before .if2 .taken) (cc)
-
-returns-3 : tie.Need-returns-3
-unfolding upperOf
-returns-3 c = rw (← limit-is, c .before .before .before .if1 .left, ← threshold-is, c .before .if2 .left) (cc)
+returns : tie.Need-returns
+returns c = c .upper-by .ensures
 
 pub upper-spec : {M : Type 1} → statement M
-upper-spec = tie.close (tie.spec returns exp-requires hart-requires tail-requires returns-2 returns-3)
+upper-spec = tie.close (tie.spec exp-requires upper-by-requires returns)
