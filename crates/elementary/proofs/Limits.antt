@@ -1,5 +1,5 @@
 -- Within the limits of exp: the definition is its series, and k is so small that it is read back from its bits. Assumes nothing.
-use mathlib.Core.Path.{_≡_, refl, sym, ap, _∙_}
+use mathlib.Core.Path.{_≡_, refl, ap, _∙_}
 use mathlib.Core.Bool.{Bool, true, false, not, _&&_, false≢true}
 use Prim.Native.Nat.{_≤_}
 use native.Mathlib.Omega.{arith}

@@ -90,7 +90,7 @@ fn within_limits(x: f64) -> bool
 }
 
 // The whole number nearest to p, a tie away from zero. Twice p is exact, and cutting it to a whole
-// number loses no tie; p + 0.5 would round. `exp` has p in range.
+// number loses no tie; p + 0.5 would round. `exp` and `exp_two` have p in range.
 fn nearest_whole(p: f64) -> i32
     requires { ⌜ T (moderate p) ⌝ }
     ensures { λ r. ⌜ r ≡ nearestWhole p ⌝ }
@@ -142,7 +142,7 @@ fn series_two(x: f64, y: f64) -> Two
     }
 }
 
-// p × 2^a × 2^b, a being k/2 toward zero and b = k - a. `exp` has k in range.
+// p × 2^a × 2^b, a being k/2 toward zero and b = k - a. `exp` and `exp_two` have k in range.
 fn scale(p: f64, k: i32) -> f64
     requires { ⌜ mag k < 2000 ⌝ }
     ensures { λ r. ⌜ r ≡ scaleOf p k ⌝ }
