@@ -1,5 +1,5 @@
 -- What callers may use of answers and lookups: a rule that let the call through did not apply, and a lookup that the code took apart is what its definition says.
-use mathlib.Core.Path.{_≡_, refl, sym, _∙_}
+use mathlib.Core.Path.{_≡_, refl, sym, _∙_, ap}
 use mathlib.Core.Bool.{Bool, true, false, _||_}
 use Prim.Native.Nat.{ℕ}
 use native.Mathlib.Omega.{arith}
@@ -9,7 +9,9 @@ use Rattle.lists.specs.declared.lookups.Found.the-variants as F
 use Rattle.lists.specs.declared.refusals.Refusal.{Refusal}
 use Rattle.lists.specs.declared.refusals.Answer.{Answer}
 use Rattle.lists.specs.declared.refusals.Answer.the-variants as A
-use Rattle.lists.specs.Refusals.{Outcome, served, refused, after}
+use Rattle.lists.specs.declared.refusals.Price.{Price}
+use Rattle.lists.specs.declared.refusals.Price.the-variants as P
+use Rattle.lists.specs.Refusals.{Outcome, served, refused, after, outcomeOf, toldOutcome, Priced}
 use Rattle.lists.specs.Lookups.{Maybe, just, nothing, foundOf}
 
 -- ---- neither of two rules applies
@@ -30,6 +32,16 @@ turned-down answer rest e h = rw (← h, e) refl
 
 pub let-through : {B : Type 0} (answer : Answer) {a : Answer} (rest : Outcome B) → answer ≡ A.Served → answer ≡ a → after a rest ≡ rest
 let-through answer rest e h = rw (← h, e) refl
+
+-- ---- a call with one value, turned down by its rules or let through
+pub priced : (p : Price) {o : Outcome Float} → outcomeOf p ≡ o → Priced p o
+priced p h = record { outcome = h; report = ap toldOutcome h }
+
+pub priced-refused : (answer : Answer) {a : Answer} {q : Refusal} (rest : Outcome Float) → answer ≡ A.Refused q → answer ≡ a → Priced (P.Refused q) (after a rest)
+priced-refused answer rest e h = priced _ (sym (turned-down answer rest e h))
+
+pub priced-served : (answer : Answer) {a : Answer} {p : Price} (rest : Outcome Float) → answer ≡ A.Served → answer ≡ a → outcomeOf p ≡ rest → Priced p (after a rest)
+priced-served answer rest e h is = priced _ (is ∙ sym (let-through answer rest e h))
 
 -- ---- an outcome is served or refused, and not both
 pub not-both : {B : Type 0} {v : B} {q : Refusal} → refused q ≡ served v → ⊥

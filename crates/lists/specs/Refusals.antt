@@ -1,4 +1,5 @@
 -- Document 01, "How a call is turned down". An outcome is what a call gives by document 01, a value or a refusal; each enum of the code has the definition here, or in its own crate, that turns its cases into an outcome.
+use mathlib.Core.Path.{_≡_}
 use mathlib.Core.Bool.{Bool, cond}
 use mathlib.Core.List.{List, [], _∷_}
 use Prim.Native.Nat.{ℕ}
@@ -115,3 +116,8 @@ toldOutcome o = record { answer = answerNumber (answerOf o); value = valueOr Num
 
 abbrev pub toldOf : Price → Reply
 toldOf p = toldOutcome (outcomeOf p)
+
+-- "Where an answer is an enum, there is a definition that gives this paper's number and values for each of its cases. The promises use that definition": what a call with one value promises of its answer, given the outcome that it is to have
+pub record Priced (p : Price) (o : Outcome Float) : Type 0 where
+  pub outcome : outcomeOf p ≡ o
+  pub report : toldOf p ≡ toldOutcome o

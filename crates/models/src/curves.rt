@@ -3,7 +3,7 @@
 ghost use mathlib.Core.Path.{_≡_};
 ghost use mathlib.Core.Bool.{true};
 ghost use Rattle.lists.specs.Checks.{inOrder};
-ghost use Rattle.lists.specs.Refusals.{outcomeOf};
+ghost use Rattle.lists.specs.Refusals.{Priced, outcomeOf};
 ghost use Rattle.models.specs.Curves.{bOutcome, volatilityOutcome, shortRateVarianceOutcome, aPriced, aOutcome, zcbPriced, zcbOutcome, forwardPriced, forwardOutcome, thetaPriced, thetaFrom, thetaOutcome};
 use super::rules;
 use lists::Answer;
@@ -12,7 +12,7 @@ use lists::Price;
 use lists::Refusal;
 
 pub fn B(alpha: f64, t: f64, bond: f64) -> Price
-    ensures { λ r. ⌜ outcomeOf r ≡ bOutcome alpha t bond ⌝ }
+    ensures { λ r. ⌜ Priced r (bOutcome alpha t bond) ⌝ }
 {
     let answer = rules::option_rules(rules::no_faults(), alpha, t, bond, 0.0, 0.0);
     match answer {
@@ -22,7 +22,7 @@ pub fn B(alpha: f64, t: f64, bond: f64) -> Price
 }
 
 pub fn zcb_price_volatility(alpha: f64, sigma: f64, t: f64, bond: f64) -> Price
-    ensures { λ r. ⌜ outcomeOf r ≡ volatilityOutcome alpha sigma t bond ⌝ }
+    ensures { λ r. ⌜ Priced r (volatilityOutcome alpha sigma t bond) ⌝ }
 {
     let answer = rules::option_rules(rules::no_faults(), alpha, t, bond, sigma, 0.0);
     match answer {
@@ -32,7 +32,7 @@ pub fn zcb_price_volatility(alpha: f64, sigma: f64, t: f64, bond: f64) -> Price
 }
 
 pub fn short_rate_variance(alpha: f64, t: f64, bond: f64, sigma: f64) -> Price
-    ensures { λ r. ⌜ outcomeOf r ≡ shortRateVarianceOutcome alpha t bond sigma ⌝ }
+    ensures { λ r. ⌜ Priced r (shortRateVarianceOutcome alpha t bond sigma) ⌝ }
 {
     let answer = rules::option_rules(rules::no_faults(), alpha, t, bond, sigma, 0.0);
     match answer {
@@ -42,7 +42,7 @@ pub fn short_rate_variance(alpha: f64, t: f64, bond: f64, sigma: f64) -> Price
 }
 
 pub fn A(alpha: f64, times: &[f64], factors: &[f64], t: f64, bond: f64, sigma: f64) -> Price
-    ensures { λ r. ⌜ outcomeOf r ≡ aOutcome alpha (now (times .entry)) (now (factors .entry)) t bond sigma ⌝ }
+    ensures { λ r. ⌜ Priced r (aOutcome alpha (now (times .entry)) (now (factors .entry)) t bond sigma) ⌝ }
 {
     let curve = lists::curve_faults(times, factors);
     let answer = rules::option_rules(curve, alpha, t, bond, sigma, 0.0);
@@ -79,7 +79,7 @@ pub fn zcb_price(
     bond: f64,
     sigma: f64,
 ) -> Price
-    ensures { λ r. ⌜ outcomeOf r ≡ zcbOutcome alpha (now (times .entry)) (now (factors .entry)) rate t bond sigma ⌝ }
+    ensures { λ r. ⌜ Priced r (zcbOutcome alpha (now (times .entry)) (now (factors .entry)) rate t bond sigma) ⌝ }
 {
     let curve = lists::curve_faults(times, factors);
     let answer = rules::option_rules(curve, alpha, t, bond, sigma, rate);
@@ -117,7 +117,7 @@ fn zcb_priced(
 }
 
 pub fn forward_rate(times: &[f64], factors: &[f64], t: f64) -> Price
-    ensures { λ r. ⌜ outcomeOf r ≡ forwardOutcome (now (times .entry)) (now (factors .entry)) t ⌝ }
+    ensures { λ r. ⌜ Priced r (forwardOutcome (now (times .entry)) (now (factors .entry)) t) ⌝ }
 {
     let curve = lists::curve_faults(times, factors);
     let answer = rules::forward_rules(curve, t);
@@ -141,7 +141,7 @@ fn forward_priced(times: &[f64], factors: &[f64], t: f64) -> Price
 }
 
 pub fn theta(alpha: f64, times: &[f64], factors: &[f64], t: f64, sigma: f64) -> Price
-    ensures { λ r. ⌜ outcomeOf r ≡ thetaOutcome alpha (now (times .entry)) (now (factors .entry)) t sigma ⌝ }
+    ensures { λ r. ⌜ Priced r (thetaOutcome alpha (now (times .entry)) (now (factors .entry)) t sigma) ⌝ }
 {
     let curve = lists::curve_faults(times, factors);
     let answer = rules::theta_rules(curve, alpha, t, sigma);

@@ -3,7 +3,7 @@
 ghost use mathlib.Core.Path.{_≡_};
 ghost use mathlib.Core.Bool.{true};
 ghost use Rattle.lists.specs.Checks.{inOrder};
-ghost use Rattle.lists.specs.Refusals.{outcomeOf};
+ghost use Rattle.lists.specs.Refusals.{Priced, outcomeOf};
 ghost use Rattle.lists.specs.Faults.{curveFaults};
 ghost use Rattle.models.specs.Options.{bondOptionOf, bondOptionPriced, optionletPriced, bondOptionOutcome, optionletOutcome};
 ghost use Rattle.models.specs.declared.options.BondOption.the-variants as Option;
@@ -29,7 +29,7 @@ pub fn caplet_price(
     end: f64,
     sigma: f64,
 ) -> Price
-    ensures { λ r. ⌜ outcomeOf r ≡ optionletOutcome Option.Put alpha (now (times .entry)) (now (factors .entry)) strike t end sigma ⌝ }
+    ensures { λ r. ⌜ Priced r (optionletOutcome Option.Put alpha (now (times .entry)) (now (factors .entry)) strike t end sigma) ⌝ }
 {
     let curve = lists::curve_faults(times, factors);
     optionlet_on(
@@ -55,7 +55,7 @@ pub fn floorlet_price(
     end: f64,
     sigma: f64,
 ) -> Price
-    ensures { λ r. ⌜ outcomeOf r ≡ optionletOutcome Option.Call alpha (now (times .entry)) (now (factors .entry)) strike t end sigma ⌝ }
+    ensures { λ r. ⌜ Priced r (optionletOutcome Option.Call alpha (now (times .entry)) (now (factors .entry)) strike t end sigma) ⌝ }
 {
     let curve = lists::curve_faults(times, factors);
     optionlet_on(
@@ -81,7 +81,7 @@ pub fn bond_put_price(
     strike: f64,
     sigma: f64,
 ) -> Price
-    ensures { λ r. ⌜ outcomeOf r ≡ bondOptionOutcome Option.Put alpha (now (times .entry)) (now (factors .entry)) t bond strike sigma ⌝ }
+    ensures { λ r. ⌜ Priced r (bondOptionOutcome Option.Put alpha (now (times .entry)) (now (factors .entry)) t bond strike sigma) ⌝ }
 {
     let curve = lists::curve_faults(times, factors);
     bond_option_on(
@@ -107,7 +107,7 @@ pub fn bond_call_price(
     strike: f64,
     sigma: f64,
 ) -> Price
-    ensures { λ r. ⌜ outcomeOf r ≡ bondOptionOutcome Option.Call alpha (now (times .entry)) (now (factors .entry)) t bond strike sigma ⌝ }
+    ensures { λ r. ⌜ Priced r (bondOptionOutcome Option.Call alpha (now (times .entry)) (now (factors .entry)) t bond strike sigma) ⌝ }
 {
     let curve = lists::curve_faults(times, factors);
     bond_option_on(
@@ -137,7 +137,7 @@ pub fn bond_option_on(
     sigma: f64,
 ) -> Price
     requires { ⌜ curve ≡ curveFaults (now times) (now factors) ⌝ }
-    ensures { λ r. ⌜ outcomeOf r ≡ bondOptionOutcome option alpha (now (times .entry)) (now (factors .entry)) t bond strike sigma ⌝ }
+    ensures { λ r. ⌜ Priced r (bondOptionOutcome option alpha (now (times .entry)) (now (factors .entry)) t bond strike sigma) ⌝ }
 {
     let answer = rules::option_rules(curve, alpha, t, bond, sigma, strike);
     match answer {
@@ -160,7 +160,7 @@ pub fn optionlet_on(
     sigma: f64,
 ) -> Price
     requires { ⌜ curve ≡ curveFaults (now times) (now factors) ⌝ }
-    ensures { λ r. ⌜ outcomeOf r ≡ optionletOutcome option alpha (now (times .entry)) (now (factors .entry)) strike t end sigma ⌝ }
+    ensures { λ r. ⌜ Priced r (optionletOutcome option alpha (now (times .entry)) (now (factors .entry)) strike t end sigma) ⌝ }
 {
     let answer = rules::option_rules(curve, alpha, t, end, sigma, strike);
     match answer {

@@ -2,7 +2,7 @@
 ghost use mathlib.Core.Path.{_≡_};
 ghost use mathlib.Core.Bool.{true};
 ghost use Rattle.lists.specs.Checks.{inOrder};
-ghost use Rattle.lists.specs.Refusals.{outcomeOf, reported};
+ghost use Rattle.lists.specs.Refusals.{Priced, outcomeOf, reported};
 ghost use Rattle.quotes.specs.Utils.{noTwo, pairOutcome, d1d2Worked, d1d2Outcome, blackCallOutcome, blackPutOutcome, bachelierCallOutcome, annuityPriced, annuityOutcome};
 use super::rules;
 use lists::Answer;
@@ -40,7 +40,7 @@ fn d1_d2_worked(fwd: f64, strike: f64, vol: f64, tau: f64) -> Pair
 }
 
 pub fn black_call(fwd: f64, strike: f64, vol: f64, tau: f64) -> Price
-    ensures { λ r. ⌜ outcomeOf r ≡ blackCallOutcome fwd strike vol tau ⌝ }
+    ensures { λ r. ⌜ Priced r (blackCallOutcome fwd strike vol tau) ⌝ }
 {
     let answer = rules::quote_rules(true, fwd, strike, vol, tau);
     match answer {
@@ -50,7 +50,7 @@ pub fn black_call(fwd: f64, strike: f64, vol: f64, tau: f64) -> Price
 }
 
 pub fn black_put(fwd: f64, strike: f64, vol: f64, tau: f64) -> Price
-    ensures { λ r. ⌜ outcomeOf r ≡ blackPutOutcome fwd strike vol tau ⌝ }
+    ensures { λ r. ⌜ Priced r (blackPutOutcome fwd strike vol tau) ⌝ }
 {
     let answer = rules::quote_rules(true, fwd, strike, vol, tau);
     match answer {
@@ -60,7 +60,7 @@ pub fn black_put(fwd: f64, strike: f64, vol: f64, tau: f64) -> Price
 }
 
 pub fn bachelier_call(fwd: f64, strike: f64, vol: f64, tau: f64) -> Price
-    ensures { λ r. ⌜ outcomeOf r ≡ bachelierCallOutcome fwd strike vol tau ⌝ }
+    ensures { λ r. ⌜ Priced r (bachelierCallOutcome fwd strike vol tau) ⌝ }
 {
     let answer = rules::quote_rules(false, fwd, strike, vol, tau);
     match answer {
@@ -71,7 +71,7 @@ pub fn bachelier_call(fwd: f64, strike: f64, vol: f64, tau: f64) -> Price
 
 // The annuity of the coupons listed: payment times and accruals.
 pub fn annuity(times: &[f64], factors: &[f64], payments: &[f64], accruals: &[f64]) -> Price
-    ensures { λ r. ⌜ outcomeOf r ≡ annuityOutcome (now (times .entry)) (now (factors .entry)) (now (payments .entry)) (now (accruals .entry)) ⌝ }
+    ensures { λ r. ⌜ Priced r (annuityOutcome (now (times .entry)) (now (factors .entry)) (now (payments .entry)) (now (accruals .entry))) ⌝ }
 {
     let curve = lists::curve_faults(times, factors);
     let coupons = lists::coupon_faults(payments, accruals);

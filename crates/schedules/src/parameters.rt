@@ -2,7 +2,7 @@
 // interval, and the volatility at a time (`vol` of hullwhitecalibration.rs).
 ghost use mathlib.Core.Path.{_≡_};
 ghost use mathlib.Core.List.{[]};
-ghost use Rattle.lists.specs.Refusals.{outcomeOf, valueOr};
+ghost use Rattle.lists.specs.Refusals.{Priced, outcomeOf, valueOr};
 ghost use Rattle.schedules.specs.Parameters.{volatilityFound, volatilityOutcome, reachedOutcome, SameAnswer, varianceOutcome};
 use super::rules;
 use lists::Answer;
@@ -11,7 +11,7 @@ use lists::Price;
 use lists::Refusal;
 
 pub fn volatility(times: &[f64], sigmas: &[f64], t: f64) -> Price
-    ensures { λ r. ⌜ outcomeOf r ≡ volatilityOutcome (now (times .entry)) (now (sigmas .entry)) t ⌝ }
+    ensures { λ r. ⌜ Priced r (volatilityOutcome (now (times .entry)) (now (sigmas .entry)) t) ⌝ }
 {
     let pillars = lists::pillar_faults(times, sigmas);
     let answer = rules::volatility_rules(pillars, times.len() == 0, t);
@@ -45,7 +45,7 @@ pub fn pillars_reached<'a>(times: &'a [f64], sigmas: &[f64], t: f64) -> &'a [f64
 }
 
 pub fn piecewise_variance(alpha: f64, times: &[f64], sigmas: &[f64], start: f64, end: f64) -> Price
-    ensures { λ r. ⌜ outcomeOf r ≡ varianceOutcome alpha (now (times .entry)) (now (sigmas .entry)) start end ⌝ }
+    ensures { λ r. ⌜ Priced r (varianceOutcome alpha (now (times .entry)) (now (sigmas .entry)) start end) ⌝ }
 {
     let pillars = lists::pillar_faults(times, sigmas);
     let answer = rules::variance_rules(pillars, alpha, start, end);

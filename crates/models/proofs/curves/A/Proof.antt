@@ -1,7 +1,7 @@
 -- `models::A` meets its contract: turned down by its rules, or what `a_priced` finds. Assumes nothing.
 use borrow.Author.Needs.{needs}
 use Rattle.models.specs.Curves.{aOutcome}
-use Rattle.lists.proofs.Outcomes.{turned-down, let-through}
+use Rattle.lists.proofs.Outcomes.{priced-refused, priced-served}
 use Rattle.lists.proofs.Refusing.{rises}
 use Rattle.models.proofs.curves.A.Statement.{statement}
 use Rattle.models.proofs.curves.A.Tie as tie
@@ -23,11 +23,11 @@ a-priced-requires c κs = rises _ _ _ _ _ (c .before .before .before .curve-faul
 
 returns : tie.Need-returns
 unfolding aOutcome
-returns c = rw (turned-down _ _ (c .before .answer .given .1) (rw (c .before .before .before .before .curve-faults .ensures) at (c .before .before .before .option-rules .ensures)))
+returns c = priced-refused _ _ (c .before .answer .given .1) (rw (c .before .before .before .before .curve-faults .ensures) at (c .before .before .before .option-rules .ensures))
 
 returns-2 : tie.Need-returns-2
 unfolding aOutcome
-returns-2 c = rw (let-through _ _ (c .before .enum-told .given .1) (rw (c .before .before .before .before .curve-faults .ensures) at (c .before .before .before .option-rules .ensures))) (c .a-priced .ensures)
+returns-2 c = priced-served _ _ (c .before .enum-told .given .1) (rw (c .before .before .before .before .curve-faults .ensures) at (c .before .before .before .option-rules .ensures)) (c .a-priced .ensures)
 
 pub A-spec : {M : Type 1} → statement M
 A-spec =

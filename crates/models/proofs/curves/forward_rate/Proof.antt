@@ -1,7 +1,7 @@
 -- `models::forward_rate` meets its contract: turned down by its rules, or what `forward_priced` finds. Assumes nothing.
 use borrow.Author.Needs.{needs}
 use Rattle.models.specs.Curves.{forwardOutcome}
-use Rattle.lists.proofs.Outcomes.{turned-down, let-through}
+use Rattle.lists.proofs.Outcomes.{priced-refused, priced-served}
 use Rattle.lists.proofs.Refusing.{rises}
 use Rattle.models.proofs.curves.forward_rate.Statement.{statement}
 use Rattle.models.proofs.curves.forward_rate.Tie as tie
@@ -23,11 +23,11 @@ forward-priced-requires c κs = rises _ _ _ _ _ (c .before .before .before .curv
 
 returns : tie.Need-returns
 unfolding forwardOutcome
-returns c = rw (turned-down _ _ (c .before .answer .given .1) (rw (c .before .before .before .before .curve-faults .ensures) at (c .before .before .before .forward-rules .ensures)))
+returns c = priced-refused _ _ (c .before .answer .given .1) (rw (c .before .before .before .before .curve-faults .ensures) at (c .before .before .before .forward-rules .ensures))
 
 returns-2 : tie.Need-returns-2
 unfolding forwardOutcome
-returns-2 c = rw (let-through _ _ (c .before .enum-told .given .1) (rw (c .before .before .before .before .curve-faults .ensures) at (c .before .before .before .forward-rules .ensures))) (c .forward-priced .ensures)
+returns-2 c = priced-served _ _ (c .before .enum-told .given .1) (rw (c .before .before .before .before .curve-faults .ensures) at (c .before .before .before .forward-rules .ensures)) (c .forward-priced .ensures)
 
 pub forward-rate-spec : {M : Type 1} → statement M
 forward-rate-spec =

@@ -3,7 +3,7 @@ use mathlib.Core.Path.{ap, _∙_}
 use borrow.Author.Needs.{needs}
 use Rattle.lists.specs.Refusals.{finishing}
 use Rattle.models.specs.Curves.{shortRateVarianceOutcome}
-use Rattle.lists.proofs.Outcomes.{turned-down, let-through}
+use Rattle.lists.proofs.Outcomes.{priced-refused, priced-served}
 use Rattle.models.proofs.curves.short_rate_variance.Statement.{statement}
 use Rattle.models.proofs.curves.short_rate_variance.Tie as tie
 
@@ -27,11 +27,11 @@ served-requires c κs = search needs
 
 returns : tie.Need-returns
 unfolding shortRateVarianceOutcome
-returns c = rw (turned-down _ _ (c .before .answer .given .1) (rw (c .before .before .before .before .no-faults .ensures) at (c .before .before .before .option-rules .ensures)))
+returns c = priced-refused _ _ (c .before .answer .given .1) (rw (c .before .before .before .before .no-faults .ensures) at (c .before .before .before .option-rules .ensures))
 
 returns-2 : tie.Need-returns-2
 unfolding shortRateVarianceOutcome
-returns-2 c = rw (let-through _ _ (c .before .before .enum-told .given .1) (rw (c .before .before .before .before .before .no-faults .ensures) at (c .before .before .before .before .option-rules .ensures))) (c .served .ensures ∙ ap finishing (c .before .short-rate-variance-of .ensures))
+returns-2 c = priced-served _ _ (c .before .before .enum-told .given .1) (rw (c .before .before .before .before .before .no-faults .ensures) at (c .before .before .before .before .option-rules .ensures)) (c .served .ensures ∙ ap finishing (c .before .short-rate-variance-of .ensures))
 
 pub short-rate-variance-spec : {M : Type 1} → statement M
 short-rate-variance-spec =

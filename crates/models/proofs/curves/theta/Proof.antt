@@ -1,7 +1,7 @@
 -- `models::theta` meets its contract: turned down by its rules, or what `theta_priced` finds. Assumes nothing.
 use borrow.Author.Needs.{needs}
 use Rattle.models.specs.Curves.{thetaOutcome}
-use Rattle.lists.proofs.Outcomes.{turned-down, let-through}
+use Rattle.lists.proofs.Outcomes.{priced-refused, priced-served}
 use Rattle.lists.proofs.Refusing.{rises}
 use Rattle.models.proofs.curves.theta.Statement.{statement}
 use Rattle.models.proofs.curves.theta.Tie as tie
@@ -23,11 +23,11 @@ theta-priced-requires c κs = rises _ _ _ _ _ (c .before .before .before .curve-
 
 returns : tie.Need-returns
 unfolding thetaOutcome
-returns c = rw (turned-down _ _ (c .before .answer .given .1) (rw (c .before .before .before .before .curve-faults .ensures) at (c .before .before .before .theta-rules .ensures)))
+returns c = priced-refused _ _ (c .before .answer .given .1) (rw (c .before .before .before .before .curve-faults .ensures) at (c .before .before .before .theta-rules .ensures))
 
 returns-2 : tie.Need-returns-2
 unfolding thetaOutcome
-returns-2 c = rw (let-through _ _ (c .before .enum-told .given .1) (rw (c .before .before .before .before .curve-faults .ensures) at (c .before .before .before .theta-rules .ensures))) (c .theta-priced .ensures)
+returns-2 c = priced-served _ _ (c .before .enum-told .given .1) (rw (c .before .before .before .before .curve-faults .ensures) at (c .before .before .before .theta-rules .ensures)) (c .theta-priced .ensures)
 
 pub theta-spec : {M : Type 1} → statement M
 theta-spec =

@@ -1,7 +1,7 @@
 -- `models::zcb_price` meets its contract: turned down by its rules, or what `zcb_priced` finds. Assumes nothing.
 use borrow.Author.Needs.{needs}
 use Rattle.models.specs.Curves.{zcbOutcome}
-use Rattle.lists.proofs.Outcomes.{turned-down, let-through}
+use Rattle.lists.proofs.Outcomes.{priced-refused, priced-served}
 use Rattle.lists.proofs.Refusing.{rises}
 use Rattle.models.proofs.curves.zcb_price.Statement.{statement}
 use Rattle.models.proofs.curves.zcb_price.Tie as tie
@@ -23,11 +23,11 @@ zcb-priced-requires c κs = rises _ _ _ _ _ (c .before .before .before .curve-fa
 
 returns : tie.Need-returns
 unfolding zcbOutcome
-returns c = rw (turned-down _ _ (c .before .answer .given .1) (rw (c .before .before .before .before .curve-faults .ensures) at (c .before .before .before .option-rules .ensures)))
+returns c = priced-refused _ _ (c .before .answer .given .1) (rw (c .before .before .before .before .curve-faults .ensures) at (c .before .before .before .option-rules .ensures))
 
 returns-2 : tie.Need-returns-2
 unfolding zcbOutcome
-returns-2 c = rw (let-through _ _ (c .before .enum-told .given .1) (rw (c .before .before .before .before .curve-faults .ensures) at (c .before .before .before .option-rules .ensures))) (c .zcb-priced .ensures)
+returns-2 c = priced-served _ _ (c .before .enum-told .given .1) (rw (c .before .before .before .before .curve-faults .ensures) at (c .before .before .before .option-rules .ensures)) (c .zcb-priced .ensures)
 
 pub zcb-price-spec : {M : Type 1} → statement M
 zcb-price-spec =

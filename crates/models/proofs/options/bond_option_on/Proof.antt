@@ -1,7 +1,7 @@
 -- `models::bond_option_on` meets its contract: turned down by its rules, or what `bond_option_priced` finds. Assumes nothing.
 use borrow.Author.Needs.{needs}
 use Rattle.models.specs.Options.{bondOptionOutcome}
-use Rattle.lists.proofs.Outcomes.{turned-down, let-through}
+use Rattle.lists.proofs.Outcomes.{priced-refused, priced-served}
 use Rattle.lists.proofs.Refusing.{rises}
 use Rattle.models.proofs.options.bond_option_on.Statement.{statement}
 use Rattle.models.proofs.options.bond_option_on.Tie as tie
@@ -20,11 +20,11 @@ bond-option-priced-requires c κs = rises _ _ _ _ _ (c .before .before .before .
 
 returns : tie.Need-returns
 unfolding bondOptionOutcome
-returns c = rw (turned-down _ _ (c .before .answer .given .1) (rw (c .before .before .before .before .before .before .pre) at (c .before .before .before .option-rules .ensures)))
+returns c = priced-refused _ _ (c .before .answer .given .1) (rw (c .before .before .before .before .before .before .pre) at (c .before .before .before .option-rules .ensures))
 
 returns-2 : tie.Need-returns-2
 unfolding bondOptionOutcome
-returns-2 c = rw (let-through _ _ (c .before .enum-told .given .1) (rw (c .before .before .before .before .before .before .pre) at (c .before .before .before .option-rules .ensures))) (c .bond-option-priced .ensures)
+returns-2 c = priced-served _ _ (c .before .enum-told .given .1) (rw (c .before .before .before .before .before .before .pre) at (c .before .before .before .option-rules .ensures)) (c .bond-option-priced .ensures)
 
 pub bond-option-on-spec : {M : Type 1} → statement M
 bond-option-on-spec =

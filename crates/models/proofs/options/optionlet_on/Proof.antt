@@ -1,7 +1,7 @@
 -- `models::optionlet_on` meets its contract: turned down by its rules, or what `optionlet_priced` finds. Assumes nothing.
 use borrow.Author.Needs.{needs}
 use Rattle.models.specs.Options.{optionletOutcome}
-use Rattle.lists.proofs.Outcomes.{turned-down, let-through}
+use Rattle.lists.proofs.Outcomes.{priced-refused, priced-served}
 use Rattle.lists.proofs.Refusing.{rises}
 use Rattle.models.proofs.options.optionlet_on.Statement.{statement}
 use Rattle.models.proofs.options.optionlet_on.Tie as tie
@@ -20,11 +20,11 @@ optionlet-priced-requires c κs = rises _ _ _ _ _ (c .before .before .before .be
 
 returns : tie.Need-returns
 unfolding optionletOutcome
-returns c = rw (turned-down _ _ (c .before .answer .given .1) (rw (c .before .before .before .before .before .before .pre) at (c .before .before .before .option-rules .ensures)))
+returns c = priced-refused _ _ (c .before .answer .given .1) (rw (c .before .before .before .before .before .before .pre) at (c .before .before .before .option-rules .ensures))
 
 returns-2 : tie.Need-returns-2
 unfolding optionletOutcome
-returns-2 c = rw (let-through _ _ (c .before .enum-told .given .1) (rw (c .before .before .before .before .before .before .pre) at (c .before .before .before .option-rules .ensures))) (c .optionlet-priced .ensures)
+returns-2 c = priced-served _ _ (c .before .enum-told .given .1) (rw (c .before .before .before .before .before .before .pre) at (c .before .before .before .option-rules .ensures)) (c .optionlet-priced .ensures)
 
 pub optionlet-on-spec : {M : Type 1} → statement M
 optionlet-on-spec =

@@ -1,7 +1,7 @@
 -- `quotes::annuity` meets its contract: turned down by its rules, or what `annuity_priced` finds. Assumes nothing.
 use borrow.Author.Needs.{needs}
 use Rattle.quotes.specs.Utils.{annuityOutcome}
-use Rattle.lists.proofs.Outcomes.{turned-down, let-through}
+use Rattle.lists.proofs.Outcomes.{priced-refused, priced-served}
 use Rattle.lists.proofs.Refusing.{rises}
 use Rattle.quotes.proofs.utils.annuity.Statement.{statement}
 use Rattle.quotes.proofs.utils.annuity.Tie as tie
@@ -26,11 +26,11 @@ annuity-priced-requires c κs = rises _ _ _ _ _ (c .before .before .before .befo
 
 returns : tie.Need-returns
 unfolding annuityOutcome
-returns c = rw (turned-down _ _ (c .before .answer .given .1) (rw (c .before .before .before .before .before .curve-faults .ensures, c .before .before .before .before .coupon-faults .ensures) at (c .before .before .before .annuity-rules .ensures)))
+returns c = priced-refused _ _ (c .before .answer .given .1) (rw (c .before .before .before .before .before .curve-faults .ensures, c .before .before .before .before .coupon-faults .ensures) at (c .before .before .before .annuity-rules .ensures))
 
 returns-2 : tie.Need-returns-2
 unfolding annuityOutcome
-returns-2 c = rw (let-through _ _ (c .before .enum-told .given .1) (rw (c .before .before .before .before .before .curve-faults .ensures, c .before .before .before .before .coupon-faults .ensures) at (c .before .before .before .annuity-rules .ensures))) (c .annuity-priced .ensures)
+returns-2 c = priced-served _ _ (c .before .enum-told .given .1) (rw (c .before .before .before .before .before .curve-faults .ensures, c .before .before .before .before .coupon-faults .ensures) at (c .before .before .before .annuity-rules .ensures)) (c .annuity-priced .ensures)
 
 pub annuity-spec : {M : Type 1} → statement M
 annuity-spec =

@@ -3,7 +3,7 @@ use mathlib.Core.Path.{ap, _∙_}
 use borrow.Author.Needs.{needs}
 use Rattle.lists.specs.Refusals.{finishing}
 use Rattle.quotes.specs.Utils.{bachelierCallOutcome}
-use Rattle.lists.proofs.Outcomes.{turned-down, let-through}
+use Rattle.lists.proofs.Outcomes.{priced-refused, priced-served}
 use Rattle.quotes.proofs.utils.bachelier_call.Statement.{statement}
 use Rattle.quotes.proofs.utils.bachelier_call.Tie as tie
 
@@ -24,11 +24,11 @@ served-requires c κs = search needs
 
 returns : tie.Need-returns
 unfolding bachelierCallOutcome
-returns c = rw (turned-down _ _ (c .before .answer .given .1) (c .before .before .before .quote-rules .ensures))
+returns c = priced-refused _ _ (c .before .answer .given .1) (c .before .before .before .quote-rules .ensures)
 
 returns-2 : tie.Need-returns-2
 unfolding bachelierCallOutcome
-returns-2 c = rw (let-through _ _ (c .before .before .enum-told .given .1) (c .before .before .before .before .quote-rules .ensures)) (c .served .ensures ∙ ap finishing (c .before .bachelier-call-of .ensures))
+returns-2 c = priced-served _ _ (c .before .before .enum-told .given .1) (c .before .before .before .before .quote-rules .ensures) (c .served .ensures ∙ ap finishing (c .before .bachelier-call-of .ensures))
 
 pub bachelier-call-spec : {M : Type 1} → statement M
 bachelier-call-spec =

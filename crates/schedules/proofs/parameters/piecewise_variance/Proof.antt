@@ -3,7 +3,7 @@ use mathlib.Core.Path.{ap, _∙_}
 use borrow.Author.Needs.{needs}
 use Rattle.lists.specs.Refusals.{finishing}
 use Rattle.schedules.specs.Parameters.{varianceOutcome}
-use Rattle.lists.proofs.Outcomes.{turned-down, let-through}
+use Rattle.lists.proofs.Outcomes.{priced-refused, priced-served}
 use Rattle.schedules.proofs.parameters.piecewise_variance.Statement.{statement}
 use Rattle.schedules.proofs.parameters.piecewise_variance.Tie as tie
 
@@ -27,11 +27,11 @@ served-requires c κs = search needs
 
 returns : tie.Need-returns
 unfolding varianceOutcome
-returns c = rw (turned-down _ _ (c .before .answer .given .1) (rw (c .before .before .before .before .pillar-faults .ensures) at (c .before .before .before .variance-rules .ensures)))
+returns c = priced-refused _ _ (c .before .answer .given .1) (rw (c .before .before .before .before .pillar-faults .ensures) at (c .before .before .before .variance-rules .ensures))
 
 returns-2 : tie.Need-returns-2
 unfolding varianceOutcome
-returns-2 c = rw (let-through _ _ (c .before .before .enum-told .given .1) (rw (c .before .before .before .before .before .pillar-faults .ensures) at (c .before .before .before .before .variance-rules .ensures))) (c .served .ensures ∙ ap finishing (c .before .variance-of .ensures))
+returns-2 c = priced-served _ _ (c .before .before .enum-told .given .1) (rw (c .before .before .before .before .before .pillar-faults .ensures) at (c .before .before .before .before .variance-rules .ensures)) (c .served .ensures ∙ ap finishing (c .before .variance-of .ensures))
 
 pub piecewise-variance-spec : {M : Type 1} → statement M
 piecewise-variance-spec =

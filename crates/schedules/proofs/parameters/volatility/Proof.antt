@@ -1,7 +1,7 @@
 -- `schedules::volatility` meets its contract: turned down by its rules, or what `volatility_found` finds. Assumes nothing.
 use borrow.Author.Needs.{needs}
 use Rattle.schedules.specs.Parameters.{volatilityOutcome}
-use Rattle.lists.proofs.Outcomes.{turned-down, let-through}
+use Rattle.lists.proofs.Outcomes.{priced-refused, priced-served}
 use Rattle.schedules.proofs.parameters.volatility.Statement.{statement}
 use Rattle.schedules.proofs.parameters.volatility.Tie as tie
 
@@ -22,11 +22,11 @@ volatility-found-requires c κs = search needs
 
 returns : tie.Need-returns
 unfolding volatilityOutcome
-returns c = rw (turned-down _ _ (c .before .answer .given .1) (rw (c .before .before .before .before .pillar-faults .ensures) at (c .before .before .before .volatility-rules .ensures)))
+returns c = priced-refused _ _ (c .before .answer .given .1) (rw (c .before .before .before .before .pillar-faults .ensures) at (c .before .before .before .volatility-rules .ensures))
 
 returns-2 : tie.Need-returns-2
 unfolding volatilityOutcome
-returns-2 c = rw (let-through _ _ (c .before .enum-told .given .1) (rw (c .before .before .before .before .pillar-faults .ensures) at (c .before .before .before .volatility-rules .ensures))) (c .volatility-found .ensures)
+returns-2 c = priced-served _ _ (c .before .enum-told .given .1) (rw (c .before .before .before .before .pillar-faults .ensures) at (c .before .before .before .volatility-rules .ensures)) (c .volatility-found .ensures)
 
 pub volatility-spec : {M : Type 1} → statement M
 volatility-spec =
