@@ -8,5 +8,4 @@ pub mod Fused
 pub mod WholeRoot
 pub mod Sqrt
 -- for private functions' contracts only, as is `stickyRoot` at the end of WholeRoot
-pub mod Words
 pub mod Terms

@@ -1,0 +1,34 @@
+-- `significands::unpack::unpack` meets its contract. By whether the exponent's field is 0. Assumes nothing.
+use Prim.Native.Nat.{_+_, _*_, _^_}
+use native.Mathlib.Omega.{arith}
+use borrow.Author.Needs.{needs}
+use Rattle.significands.proofs.Unpacking.{unpacked}
+use Rattle.significands.proofs.unpack.unpack.Statement.{statement}
+use Rattle.significands.proofs.unpack.unpack.Tie as tie
+
+read-requires : tie.Need-read-requires
+read-requires c κs = search needs
+
+ordinary-requires : tie.Need-ordinary-requires
+ordinary-requires c κs = search needs
+
+returns : tie.Need-returns
+returns c =
+    let f = c .before .before .before .read in
+    let r = c .ordinary in
+    unpacked (c .before .before .before .before .args .x) (f .result .sign) (r .result .sign) ((f .result .digits + 2 ^ 52) * 2 ^ (f .result .exp + 63)) (r .result .sig) (r .result .exp)
+    (f .ensures .high (c .before .if1 .taken)) (r .ensures .0) (r .ensures .1) (r .ensures .2)
+
+normal-requires : tie.Need-normal-requires
+normal-requires c κs = search needs
+
+returns-2 : tie.Need-returns-2
+returns-2 c =
+    let f = c .before .before .before .read in
+    let r = c .normal in
+    unpacked (c .before .before .before .before .args .x) (f .result .sign) (r .result .sign) (f .result .digits * 2 ^ 64) (r .result .sig) (r .result .exp)
+    (f .ensures .low (omega (arith, c .before .if1 .left))) (r .ensures .0) (r .ensures .1) (r .ensures .2)
+
+pub unpack-spec : {M : Type 1} → statement M
+unpack-spec =
+    tie.close (tie.spec read-requires ordinary-requires returns normal-requires returns-2)

@@ -1,0 +1,3 @@
+-- What the contracts of `significands` say.
+pub mod Words
+pub mod Parts
