@@ -8,7 +8,7 @@ use lib.ListN.{length, drop, getD, drop-of-length-le}
 use lib.Seq.{drop-cons}
 use lib.Ieee.{Float, nan}
 use Rattle.ieee.specs.Rounded.{_⊖_, _⊗_, _⊘_}
-use Rattle.formulas.specs.Quotes.{annuityStep}
+use Rattle.quotes.specs.Formulas.{annuityStep}
 use Rattle.calibration.specs.declared.market.Quote.{Quote}
 use Rattle.calibration.specs.Market.{vanillaCallOf, annuityOnto, annuityOf, lastOf, swaptionMarketOf}
 

@@ -3,7 +3,7 @@ use mathlib.Core.List.{List, [], _∷_}
 use lib.Ieee.{Float}
 use Rattle.ieee.specs.Rounded.{_⊖_, _⊗_, _⊘_}
 use Rattle.ieee.specs.Numbers.{zero, one}
-use Rattle.formulas.specs.Quotes.{blackCallOf, bachelierCallOf, annuityStep}
+use Rattle.quotes.specs.Formulas.{blackCallOf, bachelierCallOf, annuityStep}
 use Rattle.calibration.specs.declared.market.Quote.{Quote}
 use Rattle.calibration.specs.declared.market.Quote.the-variants as Q
 

@@ -14,8 +14,8 @@ fn vanilla_call(quote: Quote, fwd: f64, strike: f64, vol: f64, tau: f64) -> f64
     ensures { λ r. ⌜ r ≡ vanillaCallOf quote fwd strike vol tau ⌝ }
 {
     match quote {
-        Quote::Black => formulas::black_call_of(fwd, strike, vol, tau),
-        Quote::Normal => formulas::bachelier_call_of(fwd, strike, vol, tau),
+        Quote::Black => quotes::black_call_of(fwd, strike, vol, tau),
+        Quote::Normal => quotes::bachelier_call_of(fwd, strike, vol, tau),
     }
 }
 
@@ -44,7 +44,7 @@ fn annuity(accruals: &[f64], p: &[f64]) -> f64
     let mut sum = 0.0;
     let mut i = 0;
     while i < accruals.len() {
-        sum = formulas::annuity_step(sum, accruals[i], p[i]);
+        sum = quotes::annuity_step(sum, accruals[i], p[i]);
         i += 1;
     }
     sum

@@ -7,7 +7,7 @@ use Rattle.ieee.specs.Decimal.{decimal}
 use Rattle.ieee.specs.Numbers.{two}
 use Rattle.elementary.specs.Simple.{absOf}
 use Rattle.elementary.specs.Exp.{expOf, expM1Of}
-use Rattle.formulas.specs.Variance.{weightOf}
+use Rattle.schedules.specs.Variance.{weightOf}
 use Rattle.pricers.specs.declared.bond_option.SwaptionType.{SwaptionType}
 use Rattle.pricers.specs.BondOption.{intrinsicOf, positiveOf, movingOf, bondOptionOf}
 

@@ -1,4 +1,2 @@
--- What the contracts of the formulas say, file by file of the Rust.
+-- What the contracts of the formulas say.
 pub mod HullWhite
-pub mod Quotes
-pub mod Variance

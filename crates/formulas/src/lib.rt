@@ -1,8 +1,6 @@
-// The formulas of the Hull-White model and of the market's quotes on plain numbers, as the Rust writes
-// them: every operation in its order, fused where it says mul_add. Nothing is refused here.
+// The formulas of the Hull-White model on plain numbers, as the Rust writes them: every operation in its
+// order, fused where it says mul_add. Nothing is refused here.
 mod hullwhite;
-mod parameters;
-mod quotes;
 
 pub use hullwhite::a_at;
 pub use hullwhite::a_of;
@@ -22,10 +20,3 @@ pub use hullwhite::theta_of;
 pub use hullwhite::volatility_at;
 pub use hullwhite::volatility_of;
 pub use hullwhite::zcb_of;
-pub use parameters::variance_of;
-pub use quotes::annuity_step;
-pub use quotes::bachelier_call_of;
-pub use quotes::black_call_of;
-pub use quotes::black_put_of;
-pub use quotes::d1_of;
-pub use quotes::d2_of;

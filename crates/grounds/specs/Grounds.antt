@@ -19,8 +19,8 @@ use Rattle.lists.specs.Lookups.{Maybe, just, nothing, factorAt, volatilityAt, r
 use Rattle.lists.specs.Checks.{allOf}
 use Rattle.lists.specs.declared.checks.Test.the-variants.{Finite}
 use Rattle.formulas.specs.HullWhite.{h, bOf, forwardOf, aOf, zcbOf, volatilityOf, slopeOf, thetaOf, shortRateVarianceOf, optionletStrikeOf, optionletOf}
-use Rattle.formulas.specs.Quotes.{d1Of, d2Of, blackCallOf, blackPutOf, bachelierCallOf, annuityStep}
-use Rattle.formulas.specs.Variance.{varianceOf}
+use Rattle.quotes.specs.Formulas.{d1Of, d2Of, blackCallOf, blackPutOf, bachelierCallOf, annuityStep}
+use Rattle.schedules.specs.Variance.{varianceOf}
 use Rattle.models.specs.declared.options.BondOption.{BondOption}
 use Rattle.quotes.specs.Utils.{d1d2Worked, d1d2Outcome, blackCallOutcome, blackPutOutcome, bachelierCallOutcome, annuityFrom, annuityPriced, annuityOutcome}
 use Rattle.models.specs.Options.{bondOptionOf, bondOptionPriced, bondOptionOutcome, optionletPriced, optionletOutcome}

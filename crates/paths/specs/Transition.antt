@@ -14,7 +14,7 @@ use Rattle.lists.specs.declared.curves.Faults.{Faults}
 use Rattle.lists.specs.declared.refusals.Refusal.the-variants as R
 use Rattle.lists.specs.Refusals.{Outcome, Rule, rule, unless}
 use Rattle.lists.specs.Faults.{pillarFaults}
-use Rattle.formulas.specs.Variance.{varianceOf}
+use Rattle.schedules.specs.Variance.{varianceOf}
 use Rattle.paths.specs.Written.{finishingList}
 
 -- rules 1 to 7, a line a rule. Rule 5: a step that is not above 0 ends at or before its start

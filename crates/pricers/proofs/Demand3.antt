@@ -18,7 +18,7 @@ use Rattle.lists.specs.Checks.{allOf}
 use Rattle.lists.specs.Lookups.{factorAt}
 use Rattle.lists.proofs.Outcomes.{not-both}
 use Rattle.formulas.specs.HullWhite.{h, forwardOf}
-use Rattle.formulas.specs.Variance.{varianceOf}
+use Rattle.schedules.specs.Variance.{varianceOf}
 use Rattle.search.specs.Sum.{couponSum}
 use Rattle.search.specs.Values.{Values}
 use Rattle.search.specs.Reached.{Unbracketed}

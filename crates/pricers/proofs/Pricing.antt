@@ -23,7 +23,7 @@ use Rattle.lists.specs.Faults.{curveFaults, pillarFaults, couponFaults}
 use Rattle.lists.proofs.Outcomes.{neither}
 use Rattle.lists.proofs.Laws.{curve-rises}
 use Rattle.formulas.specs.HullWhite.{h, forwardOf}
-use Rattle.formulas.specs.Variance.{varianceOf}
+use Rattle.schedules.specs.Variance.{varianceOf}
 use Rattle.search.specs.declared.Bracket.{Bracket}
 use Rattle.search.specs.declared.Critical.{Critical}
 use Rattle.search.specs.Sum.{couponSum, weightsOf, weightedSum}

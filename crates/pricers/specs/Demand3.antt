@@ -10,7 +10,7 @@ use Rattle.lists.specs.declared.refusals.Refusal.the-variants as R
 use Rattle.lists.specs.Refusals.{served, refused, firstOf}
 use Rattle.lists.specs.Lookups.{just, factorAt}
 use Rattle.formulas.specs.HullWhite.{h, forwardOf}
-use Rattle.formulas.specs.Variance.{varianceOf}
+use Rattle.schedules.specs.Variance.{varianceOf}
 use Rattle.search.specs.Sum.{couponSum}
 use Rattle.search.specs.Reached.{Unbracketed}
 use Rattle.search.specs.Facts.{Located}

@@ -15,7 +15,7 @@ use Rattle.lists.specs.Checks.{allOf}
 use Rattle.lists.specs.Lookups.{factorAt, needing}
 use Rattle.lists.specs.Faults.{curveFaults, pillarFaults, couponFaults}
 use Rattle.formulas.specs.HullWhite.{h, forwardOf}
-use Rattle.formulas.specs.Variance.{varianceOf}
+use Rattle.schedules.specs.Variance.{varianceOf}
 use Rattle.search.specs.Sum.{couponSum}
 use Rattle.search.specs.Rate.{criticalOf}
 use Rattle.search.specs.Values.{Values, noValues, criticalOutcome}

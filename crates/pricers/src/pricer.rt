@@ -222,7 +222,7 @@ fn pricer_priced(
     terms::coefficients(strike, accruals, &mut c[..n]);
     let mut b = [0.0; 64];
     terms::bs(alpha, t, payments, &mut b[..n]);
-    let state_variance = formulas::variance_of(alpha, pillars, sigmas, 0.0, t);
+    let state_variance = schedules::variance_of(alpha, pillars, sigmas, 0.0, t);
     let forward = formulas::forward_of(p_t, p_plus);
     let mut a = [0.0; 64];
     variance::affines(state_variance, forward, p_t, &b[..n], &p[..n], &mut a[..n]);

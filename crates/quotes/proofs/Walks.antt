@@ -8,7 +8,7 @@ use Rattle.lists.specs.declared.refusals.Refusal.the-variants as R
 use Rattle.lists.specs.Refusals.{refused, finishing}
 use Rattle.lists.specs.Lookups.{just, nothing, factorAt}
 use Rattle.lists.proofs.Walks.{next, done}
-use Rattle.formulas.specs.Quotes.{annuityStep}
+use Rattle.quotes.specs.Formulas.{annuityStep}
 use Rattle.quotes.specs.Utils.{annuityFrom}
 
 module _ (ts fs : List Float) (sum : Float) (ps xs : List Float) (i : ℕ) where

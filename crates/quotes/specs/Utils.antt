@@ -8,7 +8,7 @@ use Rattle.lists.specs.declared.refusals.Refusal.the-variants as R
 use Rattle.lists.specs.Refusals.{Outcome, served, refused, unless, finishing}
 use Rattle.lists.specs.Lookups.{factorAt, needing}
 use Rattle.lists.specs.Faults.{curveFaults, couponFaults}
-use Rattle.formulas.specs.Quotes.{d1Of, d2Of, blackCallOf, blackPutOf, bachelierCallOf, annuityStep}
+use Rattle.quotes.specs.Formulas.{d1Of, d2Of, blackCallOf, blackPutOf, bachelierCallOf, annuityStep}
 use Rattle.quotes.specs.declared.utils.Pair.{Pair}
 use Rattle.quotes.specs.declared.utils.Pair.the-variants as P
 use Rattle.quotes.specs.Rules.{quoteRules, annuityRules}

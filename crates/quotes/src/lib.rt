@@ -1,7 +1,11 @@
 // utils.rs as calls: a quoted volatility's price, Black's and Bachelier's, and the annuity.
+mod formulas;
 mod rules;
 mod utils;
 
+pub use formulas::annuity_step;
+pub use formulas::bachelier_call_of;
+pub use formulas::black_call_of;
 pub use utils::Pair;
 pub use utils::annuity;
 pub use utils::bachelier_call;

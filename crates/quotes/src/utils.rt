@@ -4,6 +4,7 @@ ghost use mathlib.Core.Bool.{true};
 ghost use Rattle.lists.specs.Checks.{inOrder};
 ghost use Rattle.lists.specs.Refusals.{Priced, outcomeOf, reported};
 ghost use Rattle.quotes.specs.Utils.{noTwo, pairOutcome, d1d2Worked, d1d2Outcome, blackCallOutcome, blackPutOutcome, bachelierCallOutcome, annuityPriced, annuityOutcome};
+use super::formulas;
 use super::rules;
 use lists::Answer;
 use lists::Found;

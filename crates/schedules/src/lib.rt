@@ -2,7 +2,9 @@
 // time.
 mod parameters;
 mod rules;
+mod variance;
 
 pub use parameters::piecewise_variance;
 pub use parameters::pillars_reached;
 pub use parameters::volatility;
+pub use variance::variance_of;

@@ -5,6 +5,7 @@ ghost use mathlib.Core.List.{[]};
 ghost use Rattle.lists.specs.Refusals.{Priced, outcomeOf, valueOr};
 ghost use Rattle.schedules.specs.Parameters.{volatilityFound, volatilityOutcome, reachedOutcome, SameAnswer, varianceOutcome};
 use super::rules;
+use super::variance;
 use lists::Answer;
 use lists::Found;
 use lists::Price;
@@ -51,6 +52,6 @@ pub fn piecewise_variance(alpha: f64, times: &[f64], sigmas: &[f64], start: f64,
     let answer = rules::variance_rules(pillars, alpha, start, end);
     match answer {
         Answer::Refused(refusal) => Price::Refused(refusal),
-        Answer::Served => { lists::served(formulas::variance_of(alpha, times, sigmas, start, end)) }
+        Answer::Served => { lists::served(variance::variance_of(alpha, times, sigmas, start, end)) }
     }
 }

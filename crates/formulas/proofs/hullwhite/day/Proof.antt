@@ -1,9 +1,14 @@
--- `formulas::day` meets its contract. Assumes nothing.
-use mathlib.Core.Path.{refl}
+-- `formulas::day` meets its contract: the code's literal is the decimal of specs/, which antt rounds. Assumes nothing.
+use mathlib.Core.Path.{_≡_, refl}
+use lib.Ieee.{binary64, ofBits}
+use Rattle.ieee.specs.Decimal.{decimal}
 use Rattle.formulas.specs.HullWhite.{h}
-use Rattle.formulas.proofs.Literals.{year-is}
 use Rattle.formulas.proofs.hullwhite.day.Statement.{statement}
 use Rattle.formulas.proofs.hullwhite.day.Tie as tie
+
+year-is : ofBits binary64 0x4076_d000_0000_0000 ≡ decimal 365 0
+unfolding ofBits decimal
+year-is = refl
 
 returns : tie.Need-returns
 unfolding h

@@ -1,3 +1,0 @@
--- What the functions' proofs cite.
-pub mod Literals
-pub mod Walks

@@ -1,0 +1,53 @@
+// utils.rs: the market's formulas for a quoted volatility, and the annuity.
+ghost use mathlib.Core.Path.{_≡_};
+ghost use Rattle.quotes.specs.Formulas.{d1Of, d2Of, blackCallOf, blackPutOf, bachelierCallOf, annuityStep};
+
+pub fn d1_of(fwd: f64, strike: f64, vol: f64, tau: f64) -> f64
+    ensures { λ r. ⌜ r ≡ d1Of fwd strike vol tau ⌝ }
+{
+    let sqrt_tau = ieee::sqrt(tau);
+    ieee::fused(
+        0.5 * vol,
+        sqrt_tau,
+        elementary::ln(fwd / strike) / (vol * sqrt_tau),
+    )
+}
+
+pub fn d2_of(vol: f64, tau: f64, d1: f64) -> f64
+    ensures { λ r. ⌜ r ≡ d2Of vol tau d1 ⌝ }
+{
+    ieee::fused(vol, -ieee::sqrt(tau), d1)
+}
+
+pub fn black_call_of(fwd: f64, strike: f64, vol: f64, tau: f64) -> f64
+    ensures { λ r. ⌜ r ≡ blackCallOf fwd strike vol tau ⌝ }
+{
+    let d1 = d1_of(fwd, strike, vol, tau);
+    let taken = strike * probability::norm_cdf(d2_of(vol, tau, d1));
+    ieee::fused(fwd, probability::norm_cdf(d1), -taken)
+}
+
+pub fn black_put_of(fwd: f64, strike: f64, vol: f64, tau: f64) -> f64
+    ensures { λ r. ⌜ r ≡ blackPutOf fwd strike vol tau ⌝ }
+{
+    let d1 = d1_of(fwd, strike, vol, tau);
+    let d2 = d2_of(vol, tau, d1);
+    let taken = fwd * probability::norm_cdf(-d1);
+    ieee::fused(strike, probability::norm_cdf(-d2), -taken)
+}
+
+pub fn bachelier_call_of(fwd: f64, strike: f64, vol: f64, tau: f64) -> f64
+    ensures { λ r. ⌜ r ≡ bachelierCallOf fwd strike vol tau ⌝ }
+{
+    let sigma_sqrt_tau = vol * ieee::sqrt(tau);
+    let d = (fwd - strike) / sigma_sqrt_tau;
+    let spread = sigma_sqrt_tau * elementary::norm_pdf(d);
+    ieee::fused(fwd - strike, probability::norm_cdf(d), spread)
+}
+
+// One coupon more of an annuity.
+pub fn annuity_step(annuity: f64, accrual: f64, factor: f64) -> f64
+    ensures { λ r. ⌜ r ≡ annuityStep annuity accrual factor ⌝ }
+{
+    ieee::fused(accrual, factor, annuity)
+}
