@@ -26,10 +26,10 @@ use Rattle.search.specs.Facts.{Located}
 use Rattle.search.proofs.Callers.{early, Late, past-rules, past-lookups, through-lookups, root-located, wants-bracket, no-bracket, ends-so, ends-otherwise}
 use Rattle.terms.specs.Terms.{coefficientsOf, bsOf, factorsAt}
 use Rattle.terms.proofs.Fetched.{off-curve}
-use Rattle.pricers.specs.declared.bond_option.SwaptionType.{SwaptionType}
-use Rattle.pricers.specs.Affine.{deviationOf, affinesOf}
-use Rattle.pricers.specs.Newton.{flatLimit, sumsOf, stepped}
-use Rattle.pricers.specs.Components.{componentsOf}
+use Rattle.closedform.specs.declared.bond_option.SwaptionType.{SwaptionType}
+use Rattle.closedform.specs.Affine.{deviationOf, affinesOf}
+use Rattle.closedform.specs.Newton.{flatLimit, sumsOf, stepped}
+use Rattle.closedform.specs.Components.{componentsOf}
 use Rattle.pricers.specs.Pricer.{Valued, finishingValuation, pricedBy, pricerPriced, rulesOn, pricerOutcome}
 use Rattle.pricers.specs.Demand3.{Begun, RootFound, WantsBracket}
 

@@ -16,7 +16,7 @@ use Rattle.search.specs.Reached.{Unbracketed}
 use Rattle.search.specs.Facts.{Located}
 use Rattle.terms.specs.Terms.{coefficientsOf, bsOf, factorsAt}
 use Rattle.pricers.specs.declared.pricer.Valuation.{Valuation}
-use Rattle.pricers.specs.Affine.{affinesOf}
+use Rattle.closedform.specs.Affine.{affinesOf}
 use Rattle.pricers.specs.Pricer.{Valued, valuationOutcome, rulesOn}
 
 -- the priced coupon sum, as a function of the rate, of a swaption whose factors at t, t + h and the payment times are pt, pPlus and ps

@@ -10,7 +10,7 @@ use Rattle.models.specs.declared.options.BondOption.the-variants.{Put, Call}
 use Rattle.models.specs.Options.{optionletOutcome, bondOptionOutcome}
 use Rattle.swaptions.specs.Price as Model
 use Rattle.swaptions.specs.Model.{modelOutcome}
-use Rattle.pricers.specs.declared.bond_option.SwaptionType.the-variants.{Payer, Receiver}
+use Rattle.closedform.specs.declared.bond_option.SwaptionType.the-variants.{Payer, Receiver}
 use Rattle.pricers.specs.Pricer as Pricer
 use Rattle.pricers.specs.Pricer.{pricerOutcome}
 use Rattle.bisection.specs.declared.result.Fit.{Fit}
