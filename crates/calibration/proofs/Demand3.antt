@@ -1,34 +1,29 @@
 -- Demand 3 of kinds 8 to 11, of the definitions: a fit that is served is assured, at every sigma that a swaption's fit tries the root is located, and one is refused for want of a bracket exactly where a search that it tries has none. Assumes nothing.
-use mathlib.Core.Path.{_≡_, refl, sym, ap, _∙_, subst}
+use mathlib.Core.Path.{_≡_, sym, ap, _∙_}
 use mathlib.Core.Logic.{_↔_}
 use mathlib.Core.List.{List, []}
 use lib.Dec.{T}
 use lib.Ieee.{Float}
-use Rattle.ieee.specs.Rounded.{_⊕_, _⊖_}
+use Rattle.ieee.specs.Rounded.{_⊕_}
 use Rattle.lists.specs.declared.refusals.Refusal.{Refusal}
 use Rattle.lists.specs.declared.refusals.Answer.the-variants as A
 use Rattle.lists.specs.declared.refusals.Refusal.the-variants as R
 use Rattle.lists.specs.Refusals.{Outcome, served, refused, firstOf, after, following}
 use Rattle.lists.specs.Lookups.{just, factorAt}
 use Rattle.lists.specs.Faults.{curveFaults}
-use Rattle.lists.proofs.Outcomes.{not-both, served-is}
-use Rattle.formulas.specs.HullWhite.{h, forwardOf, decayOf, deviationOf}
-use Rattle.search.specs.Values.{Values}
-use Rattle.search.specs.Reached.{Unbracketed}
-use Rattle.search.specs.Facts.{Located}
-use Rattle.search.proofs.Callers.{early, Late, past-rules, past-lookups, through-lookups, root-located, wants-bracket, no-bracket, ends-so, ends-otherwise}
-use Rattle.terms.specs.Terms.{coefficientsOf, bsOf, driftsOf, affinesOf, factorsAt}
+use Rattle.lists.proofs.Outcomes.{not-both}
+use Rattle.formulas.specs.HullWhite.{h}
+use Rattle.search.proofs.Callers.{early, Late, past-rules, past-lookups, through-lookups, ends-so, ends-otherwise}
+use Rattle.terms.specs.Terms.{factorsAt}
 use Rattle.terms.proofs.Fetched.{off-curve}
-use Rattle.swaptions.specs.Price.{Valued, putsOf, priceAt}
-use Rattle.swaptions.specs.Demand3.{sumOf}
 use Rattle.bisection.specs.declared.result.Fit.{Fit}
 use Rattle.bisection.specs.Result.{finishingFit}
 use Rattle.bisection.specs.Solve.{solveOf}
 use Rattle.bisection.proofs.Finishing.{allFinite}
 use Rattle.bisection.proofs.Demand3.{demand3}
-use Rattle.calibration.specs.declared.market.Quote.{Quote}
-use Rattle.calibration.specs.Market.{swaptionMarketOf}
-use Rattle.calibration.specs.Objective.{capletObjective, valueAlone, modelPriceAt, swaptionObjective}
+use Rattle.objectives.specs.declared.market.Quote.{Quote}
+use Rattle.objectives.specs.Objective.{capletObjective, swaptionObjective}
+use Rattle.objectives.proofs.Searches.{value-there, root-there, want-there, unbracketed-there, bracket-wanted}
 use Rattle.calibration.specs.Fits.{capletRules, swaptionRulesOn, capletFitted, capletFitOutcome, swaptionFitted, swaptionFitOutcome}
 use Rattle.calibration.specs.Demand3.{CapletAssured, Begun, RootAt, SwaptionAssured, WantsBracket}
 
@@ -87,57 +82,6 @@ module _ (quote : Quote) (alpha : Float) (ts fs : List Float) (strike t S vol : 
         let f = capletObjective quote alpha strike t S vol (b .pt) (b .pS) in
         let w = demand3 .no-bracket f .0 (finished-wanting (solveOf f) (b .goes-on)) in
         never (b .pt) (b .pS) (w .sigma) (w .there)
-
--- ---- a swaption's objective at a sigma, on its factors
-module _ (quote : Quote) (alpha : Float) (payments accruals : List Float) (strike t vol pt pPlus : Float) (ps : List Float) (sigma : Float) where
-  affs : List Float
-  affs = affinesOf alpha sigma (decayOf alpha t) (bsOf alpha t payments) (driftsOf (forwardOf pt pPlus) pt (bsOf alpha t payments) ps)
-
-  sum : Float → Float
-  sum = sumOf alpha t payments accruals strike sigma pt pPlus ps
-
-  valuedAt : Values → Outcome Valued
-  valuedAt root = served (record { value = putsOf sigma (deviationOf alpha t) pt (root .rate) (coefficientsOf strike accruals) affs (bsOf alpha t payments) ps; root = root })
-
-  abbrev price : Outcome Valued
-  price = modelPriceAt alpha payments accruals strike t pt pPlus ps sigma
-
-  abbrev objective : Outcome Float
-  objective = swaptionObjective quote alpha payments accruals strike t vol pt pPlus ps sigma
-
-  -- the price where the objective is served, and its root
-  value-there : {x : Float} → objective ≡ served x → (v : Valued) × (price ≡ served v)
-  unfolding swaptionObjective
-  value-there {x} e = go price refl e
-    where
-      go : (o : Outcome Valued) → price ≡ o → following (valueAlone o) (λ model. served (model ⊖ swaptionMarketOf quote strike t vol accruals pt ps)) ≡ served x → (v : Valued) × (price ≡ served v)
-      go (served v) p k = (v, p)
-      go (refused q) p k = absurd (not-both k)
-
-  root-there : (v : Valued) → price ≡ served v → Located (sumOf alpha t payments accruals strike sigma pt pPlus ps) (v .root)
-  unfolding modelPriceAt priceAt affs sum valuedAt
-  root-there v e =
-      let r = root-located sum valuedAt v e in
-      subst (Located sum) (ap (λ (u : Valued). u .root) (served-is (r .2))) (r .1)
-
-  -- refused for want of a bracket exactly where the search has none
-  want-there : objective ≡ refused R.NoBracket → price ≡ refused R.NoBracket
-  unfolding swaptionObjective
-  want-there e = go price e
-    where
-      go : (o : Outcome Valued) → following (valueAlone o) (λ model. served (model ⊖ swaptionMarketOf quote strike t vol accruals pt ps)) ≡ refused R.NoBracket → o ≡ refused R.NoBracket
-      go (served v) k = absurd (not-both (sym k))
-      go (refused q) k = let z : q ≡ R.NoBracket = cc in ap refused z
-
-  unbracketed-there : price ≡ refused R.NoBracket → Unbracketed (sumOf alpha t payments accruals strike sigma pt pPlus ps)
-  unfolding modelPriceAt priceAt affs sum valuedAt
-  unbracketed-there e = wants-bracket sum valuedAt (λ v k. not-both (sym k)) e
-
-  bracket-wanted : Unbracketed (sumOf alpha t payments accruals strike sigma pt pPlus ps) → objective ≡ refused R.NoBracket
-  unfolding swaptionObjective modelPriceAt priceAt affs sum valuedAt
-  bracket-wanted u =
-      let e : price ≡ refused R.NoBracket = no-bracket sum valuedAt u in
-      ap (λ (o : Outcome Valued). following (valueAlone o) (λ model. served (model ⊖ swaptionMarketOf quote strike t vol accruals pt ps))) e
 
 -- ---- swaptions
 module _ (quote : Quote) (alpha : Float) (ts fs payments accruals : List Float) (strike t vol : Float) where

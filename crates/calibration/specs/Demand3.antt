@@ -20,8 +20,8 @@ use Rattle.bisection.specs.declared.result.Fitted.{Fitted}
 use Rattle.bisection.specs.Result.{fittedOutcome}
 use Rattle.bisection.specs.Tried.{triedOf}
 use Rattle.bisection.specs.Demand3.{Assured}
-use Rattle.calibration.specs.declared.market.Quote.{Quote}
-use Rattle.calibration.specs.Objective.{capletObjective, modelPriceAt, swaptionObjective}
+use Rattle.objectives.specs.declared.market.Quote.{Quote}
+use Rattle.objectives.specs.Objective.{capletObjective, modelPriceAt, swaptionObjective}
 use Rattle.calibration.specs.Fits.{capletRules, swaptionRulesOn}
 
 -- ---- caplets

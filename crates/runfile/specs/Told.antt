@@ -14,7 +14,7 @@ use Rattle.closedform.specs.declared.bond_option.SwaptionType.the-variants.{Pay
 use Rattle.pricers.specs.Pricer as Pricer
 use Rattle.pricers.specs.Pricer.{pricerOutcome}
 use Rattle.bisection.specs.declared.result.Fit.{Fit}
-use Rattle.calibration.specs.declared.market.Quote.the-variants.{Black, Normal}
+use Rattle.objectives.specs.declared.market.Quote.the-variants.{Black, Normal}
 use Rattle.calibration.specs.Fits.{capletFitOutcome, swaptionFitOutcome}
 use Rattle.layout.specs.declared.records.Job.{Job}
 use Rattle.layout.specs.Request.{Request}

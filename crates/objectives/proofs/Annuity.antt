@@ -9,8 +9,8 @@ use lib.Seq.{drop-cons}
 use lib.Ieee.{Float, nan}
 use Rattle.ieee.specs.Rounded.{_⊖_, _⊗_, _⊘_}
 use Rattle.formulas.specs.Quotes.{annuityStep}
-use Rattle.calibration.specs.declared.market.Quote.{Quote}
-use Rattle.calibration.specs.Market.{vanillaCallOf, annuityOnto, annuityOf, lastOf, swaptionMarketOf}
+use Rattle.objectives.specs.declared.market.Quote.{Quote}
+use Rattle.objectives.specs.Market.{vanillaCallOf, annuityOnto, annuityOf, lastOf, swaptionMarketOf}
 
 module _ (accruals ps : List Float) (sum : Float) (i : ℕ) where
   pub annuity-on : (next : Float) → i < length accruals → i < length ps → next ≡ annuityStep sum (getD accruals i nan) (getD ps i nan)

@@ -5,7 +5,7 @@ ghost use Prim.Native.Nat.{_≤_};
 ghost use lib.ListN.{length};
 ghost use Rattle.lists.specs.Refusals.{outcomeOf};
 ghost use Rattle.bisection.specs.Solve.{residualAt};
-ghost use Rattle.calibration.specs.Objective.{capletAt, modelPriceOf, valueAlone, objectiveOf};
+ghost use Rattle.objectives.specs.Objective.{capletAt, modelPriceOf, valueAlone, objectiveOf};
 ghost use Rattle.swaptions.specs.Price.{swaptionOutcome};
 use lists::Price;
 use lists::Refusal;
@@ -51,8 +51,8 @@ fn caplet_at(
     formulas::optionlet_of(strike, t, end, put)
 }
 
-// The model price at a sigma. The lists are a swaption's coefficients, B, drifts and factors, of one length
-// of at most 64; a caplet has none.
+// The model price at a sigma. The lists are a swaption's coefficients, B, drifts and factors; a caplet has
+// none. `residual` has them of one length of at most 64.
 fn model_price(
     instrument: Instrument,
     c: &[f64],
@@ -104,7 +104,8 @@ fn value_of(swaption: Swaption) -> Price
     }
 }
 
-// The residual at a sigma, or why there is none: the model's refusal, or a NaN.
+// The residual at a sigma, or why there is none: the model's refusal, or a NaN. `calibration::solve` and its
+// halvings have the lists of one length of at most 64.
 pub fn residual(
     instrument: Instrument,
     market: f64,

@@ -1,10 +1,10 @@
--- `calibration::objective::model_price` meets its contract: each arm is what `modelPriceOf` says of its instrument. Assumes nothing.
+-- `objectives::objective::model_price` meets its contract: each arm is what `modelPriceOf` says of its instrument. Assumes nothing.
 use mathlib.Core.Path.{ap, _∙_}
 use Rattle.lists.specs.Refusals.{served}
-use Rattle.calibration.specs.Objective.{valueAlone, modelPriceOf}
+use Rattle.objectives.specs.Objective.{valueAlone, modelPriceOf}
 use borrow.Author.Needs.{needs}
-use Rattle.calibration.proofs.objective.model_price.Statement.{statement}
-use Rattle.calibration.proofs.objective.model_price.Tie as tie
+use Rattle.objectives.proofs.objective.model_price.Statement.{statement}
+use Rattle.objectives.proofs.objective.model_price.Tie as tie
 
 enum-known-instrument : tie.Need-enum-known-instrument
 enum-known-instrument c = search needs

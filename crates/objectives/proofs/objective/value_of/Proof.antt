@@ -1,7 +1,7 @@
--- `calibration::objective::value_of` meets its contract: each arm is what `valueAlone` says of it. Assumes nothing.
+-- `objectives::objective::value_of` meets its contract: each arm is what `valueAlone` says of it. Assumes nothing.
 use borrow.Author.Needs.{needs}
-use Rattle.calibration.proofs.objective.value_of.Statement.{statement}
-use Rattle.calibration.proofs.objective.value_of.Tie as tie
+use Rattle.objectives.proofs.objective.value_of.Statement.{statement}
+use Rattle.objectives.proofs.objective.value_of.Tie as tie
 
 enum-known-swaption : tie.Need-enum-known-swaption
 enum-known-swaption c = search needs

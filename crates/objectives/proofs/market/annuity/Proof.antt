@@ -1,12 +1,12 @@
--- `calibration::market::annuity` meets its contract. The loop's invariant: the coupons left, added to the sum so far, give the whole annuity. Assumes nothing.
+-- `objectives::market::annuity` meets its contract. The loop's invariant: the coupons left, added to the sum so far, give the whole annuity. Assumes nothing.
 use mathlib.Core.Path.{_≡_, refl, _∙_}
 use Prim.Native.Nat.{_-_, _≤_}
 use lib.ListN.{length, drop}
-use Rattle.calibration.specs.Market.{annuityOnto, annuityOf}
-use Rattle.calibration.proofs.Annuity.{annuity-on, annuity-done}
+use Rattle.objectives.specs.Market.{annuityOnto, annuityOf}
+use Rattle.objectives.proofs.Annuity.{annuity-on, annuity-done}
 use borrow.Author.Needs.{needs}
-use Rattle.calibration.proofs.market.annuity.Statement.{statement}
-use Rattle.calibration.proofs.market.annuity.Tie as tie
+use Rattle.objectives.proofs.market.annuity.Statement.{statement}
+use Rattle.objectives.proofs.market.annuity.Tie as tie
 
 abbrev Inv-loop : tie.InvT-loop
 Inv-loop accruals p sum₀ i₀ sum i = (i ≤ length accruals) × (annuityOnto sum (drop i accruals) (drop i p) ≡ annuityOf accruals p)

@@ -1,8 +1,8 @@
--- `calibration::market::swaption_market` meets its contract. Assumes nothing.
-use Rattle.calibration.proofs.Annuity.{last-is, market-is}
+-- `objectives::market::swaption_market` meets its contract. Assumes nothing.
+use Rattle.objectives.proofs.Annuity.{last-is, market-is}
 use borrow.Author.Needs.{needs}
-use Rattle.calibration.proofs.market.swaption_market.Statement.{statement}
-use Rattle.calibration.proofs.market.swaption_market.Tie as tie
+use Rattle.objectives.proofs.market.swaption_market.Statement.{statement}
+use Rattle.objectives.proofs.market.swaption_market.Tie as tie
 
 annuity-requires : tie.Need-annuity-requires
 annuity-requires c κs = search needs

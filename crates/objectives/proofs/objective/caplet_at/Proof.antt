@@ -1,8 +1,8 @@
--- `calibration::objective::caplet_at` meets its contract. Assumes nothing.
-use Rattle.calibration.specs.Objective.{capletAt}
+-- `objectives::objective::caplet_at` meets its contract. Assumes nothing.
+use Rattle.objectives.specs.Objective.{capletAt}
 use borrow.Author.Needs.{needs}
-use Rattle.calibration.proofs.objective.caplet_at.Statement.{statement}
-use Rattle.calibration.proofs.objective.caplet_at.Tie as tie
+use Rattle.objectives.proofs.objective.caplet_at.Statement.{statement}
+use Rattle.objectives.proofs.objective.caplet_at.Tie as tie
 
 volatility-at-requires : tie.Need-volatility-at-requires
 volatility-at-requires c κs = search needs

@@ -1,8 +1,8 @@
--- `calibration::objective::residual` meets its contract: the model's refusal, a NaN, or the residual. Assumes nothing.
-use Rattle.calibration.proofs.Residuals.{residual-refused, residual-nan, residual-there}
+-- `objectives::objective::residual` meets its contract: the model's refusal, a NaN, or the residual. Assumes nothing.
+use Rattle.objectives.proofs.Residuals.{residual-refused, residual-nan, residual-there}
 use borrow.Author.Needs.{needs}
-use Rattle.calibration.proofs.objective.residual.Statement.{statement}
-use Rattle.calibration.proofs.objective.residual.Tie as tie
+use Rattle.objectives.proofs.objective.residual.Statement.{statement}
+use Rattle.objectives.proofs.objective.residual.Tie as tie
 
 model-price-requires : tie.Need-model-price-requires
 model-price-requires c κs = search needs

@@ -2,7 +2,7 @@
 ghost use mathlib.Core.Path.{_≡_};
 ghost use Prim.Native.Nat.{_<_};
 ghost use lib.ListN.{length};
-ghost use Rattle.calibration.specs.Market.{vanillaCallOf, capletMarketOf, annuityOf, swaptionMarketOf};
+ghost use Rattle.objectives.specs.Market.{vanillaCallOf, capletMarketOf, annuityOf, swaptionMarketOf};
 
 // What a quoted volatility is one of.
 pub enum Quote {
@@ -51,7 +51,7 @@ fn annuity(accruals: &[f64], p: &[f64]) -> f64
 }
 
 // p_t is the factor at the option time, p those at the payment times; the swap ends at the last listed
-// payment. `swaption_worked` has the lists of one length, and rule 7 has a coupon.
+// payment. `calibration::swaption_worked` has the lists of one length, and by rule 7 a coupon.
 pub fn swaption_market(
     quote: Quote,
     strike: f64,

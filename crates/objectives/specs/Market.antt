@@ -4,8 +4,8 @@ use lib.Ieee.{Float}
 use Rattle.ieee.specs.Rounded.{_⊖_, _⊗_, _⊘_}
 use Rattle.ieee.specs.Numbers.{zero, one}
 use Rattle.formulas.specs.Quotes.{blackCallOf, bachelierCallOf, annuityStep}
-use Rattle.calibration.specs.declared.market.Quote.{Quote}
-use Rattle.calibration.specs.declared.market.Quote.the-variants as Q
+use Rattle.objectives.specs.declared.market.Quote.{Quote}
+use Rattle.objectives.specs.declared.market.Quote.the-variants as Q
 
 -- the undiscounted call of the quote's own formula
 abbrev pub vanillaCallOf : Quote → Float → Float → Float → Float → Float

@@ -1,8 +1,8 @@
--- `calibration::market::caplet_market` meets its contract. Assumes nothing.
-use Rattle.calibration.specs.Market.{capletMarketOf}
+-- `objectives::market::caplet_market` meets its contract. Assumes nothing.
+use Rattle.objectives.specs.Market.{capletMarketOf}
 use borrow.Author.Needs.{needs}
-use Rattle.calibration.proofs.market.caplet_market.Statement.{statement}
-use Rattle.calibration.proofs.market.caplet_market.Tie as tie
+use Rattle.objectives.proofs.market.caplet_market.Statement.{statement}
+use Rattle.objectives.proofs.market.caplet_market.Tie as tie
 
 vanilla-call-requires : tie.Need-vanilla-call-requires
 vanilla-call-requires c κs = search needs

@@ -6,10 +6,10 @@ use Rattle.lists.specs.Refusals.{Outcome, served, following}
 use Rattle.formulas.specs.HullWhite.{forwardOf, decayOf, deviationOf, volatilityAt, volatilityOf, bondPutOf, optionletStrikeOf, optionletOf}
 use Rattle.terms.specs.Terms.{coefficientsOf, bsOf, driftsOf}
 use Rattle.swaptions.specs.Price.{Valued, priceAt}
-use Rattle.calibration.specs.declared.market.Quote.{Quote}
-use Rattle.calibration.specs.declared.objective.Instrument.{Instrument}
-use Rattle.calibration.specs.declared.objective.Instrument.the-variants as I
-use Rattle.calibration.specs.Market.{capletMarketOf, swaptionMarketOf}
+use Rattle.objectives.specs.declared.market.Quote.{Quote}
+use Rattle.objectives.specs.declared.objective.Instrument.{Instrument}
+use Rattle.objectives.specs.declared.objective.Instrument.the-variants as I
+use Rattle.objectives.specs.Market.{capletMarketOf, swaptionMarketOf}
 
 -- ---- by document 01
 

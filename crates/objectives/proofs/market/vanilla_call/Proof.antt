@@ -1,7 +1,7 @@
--- `calibration::market::vanilla_call` meets its contract: each arm is what `vanillaCallOf` says of its quote. Assumes nothing.
+-- `objectives::market::vanilla_call` meets its contract: each arm is what `vanillaCallOf` says of its quote. Assumes nothing.
 use borrow.Author.Needs.{needs}
-use Rattle.calibration.proofs.market.vanilla_call.Statement.{statement}
-use Rattle.calibration.proofs.market.vanilla_call.Tie as tie
+use Rattle.objectives.proofs.market.vanilla_call.Statement.{statement}
+use Rattle.objectives.proofs.market.vanilla_call.Tie as tie
 
 enum-told : tie.Need-enum-told
 enum-told c = search needs
