@@ -2,20 +2,15 @@
 use mathlib.Core.Path.{_≡_, sym, ap, _∙_}
 use mathlib.Core.Logic.{_↔_}
 use mathlib.Core.List.{List, []}
-use lib.Dec.{T}
 use lib.Ieee.{Float}
-use Rattle.ieee.specs.Rounded.{_⊕_}
-use Rattle.lists.specs.declared.refusals.Refusal.{Refusal}
 use Rattle.lists.specs.declared.refusals.Answer.the-variants as A
 use Rattle.lists.specs.declared.refusals.Refusal.the-variants as R
-use Rattle.lists.specs.Refusals.{Outcome, served, refused, firstOf, after, following}
+use Rattle.lists.specs.Refusals.{Outcome, served, refused, firstOf, following}
 use Rattle.lists.specs.Lookups.{just, factorAt}
 use Rattle.lists.specs.Faults.{curveFaults}
 use Rattle.lists.proofs.Outcomes.{not-both}
-use Rattle.formulas.specs.HullWhite.{h}
-use Rattle.search.proofs.Callers.{early, Late, past-rules, past-lookups, through-lookups, ends-so, ends-otherwise}
-use Rattle.terms.specs.Terms.{factorsAt}
-use Rattle.terms.proofs.Fetched.{off-curve}
+use Rattle.search.proofs.Callers.{Late, past-rules, past-lookups, ends-so, ends-otherwise}
+use Rattle.terms.proofs.Begun.{Searches, searches, begins}
 use Rattle.bisection.specs.declared.result.Fit.{Fit}
 use Rattle.bisection.specs.Result.{finishingFit}
 use Rattle.bisection.specs.Solve.{solveOf}
@@ -25,7 +20,7 @@ use Rattle.objectives.specs.declared.market.Quote.{Quote}
 use Rattle.objectives.specs.Objective.{capletObjective, swaptionObjective}
 use Rattle.objectives.proofs.Searches.{value-there, root-there, want-there, unbracketed-there, bracket-wanted}
 use Rattle.calibration.specs.Fits.{capletRules, swaptionRulesOn, capletFitted, capletFitOutcome, swaptionFitted, swaptionFitOutcome}
-use Rattle.calibration.specs.Demand3.{CapletAssured, Begun, RootAt, SwaptionAssured, WantsBracket}
+use Rattle.calibration.specs.Demand3.{CapletAssured, FitBegun, RootAt, SwaptionAssured, WantsBracket}
 
 -- ---- rule 13 after a fit: it is the fit itself that is served, and no other refusal is put for the fit's own
 finished-served : (o : Outcome Fit) (fit : Fit) → following o finishingFit ≡ served fit → o ≡ served fit
@@ -85,38 +80,23 @@ module _ (quote : Quote) (alpha : Float) (ts fs : List Float) (strike t S vol : 
 
 -- ---- swaptions
 module _ (quote : Quote) (alpha : Float) (ts fs payments accruals : List Float) (strike t vol : Float) where
-  fetch-early : (q : Refusal) → factorsAt ts fs payments ≡ refused q → T (early q)
-  fetch-early q e = rw (off-curve ts fs payments q e) tt
-
   abbrev objectiveOn : Float → Float → List Float → Float → Outcome Float
   objectiveOn pt pPlus ps = swaptionObjective quote alpha payments accruals strike t vol pt pPlus ps
 
   abbrev swaptionOn : Float → Float → List Float → Outcome Fit
   swaptionOn pt pPlus ps = following (solveOf (objectiveOn pt pPlus ps)) finishingFit
 
-  record Fits (o : Outcome Fit) : Type 0 where
-    begun : Begun quote alpha ts fs payments accruals strike t vol
-    goes-on : swaptionOn (begun .pt) (begun .pPlus) (begun .ps) ≡ o
-
-  fits : (o : Outcome Fit) → Late o → swaptionFitOutcome quote alpha ts fs payments accruals strike t vol ≡ o → Fits o
+  fits : (o : Outcome Fit) → Late o → swaptionFitOutcome quote alpha ts fs payments accruals strike t vol ≡ o → Searches (swaptionRulesOn quote alpha ts fs payments accruals strike t vol) ts fs payments t swaptionOn o
   unfolding swaptionFitOutcome swaptionFitted
-  fits o late e =
-      let p = past-rules o late (swaptionRulesOn quote alpha ts fs payments accruals strike t vol) (swaptionFitted quote alpha ts fs payments accruals strike t vol) tt e in
-      let r = past-lookups (factorAt ts fs t) (factorAt ts fs (t ⊕ h)) (factorsAt ts fs payments) swaptionOn o late fetch-early (p .1) in
-      record {
-        begun = record { passed = p .0; pt = r .pt; pPlus = r .pPlus; ps = r .ps; at-option = r .at-option; day-after = r .day-after; at-payments = r .at-payments };
-        goes-on = r .goes-on;
-      }
+  fits o late e = searches (swaptionRulesOn quote alpha ts fs payments accruals strike t vol) ts fs payments t swaptionOn tt o late e
 
   -- a fit that is begun is what the call comes to
-  begins : (b : Begun quote alpha ts fs payments accruals strike t vol) → swaptionFitOutcome quote alpha ts fs payments accruals strike t vol ≡ swaptionOn (b .pt) (b .pPlus) (b .ps)
+  fit-begins : (b : FitBegun quote alpha ts fs payments accruals strike t vol) → swaptionFitOutcome quote alpha ts fs payments accruals strike t vol ≡ swaptionOn (b .pt) (b .pPlus) (b .ps)
   unfolding swaptionFitOutcome swaptionFitted
-  begins b =
-      ap (λ a. after a (swaptionFitted quote alpha ts fs payments accruals strike t vol)) (b .passed)
-      ∙ through-lookups (factorAt ts fs t) (factorAt ts fs (t ⊕ h)) (factorsAt ts fs payments) swaptionOn (b .at-option) (b .day-after) (b .at-payments)
+  fit-begins b = begins (swaptionRulesOn quote alpha ts fs payments accruals strike t vol) ts fs payments t swaptionOn b
 
   -- the search at a sigma where the objective is served
-  root-at : (b : Begun quote alpha ts fs payments accruals strike t vol) (sigma x : Float) → objectiveOn (b .pt) (b .pPlus) (b .ps) sigma ≡ served x → RootAt quote alpha ts fs payments accruals strike t vol b sigma
+  root-at : (b : FitBegun quote alpha ts fs payments accruals strike t vol) (sigma x : Float) → objectiveOn (b .pt) (b .pPlus) (b .ps) sigma ≡ served x → RootAt quote alpha ts fs payments accruals strike t vol b sigma
   root-at b sigma x e =
       let r = value-there quote alpha payments accruals strike t vol (b .pt) (b .pPlus) (b .ps) sigma e in
       record { valued = r .0; price = r .1; located = root-there quote alpha payments accruals strike t vol (b .pt) (b .pPlus) (b .ps) sigma (r .0) (r .1) }
@@ -153,4 +133,4 @@ module _ (quote : Quote) (alpha : Float) (ts fs payments accruals : List Float) 
             let f = objectiveOn (b .pt) (b .pPlus) (b .ps) in
             let e = bracket-wanted quote alpha payments accruals strike t vol (b .pt) (b .pPlus) (b .ps) (w .sigma) (w .unbracketed) in
             let k = demand3 .no-bracket f .1 (record { sigma = w .sigma; tried = w .tried; there = e }) in
-            is ∙ begins b ∙ ap (λ (x : Outcome Fit). following x finishingFit) k
+            is ∙ fit-begins b ∙ ap (λ (x : Outcome Fit). following x finishingFit) k
