@@ -13,7 +13,7 @@ use Rattle.bisection.specs.declared.result.Fit.{Fit}
 use Rattle.bisection.specs.declared.result.Fitted.{Fitted}
 use Rattle.bisection.specs.declared.result.Fitted.the-variants as F
 use Rattle.bisection.specs.Result.{fittedOutcome}
-use Rattle.calibration.specs.declared.market.Quote.{Quote}
+use Rattle.objectives.specs.declared.market.Quote.{Quote}
 use Rattle.calibration.specs.Fits.{capletFitted}
 use Rattle.baskets.specs.Entries.{quoteOf, entriesOf}
 use Rattle.baskets.specs.Basket.{statusOf, countOf, Records, withFit, fitsOf}

@@ -19,8 +19,8 @@ use Rattle.bisection.specs.Solve.{solveOf}
 use Rattle.bisection.specs.Demand3.{Assured}
 use Rattle.bisection.proofs.Finishing.{allFinite}
 use Rattle.bisection.proofs.Demand3.{demand3}
-use Rattle.calibration.specs.declared.market.Quote.{Quote}
-use Rattle.calibration.specs.Objective.{capletObjective}
+use Rattle.objectives.specs.declared.market.Quote.{Quote}
+use Rattle.objectives.specs.Objective.{capletObjective}
 use Rattle.calibration.specs.Fits.{capletFitted}
 use Rattle.baskets.specs.Entries.{Entry}
 use Rattle.baskets.specs.Basket.{fitOf}

@@ -9,7 +9,7 @@ use lib.Seq.{append-snoc, drop-cons, take-suc-set}
 use lib.Ieee.{Float, nan, le}
 use Rattle.ieee.specs.Numbers as Numbers
 use Rattle.lists.proofs.Walks.{next, done}
-use Rattle.calibration.specs.declared.market.Quote.{Quote}
+use Rattle.objectives.specs.declared.market.Quote.{Quote}
 use Rattle.calibration.specs.Fits.{strikeWrong}
 use Rattle.baskets.specs.Entries.{Entry, quoteOf, entriesOf, timesWrong, domainWrong}
 

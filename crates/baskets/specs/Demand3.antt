@@ -13,7 +13,7 @@ use Rattle.lists.specs.Refusals.{served}
 use Rattle.lists.specs.Lookups.{just, factorAt}
 use Rattle.bisection.specs.declared.result.Fit.{Fit}
 use Rattle.bisection.specs.Demand3.{Assured}
-use Rattle.calibration.specs.Objective.{capletObjective}
+use Rattle.objectives.specs.Objective.{capletObjective}
 use Rattle.baskets.specs.declared.call.Basket.{Basket}
 use Rattle.baskets.specs.declared.call.BasketFit.{BasketFit}
 use Rattle.baskets.specs.Entries.{Entry, entriesOf}

@@ -12,8 +12,8 @@ use Rattle.lists.specs.declared.refusals.Refusal.the-variants as R
 use Rattle.lists.specs.Refusals.{Rule, rule}
 use Rattle.lists.specs.Checks.{allOf}
 use Rattle.lists.specs.Faults.{curveFaults}
-use Rattle.calibration.specs.declared.market.Quote.{Quote}
-use Rattle.calibration.specs.declared.market.Quote.the-variants as Q
+use Rattle.objectives.specs.declared.market.Quote.{Quote}
+use Rattle.objectives.specs.declared.market.Quote.the-variants as Q
 use Rattle.calibration.specs.Fits.{strikeWrong}
 
 pub record Entry : Type 0 where

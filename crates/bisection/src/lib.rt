@@ -1,5 +1,5 @@
 // bisection.rs: the parts of a volatility fit that know no instrument. The loop itself is in `calibration`,
-// beside the objective it asks.
+// and the objective it asks in `objectives`.
 mod halving;
 mod result;
 

@@ -1,36 +1,26 @@
 -- Demand 3 of kinds 8 to 11, of the definitions: a fit that is served is assured, at every sigma that a swaption's fit tries the root is located, and one is refused for want of a bracket exactly where a search that it tries has none. Assumes nothing.
-use mathlib.Core.Path.{_≡_, refl, sym, ap, _∙_, subst}
+use mathlib.Core.Path.{_≡_, sym, ap, _∙_}
 use mathlib.Core.Logic.{_↔_}
 use mathlib.Core.List.{List, []}
-use lib.Dec.{T}
 use lib.Ieee.{Float}
-use Rattle.ieee.specs.Rounded.{_⊕_, _⊖_}
-use Rattle.lists.specs.declared.refusals.Refusal.{Refusal}
 use Rattle.lists.specs.declared.refusals.Answer.the-variants as A
 use Rattle.lists.specs.declared.refusals.Refusal.the-variants as R
-use Rattle.lists.specs.Refusals.{Outcome, served, refused, firstOf, after, following}
+use Rattle.lists.specs.Refusals.{Outcome, served, refused, firstOf, following}
 use Rattle.lists.specs.Lookups.{just, factorAt}
 use Rattle.lists.specs.Faults.{curveFaults}
-use Rattle.lists.proofs.Outcomes.{not-both, served-is}
-use Rattle.formulas.specs.HullWhite.{h, forwardOf, decayOf, deviationOf}
-use Rattle.search.specs.Values.{Values}
-use Rattle.search.specs.Reached.{Unbracketed}
-use Rattle.search.specs.Facts.{Located}
-use Rattle.search.proofs.Callers.{early, Late, past-rules, past-lookups, through-lookups, root-located, wants-bracket, no-bracket, ends-so, ends-otherwise}
-use Rattle.terms.specs.Terms.{coefficientsOf, bsOf, driftsOf, affinesOf, factorsAt}
-use Rattle.terms.proofs.Fetched.{off-curve}
-use Rattle.swaptions.specs.Price.{Valued, putsOf, priceAt}
-use Rattle.swaptions.specs.Demand3.{sumOf}
+use Rattle.lists.proofs.Outcomes.{not-both}
+use Rattle.search.proofs.Callers.{Late, past-rules, past-lookups, ends-so, ends-otherwise}
+use Rattle.terms.proofs.Begun.{Searches, searches, begins}
 use Rattle.bisection.specs.declared.result.Fit.{Fit}
 use Rattle.bisection.specs.Result.{finishingFit}
 use Rattle.bisection.specs.Solve.{solveOf}
 use Rattle.bisection.proofs.Finishing.{allFinite}
 use Rattle.bisection.proofs.Demand3.{demand3}
-use Rattle.calibration.specs.declared.market.Quote.{Quote}
-use Rattle.calibration.specs.Market.{swaptionMarketOf}
-use Rattle.calibration.specs.Objective.{capletObjective, valueAlone, modelPriceAt, swaptionObjective}
+use Rattle.objectives.specs.declared.market.Quote.{Quote}
+use Rattle.objectives.specs.Objective.{capletObjective, swaptionObjective}
+use Rattle.objectives.proofs.Searches.{value-there, root-there, want-there, unbracketed-there, bracket-wanted}
 use Rattle.calibration.specs.Fits.{capletRules, swaptionRulesOn, capletFitted, capletFitOutcome, swaptionFitted, swaptionFitOutcome}
-use Rattle.calibration.specs.Demand3.{CapletAssured, Begun, RootAt, SwaptionAssured, WantsBracket}
+use Rattle.calibration.specs.Demand3.{CapletAssured, FitBegun, RootAt, SwaptionAssured, WantsBracket}
 
 -- ---- rule 13 after a fit: it is the fit itself that is served, and no other refusal is put for the fit's own
 finished-served : (o : Outcome Fit) (fit : Fit) → following o finishingFit ≡ served fit → o ≡ served fit
@@ -88,91 +78,25 @@ module _ (quote : Quote) (alpha : Float) (ts fs : List Float) (strike t S vol : 
         let w = demand3 .no-bracket f .0 (finished-wanting (solveOf f) (b .goes-on)) in
         never (b .pt) (b .pS) (w .sigma) (w .there)
 
--- ---- a swaption's objective at a sigma, on its factors
-module _ (quote : Quote) (alpha : Float) (payments accruals : List Float) (strike t vol pt pPlus : Float) (ps : List Float) (sigma : Float) where
-  affs : List Float
-  affs = affinesOf alpha sigma (decayOf alpha t) (bsOf alpha t payments) (driftsOf (forwardOf pt pPlus) pt (bsOf alpha t payments) ps)
-
-  sum : Float → Float
-  sum = sumOf alpha t payments accruals strike sigma pt pPlus ps
-
-  valuedAt : Values → Outcome Valued
-  valuedAt root = served (record { value = putsOf sigma (deviationOf alpha t) pt (root .rate) (coefficientsOf strike accruals) affs (bsOf alpha t payments) ps; root = root })
-
-  abbrev price : Outcome Valued
-  price = modelPriceAt alpha payments accruals strike t pt pPlus ps sigma
-
-  abbrev objective : Outcome Float
-  objective = swaptionObjective quote alpha payments accruals strike t vol pt pPlus ps sigma
-
-  -- the price where the objective is served, and its root
-  value-there : {x : Float} → objective ≡ served x → (v : Valued) × (price ≡ served v)
-  unfolding swaptionObjective
-  value-there {x} e = go price refl e
-    where
-      go : (o : Outcome Valued) → price ≡ o → following (valueAlone o) (λ model. served (model ⊖ swaptionMarketOf quote strike t vol accruals pt ps)) ≡ served x → (v : Valued) × (price ≡ served v)
-      go (served v) p k = (v, p)
-      go (refused q) p k = absurd (not-both k)
-
-  root-there : (v : Valued) → price ≡ served v → Located (sumOf alpha t payments accruals strike sigma pt pPlus ps) (v .root)
-  unfolding modelPriceAt priceAt affs sum valuedAt
-  root-there v e =
-      let r = root-located sum valuedAt v e in
-      subst (Located sum) (ap (λ (u : Valued). u .root) (served-is (r .2))) (r .1)
-
-  -- refused for want of a bracket exactly where the search has none
-  want-there : objective ≡ refused R.NoBracket → price ≡ refused R.NoBracket
-  unfolding swaptionObjective
-  want-there e = go price e
-    where
-      go : (o : Outcome Valued) → following (valueAlone o) (λ model. served (model ⊖ swaptionMarketOf quote strike t vol accruals pt ps)) ≡ refused R.NoBracket → o ≡ refused R.NoBracket
-      go (served v) k = absurd (not-both (sym k))
-      go (refused q) k = let z : q ≡ R.NoBracket = cc in ap refused z
-
-  unbracketed-there : price ≡ refused R.NoBracket → Unbracketed (sumOf alpha t payments accruals strike sigma pt pPlus ps)
-  unfolding modelPriceAt priceAt affs sum valuedAt
-  unbracketed-there e = wants-bracket sum valuedAt (λ v k. not-both (sym k)) e
-
-  bracket-wanted : Unbracketed (sumOf alpha t payments accruals strike sigma pt pPlus ps) → objective ≡ refused R.NoBracket
-  unfolding swaptionObjective modelPriceAt priceAt affs sum valuedAt
-  bracket-wanted u =
-      let e : price ≡ refused R.NoBracket = no-bracket sum valuedAt u in
-      ap (λ (o : Outcome Valued). following (valueAlone o) (λ model. served (model ⊖ swaptionMarketOf quote strike t vol accruals pt ps))) e
-
 -- ---- swaptions
 module _ (quote : Quote) (alpha : Float) (ts fs payments accruals : List Float) (strike t vol : Float) where
-  fetch-early : (q : Refusal) → factorsAt ts fs payments ≡ refused q → T (early q)
-  fetch-early q e = rw (off-curve ts fs payments q e) tt
-
   abbrev objectiveOn : Float → Float → List Float → Float → Outcome Float
   objectiveOn pt pPlus ps = swaptionObjective quote alpha payments accruals strike t vol pt pPlus ps
 
   abbrev swaptionOn : Float → Float → List Float → Outcome Fit
   swaptionOn pt pPlus ps = following (solveOf (objectiveOn pt pPlus ps)) finishingFit
 
-  record Fits (o : Outcome Fit) : Type 0 where
-    begun : Begun quote alpha ts fs payments accruals strike t vol
-    goes-on : swaptionOn (begun .pt) (begun .pPlus) (begun .ps) ≡ o
-
-  fits : (o : Outcome Fit) → Late o → swaptionFitOutcome quote alpha ts fs payments accruals strike t vol ≡ o → Fits o
+  fits : (o : Outcome Fit) → Late o → swaptionFitOutcome quote alpha ts fs payments accruals strike t vol ≡ o → Searches (swaptionRulesOn quote alpha ts fs payments accruals strike t vol) ts fs payments t swaptionOn o
   unfolding swaptionFitOutcome swaptionFitted
-  fits o late e =
-      let p = past-rules o late (swaptionRulesOn quote alpha ts fs payments accruals strike t vol) (swaptionFitted quote alpha ts fs payments accruals strike t vol) tt e in
-      let r = past-lookups (factorAt ts fs t) (factorAt ts fs (t ⊕ h)) (factorsAt ts fs payments) swaptionOn o late fetch-early (p .1) in
-      record {
-        begun = record { passed = p .0; pt = r .pt; pPlus = r .pPlus; ps = r .ps; at-option = r .at-option; day-after = r .day-after; at-payments = r .at-payments };
-        goes-on = r .goes-on;
-      }
+  fits o late e = searches (swaptionRulesOn quote alpha ts fs payments accruals strike t vol) ts fs payments t swaptionOn tt o late e
 
   -- a fit that is begun is what the call comes to
-  begins : (b : Begun quote alpha ts fs payments accruals strike t vol) → swaptionFitOutcome quote alpha ts fs payments accruals strike t vol ≡ swaptionOn (b .pt) (b .pPlus) (b .ps)
+  fit-begins : (b : FitBegun quote alpha ts fs payments accruals strike t vol) → swaptionFitOutcome quote alpha ts fs payments accruals strike t vol ≡ swaptionOn (b .pt) (b .pPlus) (b .ps)
   unfolding swaptionFitOutcome swaptionFitted
-  begins b =
-      ap (λ a. after a (swaptionFitted quote alpha ts fs payments accruals strike t vol)) (b .passed)
-      ∙ through-lookups (factorAt ts fs t) (factorAt ts fs (t ⊕ h)) (factorsAt ts fs payments) swaptionOn (b .at-option) (b .day-after) (b .at-payments)
+  fit-begins b = begins (swaptionRulesOn quote alpha ts fs payments accruals strike t vol) ts fs payments t swaptionOn b
 
   -- the search at a sigma where the objective is served
-  root-at : (b : Begun quote alpha ts fs payments accruals strike t vol) (sigma x : Float) → objectiveOn (b .pt) (b .pPlus) (b .ps) sigma ≡ served x → RootAt quote alpha ts fs payments accruals strike t vol b sigma
+  root-at : (b : FitBegun quote alpha ts fs payments accruals strike t vol) (sigma x : Float) → objectiveOn (b .pt) (b .pPlus) (b .ps) sigma ≡ served x → RootAt quote alpha ts fs payments accruals strike t vol b sigma
   root-at b sigma x e =
       let r = value-there quote alpha payments accruals strike t vol (b .pt) (b .pPlus) (b .ps) sigma e in
       record { valued = r .0; price = r .1; located = root-there quote alpha payments accruals strike t vol (b .pt) (b .pPlus) (b .ps) sigma (r .0) (r .1) }
@@ -209,4 +133,4 @@ module _ (quote : Quote) (alpha : Float) (ts fs payments accruals : List Float) 
             let f = objectiveOn (b .pt) (b .pPlus) (b .ps) in
             let e = bracket-wanted quote alpha payments accruals strike t vol (b .pt) (b .pPlus) (b .ps) (w .sigma) (w .unbracketed) in
             let k = demand3 .no-bracket f .1 (record { sigma = w .sigma; tried = w .tried; there = e }) in
-            is ∙ begins b ∙ ap (λ (x : Outcome Fit). following x finishingFit) k
+            is ∙ fit-begins b ∙ ap (λ (x : Outcome Fit). following x finishingFit) k

@@ -1,5 +1,4 @@
--- What the functions' proofs cite: the annuity, the literals, a halving of the loop, the objective worked ahead, how a fit comes out, and demand 3.
-pub mod Annuity
+-- What the functions' proofs cite: the literals, a halving of the loop, a fit on what is worked ahead, how a fit comes out, and demand 3.
 pub mod Literals
 pub mod Residuals
 pub mod Turning

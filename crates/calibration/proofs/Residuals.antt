@@ -1,11 +1,8 @@
--- What the code takes apart on the way of a fit: a residual by the model's price, a turn and a start by their residuals. Assumes nothing.
+-- What the code takes apart on the way of a fit: a turn, the last midpoint and the two first sigmas, by their residuals. Assumes nothing.
 use mathlib.Core.Path.{_≡_, refl, sym, ap, _∙_}
 use mathlib.Core.Bool.{Bool, true, false}
-use mathlib.Core.List.{List}
-use lib.Ieee.{Float, ne, binary64, ofBits}
-use Rattle.ieee.specs.Rounded.{_⊖_}
+use lib.Ieee.{Float, binary64, ofBits}
 use Rattle.elementary.specs.Simple.{midpointOf}
-use Rattle.elementary.proofs.Floats.{nan-yes, nan-no}
 use Rattle.lists.specs.declared.refusals.Refusal.{Refusal}
 use Rattle.lists.specs.declared.refusals.Refusal.the-variants as R
 use Rattle.lists.specs.declared.refusals.Price.{Price}
@@ -13,25 +10,9 @@ use Rattle.lists.specs.declared.refusals.Price.the-variants as P
 use Rattle.lists.specs.Refusals.{Outcome, served, refused, outcomeOf}
 use Rattle.bisection.specs.declared.halving.Ends.{Ends}
 use Rattle.bisection.specs.Solve.{lowest, highest, sameSign, closeEnough, residualAt, movedTo, unconvergedAt, halvingsFrom, endsOf, solveOf}
-use Rattle.calibration.specs.declared.objective.Instrument.{Instrument}
 use Rattle.calibration.specs.declared.solve.Turn.the-variants as T
-use Rattle.calibration.specs.Objective.{modelPriceOf, objectiveOf}
 use Rattle.calibration.specs.Turn.{turnAt, solveAbove}
 use Rattle.calibration.proofs.Literals.{lowest-is, highest-is}
-
--- ---- the residual, by the model's price
-module _ (instrument : Instrument) (market : Float) (cs bs ds ps : List Float) (sigma : Float) (price : Price) (h : outcomeOf price ≡ modelPriceOf instrument cs bs ds ps sigma) where
-  pub residual-refused : {q : Refusal} → price ≡ P.Refused q → outcomeOf price ≡ residualAt (objectiveOf instrument market cs bs ds ps) sigma
-  unfolding residualAt objectiveOf
-  residual-refused e = rw (← h, e)
-
-  pub residual-nan : {v : Float} → price ≡ P.Served v → ne (v ⊖ market) (v ⊖ market) ≡ true → refused R.NanReached ≡ residualAt (objectiveOf instrument market cs bs ds ps) sigma
-  unfolding residualAt objectiveOf
-  residual-nan e n = rw (← h, e, nan-yes _ n)
-
-  pub residual-there : {v : Float} → price ≡ P.Served v → ne (v ⊖ market) (v ⊖ market) ≡ false → served (v ⊖ market) ≡ residualAt (objectiveOf instrument market cs bs ds ps) sigma
-  unfolding residualAt objectiveOf
-  residual-there e n = rw (← h, e, nan-no _ n)
 
 -- ---- a turn, and the last midpoint, by the residual there
 module _ (f : Float → Outcome Float) (e : Ends) {sigma : Float} (s : sigma ≡ midpointOf (e .low) (e .high)) (r : Price) (h : outcomeOf r ≡ residualAt f sigma) where

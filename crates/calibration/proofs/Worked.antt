@@ -1,4 +1,4 @@
--- The objective on what is worked ahead is document 01's own, at every sigma; so a fit of the one is a fit of the other. Assumes nothing.
+-- A fit of the objective on what is worked ahead is a fit of document 01's own, since the two are one at every sigma. Assumes nothing.
 use mathlib.Core.Path.{_≡_, ap, _∙_}
 use mathlib.Core.List.{List}
 use lib.Ieee.{Float}
@@ -8,10 +8,11 @@ use Rattle.terms.specs.Terms.{coefficientsOf, bsOf, driftsOf}
 use Rattle.bisection.specs.declared.result.Fit.{Fit}
 use Rattle.bisection.specs.Result.{finishingFit}
 use Rattle.bisection.specs.Solve.{solveOf}
-use Rattle.calibration.specs.declared.market.Quote.{Quote}
-use Rattle.calibration.specs.declared.objective.Instrument.the-variants as I
-use Rattle.calibration.specs.Market.{capletMarketOf, swaptionMarketOf}
-use Rattle.calibration.specs.Objective.{capletObjective, modelPriceAt, swaptionObjective, capletAt, modelPriceOf, objectiveOf}
+use Rattle.objectives.specs.declared.market.Quote.{Quote}
+use Rattle.objectives.specs.declared.objective.Instrument.the-variants as I
+use Rattle.objectives.specs.Market.{capletMarketOf, swaptionMarketOf}
+use Rattle.objectives.specs.Objective.{capletObjective, swaptionObjective, objectiveOf}
+use Rattle.objectives.proofs.Worked.{caplet-same, swaption-same}
 
 -- rule 13 after a fit of either objective
 finished : {f g : Float → Outcome Float} {o q : Outcome Fit} → ((sigma : Float) → f sigma ≡ g sigma) → o ≡ solveOf f → q ≡ following o finishingFit → q ≡ following (solveOf g) finishingFit
@@ -20,25 +21,14 @@ finished {f} {g} same p h =
     h ∙ ap (λ (x : Outcome Fit). following x finishingFit) (p ∙ ap solveOf e)
 
 module _ (quote : Quote) (alpha strike t S vol pt pS : Float) where
-  caplet-same : {b deviation x market : Float} (cs bs ds ps : List Float) → b ≡ bOf alpha t S → deviation ≡ deviationOf alpha t → x ≡ optionletStrikeOf strike t S → market ≡ capletMarketOf quote strike t S vol pt pS
-      → (sigma : Float) → objectiveOf (I.Caplet b deviation x strike t S pt pS) market cs bs ds ps sigma ≡ capletObjective quote alpha strike t S vol pt pS sigma
-  unfolding objectiveOf modelPriceOf capletAt capletObjective
-  caplet-same cs bs ds ps p q r m sigma = rw (← p, ← q, ← r, ← m)
-
   pub caplet-fit : {b deviation x market : Float} (cs bs ds ps : List Float) {o q : Outcome Fit} → b ≡ bOf alpha t S → deviation ≡ deviationOf alpha t → x ≡ optionletStrikeOf strike t S → market ≡ capletMarketOf quote strike t S vol pt pS
       → o ≡ solveOf (objectiveOf (I.Caplet b deviation x strike t S pt pS) market cs bs ds ps) → q ≡ following o finishingFit
       → q ≡ following (solveOf (capletObjective quote alpha strike t S vol pt pS)) finishingFit
-  caplet-fit cs bs ds ps p q r m = finished (caplet-same cs bs ds ps p q r m)
+  caplet-fit cs bs ds ps p q r m = finished (caplet-same quote alpha strike t S vol pt pS cs bs ds ps p q r m)
 
 module _ (quote : Quote) (alpha strike t vol pt pPlus : Float) (payments accruals ps : List Float) where
-  swaption-same : {cs bs ds : List Float} {forward decay deviation market : Float} → cs ≡ coefficientsOf strike accruals → bs ≡ bsOf alpha t payments → forward ≡ forwardOf pt pPlus → ds ≡ driftsOf forward pt bs ps
-      → decay ≡ decayOf alpha t → deviation ≡ deviationOf alpha t → market ≡ swaptionMarketOf quote strike t vol accruals pt ps
-      → (sigma : Float) → objectiveOf (I.Swaption alpha decay deviation pt) market cs bs ds ps sigma ≡ swaptionObjective quote alpha payments accruals strike t vol pt pPlus ps sigma
-  unfolding objectiveOf modelPriceOf modelPriceAt swaptionObjective
-  swaption-same c b f d y v m sigma = rw (← c, ← b, ← f, ← d, ← y, ← v, ← m)
-
   pub swaption-fit : {cs bs ds : List Float} {forward decay deviation market : Float} {o q : Outcome Fit} → cs ≡ coefficientsOf strike accruals → bs ≡ bsOf alpha t payments → forward ≡ forwardOf pt pPlus → ds ≡ driftsOf forward pt bs ps
       → decay ≡ decayOf alpha t → deviation ≡ deviationOf alpha t → market ≡ swaptionMarketOf quote strike t vol accruals pt ps
       → o ≡ solveOf (objectiveOf (I.Swaption alpha decay deviation pt) market cs bs ds ps) → q ≡ following o finishingFit
       → q ≡ following (solveOf (swaptionObjective quote alpha payments accruals strike t vol pt pPlus ps)) finishingFit
-  swaption-fit c b f d y v m = finished (swaption-same c b f d y v m)
+  swaption-fit c b f d y v m = finished (swaption-same quote alpha strike t vol pt pPlus payments accruals ps c b f d y v m)

@@ -3,16 +3,14 @@ use mathlib.Core.Path.{_≡_}
 use mathlib.Core.Logic.{_↔_}
 use mathlib.Core.List.{List, List·Memᴰ}
 use lib.Ieee.{Float}
-use Rattle.ieee.specs.Rounded.{_⊕_}
 use Rattle.lists.specs.declared.refusals.Answer.the-variants as A
 use Rattle.lists.specs.declared.refusals.Refusal.the-variants as R
 use Rattle.lists.specs.Refusals.{Outcome, served, refused, firstOf}
 use Rattle.lists.specs.Lookups.{just, factorAt}
 use Rattle.lists.specs.Faults.{curveFaults}
-use Rattle.formulas.specs.HullWhite.{h}
 use Rattle.search.specs.Reached.{Unbracketed}
 use Rattle.search.specs.Facts.{Located}
-use Rattle.terms.specs.Terms.{factorsAt}
+use Rattle.terms.specs.Begun.{Begun}
 use Rattle.swaptions.specs.Price.{Valued}
 use Rattle.swaptions.specs.Demand3.{sumOf}
 use Rattle.bisection.specs.declared.result.Fit.{Fit}
@@ -20,8 +18,8 @@ use Rattle.bisection.specs.declared.result.Fitted.{Fitted}
 use Rattle.bisection.specs.Result.{fittedOutcome}
 use Rattle.bisection.specs.Tried.{triedOf}
 use Rattle.bisection.specs.Demand3.{Assured}
-use Rattle.calibration.specs.declared.market.Quote.{Quote}
-use Rattle.calibration.specs.Objective.{capletObjective, modelPriceAt, swaptionObjective}
+use Rattle.objectives.specs.declared.market.Quote.{Quote}
+use Rattle.objectives.specs.Objective.{capletObjective, modelPriceAt, swaptionObjective}
 use Rattle.calibration.specs.Fits.{capletRules, swaptionRulesOn}
 
 -- ---- caplets
@@ -43,31 +41,25 @@ module _ (quote : Quote) (alpha : Float) (ts fs : List Float) (strike t S vol : 
 
 -- ---- swaptions
 module _ (quote : Quote) (alpha : Float) (ts fs payments accruals : List Float) (strike t vol : Float) where
-  -- a fit that is begun, on "terms that rules 1 to 8 let through"
-  pub record Begun : Type 0 where
-    pub passed : firstOf (swaptionRulesOn quote alpha ts fs payments accruals strike t vol) ≡ A.Served
-    pub pt : Float
-    pub pPlus : Float
-    pub ps : List Float
-    pub at-option : factorAt ts fs t ≡ just pt
-    pub day-after : factorAt ts fs (t ⊕ h) ≡ just pPlus
-    pub at-payments : factorsAt ts fs payments ≡ served ps
+  -- a fit that is begun, and with it its searches, on "terms that rules 1 to 8 let through"
+  abbrev pub FitBegun : Type 0
+  FitBegun = Begun (swaptionRulesOn quote alpha ts fs payments accruals strike t vol) ts fs payments t
 
-  abbrev pub begunObjective : Begun → Float → Outcome Float
+  abbrev pub begunObjective : FitBegun → Float → Outcome Float
   begunObjective b = swaptionObjective quote alpha payments accruals strike t vol (b .pt) (b .pPlus) (b .ps)
 
   -- the priced coupon sum at a sigma, as a function of the rate
-  abbrev pub begunSum : Begun → Float → Float → Float
+  abbrev pub begunSum : FitBegun → Float → Float → Float
   begunSum b sigma = sumOf alpha t payments accruals strike sigma (b .pt) (b .pPlus) (b .ps)
 
   -- the search at a sigma: the price there rests on a root that is located
-  pub record RootAt (b : Begun) (sigma : Float) : Type 0 where
+  pub record RootAt (b : FitBegun) (sigma : Float) : Type 0 where
     pub valued : Valued
     pub price : modelPriceAt alpha payments accruals strike t (b .pt) (b .pPlus) (b .ps) sigma ≡ served valued
     pub located : Located (begunSum b sigma) (valued .root)
 
   pub record SwaptionAssured (fit : Fit) : Type 0 where
-    pub begun : Begun
+    pub begun : FitBegun
     pub assured : Assured (begunObjective begun) fit
     -- "In every search, at every sigma a fit tries"
     pub every-search : (sigma : Float) → List·Memᴰ sigma (triedOf (begunObjective begun)) → RootAt begun sigma
@@ -77,7 +69,7 @@ module _ (quote : Quote) (alpha : Float) (ts fs payments accruals : List Float) 
 
   -- refused for want of a bracket exactly when a search that the fit tries is: "no call is refused so on any other ground"
   pub record WantsBracket : Type 0 where
-    pub begun : Begun
+    pub begun : FitBegun
     pub sigma : Float
     pub tried : List·Memᴰ sigma (triedOf (begunObjective begun))
     pub unbracketed : Unbracketed (begunSum begun sigma)

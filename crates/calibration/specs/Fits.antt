@@ -19,9 +19,9 @@ use Rattle.terms.specs.Terms.{factorsAt}
 use Rattle.bisection.specs.declared.result.Fit.{Fit}
 use Rattle.bisection.specs.Result.{finishingFit}
 use Rattle.bisection.specs.Solve.{solveOf}
-use Rattle.calibration.specs.declared.market.Quote.{Quote}
-use Rattle.calibration.specs.declared.market.Quote.the-variants as Q
-use Rattle.calibration.specs.Objective.{capletObjective, swaptionObjective}
+use Rattle.objectives.specs.declared.market.Quote.{Quote}
+use Rattle.objectives.specs.declared.market.Quote.the-variants as Q
+use Rattle.objectives.specs.Objective.{capletObjective, swaptionObjective}
 
 -- "a Black strike is not above 0"; a normal one may have any sign
 abbrev pub strikeWrong : Quote → Float → Bool

@@ -1,6 +1,4 @@
--- What the contracts of the volatility fits say: market prices, the objective, the kinds 8 to 11, and demand 3.
-pub mod Market
-pub mod Objective
+-- What the contracts of the volatility fits say: a halving, the kinds 8 to 11, and demand 3.
 pub mod Turn
 pub mod Fits
 pub mod Demand3

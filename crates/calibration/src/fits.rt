@@ -8,12 +8,9 @@ ghost use Rattle.lists.specs.Refusals.{reported, firstOf, following};
 ghost use Rattle.lists.specs.Faults.{curveFaults};
 ghost use Rattle.bisection.specs.Result.{fittedOutcome, noFit, finishingFit};
 ghost use Rattle.bisection.specs.Solve.{solveOf};
-ghost use Rattle.calibration.specs.Objective.{capletObjective, swaptionObjective};
+ghost use Rattle.objectives.specs.Objective.{capletObjective, swaptionObjective};
 ghost use Rattle.calibration.specs.Fits.{strikeWrong, capletRules, swaptionRules, capletFitted, capletFitOutcome, swaptionFitted, swaptionFitOutcome};
 ghost use Rattle.calibration.specs.Demand3.{CapletHeld, CapletNeverSo, SwaptionHeld, RefusedSo};
-use super::market;
-use super::market::Quote;
-use super::objective::Instrument;
 use super::solve;
 use bisection::Fitted;
 use lists::Answer;
@@ -21,6 +18,8 @@ use lists::Faults;
 use lists::Found;
 use lists::Refusal;
 use lists::Test;
+use objectives::Instrument;
+use objectives::Quote;
 
 // Kinds 8 and 9: strike, start, end, quoted volatility.
 pub fn fit_caplet(
@@ -150,7 +149,7 @@ fn caplet_worked(
         p_t,
         p_end,
     };
-    let price = market::caplet_market(quote, strike, t, end, vol, p_t, p_end);
+    let price = objectives::caplet_market(quote, strike, t, end, vol, p_t, p_end);
     let none = [0.0; 1];
     let empty = &none[..0];
     let fitted = solve::solve(caplet, price, empty, empty, empty, empty);
@@ -189,7 +188,8 @@ pub fn fit_swaption(
     )
 }
 
-// The same on a curve whose faults are known.
+// The same on a curve whose faults are known: the call above shows it, and so does whoever works them
+// once for many jobs.
 pub fn fit_swaption_on(
     curve: Faults,
     quote: Quote,
@@ -301,7 +301,8 @@ fn swaption_fitted(
     )
 }
 
-// What does not depend on sigma, once a coupon; then the bisection.
+// What does not depend on sigma, once a coupon; then the bisection. `swaption_fitted` has the lists of one
+// length, from 1 to 64.
 fn swaption_worked(
     quote: Quote,
     alpha: f64,
@@ -331,7 +332,7 @@ fn swaption_worked(
         deviation: formulas::deviation_of(alpha, t),
         p_t,
     };
-    let price = market::swaption_market(quote, strike, t, vol, accruals, p_t, p);
+    let price = objectives::swaption_market(quote, strike, t, vol, accruals, p_t, p);
     let fitted = solve::solve(swaption, price, &c[..n], &b[..n], &drift[..n], p);
     bisection::finished(fitted)
 }

@@ -1,7 +1,6 @@
-// hullwhitecalibration.rs: the volatility of a caplet or a swaption, fitted to a quote (kinds 8 to 11).
+// hullwhitecalibration.rs, the fits: the volatility of a caplet or a swaption, fitted to a quote (kinds 8 to
+// 11).
 mod fits;
-mod market;
-mod objective;
 mod solve;
 
 pub use fits::caplet_fitted;
@@ -10,4 +9,4 @@ pub use fits::fit_caplet_on;
 pub use fits::fit_swaption;
 pub use fits::fit_swaption_on;
 pub use fits::strike_wrong;
-pub use market::Quote;
+pub use objectives::Quote;

@@ -5,15 +5,14 @@ ghost use Prim.Native.Nat.{_≤_};
 ghost use lib.ListN.{length};
 ghost use Rattle.bisection.specs.Result.{fittedOutcome};
 ghost use Rattle.bisection.specs.Solve.{unconvergedAt, halvingsFrom, solveOf};
-ghost use Rattle.calibration.specs.Objective.{objectiveOf};
+ghost use Rattle.objectives.specs.Objective.{objectiveOf};
 ghost use Rattle.calibration.specs.Turn.{turnAt, solveAbove};
-use super::objective;
-use super::objective::Instrument;
 use bisection::Ends;
 use bisection::Fit;
 use bisection::Fitted;
 use lists::Price;
 use lists::Refusal;
+use objectives::Instrument;
 
 // What one halving comes to: the midpoint converges, or is put for an end.
 pub enum Turn {
@@ -22,6 +21,7 @@ pub enum Turn {
     Refused(Refusal),
 }
 
+// `halvings` has the lists of one length of at most 64.
 fn halve(
     instrument: Instrument,
     market: f64,
@@ -35,7 +35,7 @@ fn halve(
     ensures { λ r. ⌜ r ≡ turnAt (objectiveOf instrument market (now (c .entry)) (now (b .entry)) (now (drift .entry)) (now (p .entry))) ends ⌝ }
 {
     let sigma = elementary::midpoint(ends.low, ends.high);
-    let residual = objective::residual(instrument, market, c, b, drift, p, sigma);
+    let residual = objectives::residual(instrument, market, c, b, drift, p, sigma);
     match residual {
         Price::Refused(refusal) => Turn::Refused(refusal),
         Price::Served(value) => {
@@ -48,7 +48,8 @@ fn halve(
     }
 }
 
-// The midpoint of the last ends, where no halving converged.
+// The midpoint of the last ends, where no halving converged. `halvings` has the lists of one length of at
+// most 64.
 fn unconverged(
     instrument: Instrument,
     market: f64,
@@ -62,7 +63,7 @@ fn unconverged(
     ensures { λ r. ⌜ fittedOutcome r ≡ unconvergedAt (objectiveOf instrument market (now (c .entry)) (now (b .entry)) (now (drift .entry)) (now (p .entry))) ends ⌝ }
 {
     let sigma = elementary::midpoint(ends.low, ends.high);
-    let residual = objective::residual(instrument, market, c, b, drift, p, sigma);
+    let residual = objectives::residual(instrument, market, c, b, drift, p, sigma);
     match residual {
         Price::Refused(refusal) => Fitted::Refused(refusal),
         Price::Served(value) => Fitted::Served(Fit {
@@ -75,7 +76,8 @@ fn unconverged(
     }
 }
 
-// 200 halvings. After one that leaves everything as it was, no further one changes anything.
+// 200 halvings. After one that leaves everything as it was, no further one changes anything. `solve_above`
+// has the lists of one length of at most 64.
 fn halvings(
     instrument: Instrument,
     market: f64,
@@ -117,7 +119,8 @@ fn halvings(
     unconverged(instrument, market, c, b, drift, p, ends)
 }
 
-// The residual at 2.0 beside that at 1e-8: they differ in sign, or there is nothing to halve.
+// The residual at 2.0 beside that at 1e-8: they differ in sign, or there is nothing to halve. `solve` has
+// the lists of one length of at most 64.
 fn solve_above(
     instrument: Instrument,
     market: f64,
@@ -130,7 +133,7 @@ fn solve_above(
     requires { ⌜ (length (now c) ≤ 64) × (length (now b) ≡ length (now c)) × (length (now drift) ≡ length (now c)) × (length (now p) ≡ length (now c)) ⌝ }
     ensures { λ r. ⌜ fittedOutcome r ≡ solveAbove (objectiveOf instrument market (now (c .entry)) (now (b .entry)) (now (drift .entry)) (now (p .entry))) «low_residual» ⌝ }
 {
-    let at_high = objective::residual(instrument, market, c, b, drift, p, 2.0);
+    let at_high = objectives::residual(instrument, market, c, b, drift, p, 2.0);
     match at_high {
         Price::Refused(refusal) => Fitted::Refused(refusal),
         Price::Served(high_residual) => {
@@ -148,6 +151,8 @@ fn solve_above(
     }
 }
 
+// The residual at 1e-8 comes first. `swaption_worked` has the lists of one length of at most 64, and those of
+// `caplet_worked` are empty.
 pub fn solve(
     instrument: Instrument,
     market: f64,
@@ -159,7 +164,7 @@ pub fn solve(
     requires { ⌜ (length (now c) ≤ 64) × (length (now b) ≡ length (now c)) × (length (now drift) ≡ length (now c)) × (length (now p) ≡ length (now c)) ⌝ }
     ensures { λ r. ⌜ fittedOutcome r ≡ solveOf (objectiveOf instrument market (now (c .entry)) (now (b .entry)) (now (drift .entry)) (now (p .entry))) ⌝ }
 {
-    let at_low = objective::residual(instrument, market, c, b, drift, p, 1e-8);
+    let at_low = objectives::residual(instrument, market, c, b, drift, p, 1e-8);
     match at_low {
         Price::Refused(refusal) => Fitted::Refused(refusal),
         Price::Served(low_residual) => {

@@ -8,8 +8,8 @@ use Rattle.ieee.specs.Numbers.{two}
 use Rattle.elementary.specs.Simple.{absOf}
 use Rattle.elementary.specs.Exp.{expOf, expM1Of}
 use Rattle.schedules.specs.Variance.{weightOf}
-use Rattle.pricers.specs.declared.bond_option.SwaptionType.{SwaptionType}
-use Rattle.pricers.specs.BondOption.{intrinsicOf, positiveOf, movingOf, bondOptionOf}
+use Rattle.closedform.specs.declared.bond_option.SwaptionType.{SwaptionType}
+use Rattle.closedform.specs.BondOption.{intrinsicOf, positiveOf, movingOf, bondOptionOf}
 
 -- 1e-12, and the f64s beside it
 abbrev pub limit : Float

@@ -21,8 +21,8 @@ use Rattle.lists.specs.Refusals.{Outcome, served, refused, following, numberOf,
 use Rattle.search.specs.Sum.{couponsOnto, couponSum}
 use Rattle.search.specs.Rate.{rungOf, orRung, ladderOf, movedTo, halveOf, thenHalve, halvingsOf, finish, joined, criticalOf}
 use Rattle.search.specs.Values.{Values, criticalOutcome}
-use Rattle.pricers.specs.declared.bond_option.SwaptionType.the-variants as Swaption
-use Rattle.pricers.specs.Newton.{bondAt, sumsAfter, sumsFrom, sumsOf, stepped}
+use Rattle.closedform.specs.declared.bond_option.SwaptionType.the-variants as Swaption
+use Rattle.closedform.specs.Newton.{bondAt, sumsAfter, sumsFrom, sumsOf, stepped}
 use Rattle.pricers.specs.Pricer.{pricedBy}
 
 -- ---- the numbers that specs/Numbers.antt of `ieee` does not have

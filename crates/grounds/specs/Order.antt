@@ -20,7 +20,7 @@ use Rattle.paths.specs.Generate.{pathRules}
 use Rattle.paths.specs.Transition.{transitionRules}
 use Rattle.swaptions.specs.Model.{modelRules}
 use Rattle.pricers.specs.Pricer.{pricerRules}
-use Rattle.calibration.specs.declared.market.Quote.{Quote}
+use Rattle.objectives.specs.declared.market.Quote.{Quote}
 use Rattle.calibration.specs.Fits.{capletRules, swaptionRules}
 use Rattle.baskets.specs.Entries.{basketRules}
 

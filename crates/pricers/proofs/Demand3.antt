@@ -4,34 +4,32 @@ use mathlib.Core.Logic.{_↔_}
 use mathlib.Core.Bool.{Bool, true, false, not, _&&_, cond}
 use mathlib.Core.List.{List}
 use native.Mathlib.Omega.{arith}
-use lib.Dec.{T}
 use lib.Ieee.{Float, lt}
 use lib.Ieee.Scale.{finite}
-use Rattle.ieee.specs.Rounded.{_⊕_, _⊖_, _⊗_, _⊘_}
+use Rattle.ieee.specs.Rounded.{_⊖_, _⊗_, _⊘_}
 use Rattle.ieee.specs.Numbers.{zero}
 use Rattle.elementary.specs.Simple.{absOf}
 use Rattle.lists.specs.declared.checks.Test.the-variants.{Zero}
-use Rattle.lists.specs.declared.refusals.Refusal.{Refusal}
 use Rattle.lists.specs.declared.refusals.Refusal.the-variants as R
-use Rattle.lists.specs.Refusals.{Outcome, served, refused, answerNumber, answerOf, after, following}
+use Rattle.lists.specs.Refusals.{Outcome, served, refused, answerNumber, answerOf, following}
 use Rattle.lists.specs.Checks.{allOf}
-use Rattle.lists.specs.Lookups.{factorAt}
 use Rattle.lists.proofs.Outcomes.{not-both}
-use Rattle.formulas.specs.HullWhite.{h, forwardOf}
+use Rattle.formulas.specs.HullWhite.{forwardOf}
 use Rattle.schedules.specs.Variance.{varianceOf}
 use Rattle.search.specs.Sum.{couponSum}
 use Rattle.search.specs.Values.{Values}
 use Rattle.search.specs.Reached.{Unbracketed}
 use Rattle.search.specs.Facts.{Located}
-use Rattle.search.proofs.Callers.{early, Late, past-rules, past-lookups, through-lookups, root-located, wants-bracket, no-bracket, ends-so, ends-otherwise}
-use Rattle.terms.specs.Terms.{coefficientsOf, bsOf, factorsAt}
-use Rattle.terms.proofs.Fetched.{off-curve}
-use Rattle.pricers.specs.declared.bond_option.SwaptionType.{SwaptionType}
-use Rattle.pricers.specs.Affine.{deviationOf, affinesOf}
-use Rattle.pricers.specs.Newton.{flatLimit, sumsOf, stepped}
-use Rattle.pricers.specs.Components.{componentsOf}
+use Rattle.search.proofs.Callers.{root-located, wants-bracket, no-bracket, ends-so, ends-otherwise}
+use Rattle.terms.specs.Terms.{coefficientsOf, bsOf}
+use Rattle.terms.specs.Begun.{RootFound, WantsBracket}
+use Rattle.terms.proofs.Begun.{searches, begins}
+use Rattle.closedform.specs.declared.bond_option.SwaptionType.{SwaptionType}
+use Rattle.closedform.specs.Affine.{deviationOf, affinesOf}
+use Rattle.closedform.specs.Newton.{flatLimit, sumsOf, stepped}
+use Rattle.closedform.specs.Components.{componentsOf}
 use Rattle.pricers.specs.Pricer.{Valued, finishingValuation, pricedBy, pricerPriced, rulesOn, pricerOutcome}
-use Rattle.pricers.specs.Demand3.{Begun, RootFound, WantsBracket}
+use Rattle.pricers.specs.Demand3.{sumOf}
 
 -- ---- rule 13
 keeps : (w v : Valued) → finishingValuation w ≡ served v → w ≡ v
@@ -89,46 +87,23 @@ module _ (option : SwaptionType) (deviation pt : Float) (cs affs bs ps owns : Li
 
 -- ---- the call
 module _ (option : SwaptionType) (alpha : Float) (pls ss ts fs payments accruals owns : List Float) (strike t notional side : Float) where
-  fetch-early : (q : Refusal) → factorsAt ts fs payments ≡ refused q → T (early q)
-  fetch-early q e = rw (off-curve ts fs payments q e) tt
-
   -- the terms on the factors at t, t + h and the payment times, and their price
   on : Float → Float → List Float → Outcome Valued
   on pt pPlus ps =
       pricedBy option (deviationOf (varianceOf alpha pls ss zero t)) pt (coefficientsOf strike accruals) (affinesOf (varianceOf alpha pls ss zero t) (forwardOf pt pPlus) pt (bsOf alpha t payments) ps) (bsOf alpha t payments) ps owns notional side
 
-  record Searches (o : Outcome Valued) : Type 0 where
-    begun : Begun alpha pls ss ts fs payments accruals owns strike t notional side
-    goes-on : on (begun .pt) (begun .pPlus) (begun .ps) ≡ o
-
-  searches : (o : Outcome Valued) → Late o → pricerOutcome option alpha pls ss ts fs payments accruals owns strike t notional side ≡ o → Searches o
-  unfolding pricerOutcome pricerPriced on
-  searches o late e =
-      let p = past-rules o late (rulesOn alpha pls ss ts fs payments accruals owns strike t notional side) (pricerPriced option alpha pls ss ts fs payments accruals owns strike t notional side) tt e in
-      let r = past-lookups (factorAt ts fs t) (factorAt ts fs (t ⊕ h)) (factorsAt ts fs payments) on o late fetch-early (p .1) in
-      record {
-        begun = record { passed = p .0; pt = r .pt; pPlus = r .pPlus; ps = r .ps; at-option = r .at-option; day-after = r .day-after; at-payments = r .at-payments };
-        goes-on = r .goes-on;
-      }
-
-  -- a search that is begun is what the call comes to
-  begins : (b : Begun alpha pls ss ts fs payments accruals owns strike t notional side) → pricerOutcome option alpha pls ss ts fs payments accruals owns strike t notional side ≡ on (b .pt) (b .pPlus) (b .ps)
-  unfolding pricerOutcome pricerPriced on
-  begins b =
-      ap (λ a. after a (pricerPriced option alpha pls ss ts fs payments accruals owns strike t notional side)) (b .passed)
-      ∙ through-lookups (factorAt ts fs t) (factorAt ts fs (t ⊕ h)) (factorsAt ts fs payments) on (b .at-option) (b .day-after) (b .at-payments)
-
   -- ---- of any answer whose outcome is the one defined: `Rooted` and `RefusedSo`
   module _ {o : Outcome Valued} (is : o ≡ pricerOutcome option alpha pls ss ts fs payments accruals owns strike t notional side) where
-    pub rooted : (v : Valued) → o ≡ served v → RootFound alpha pls ss ts fs payments accruals owns strike t notional side v
-    unfolding on
+    pub rooted : (v : Valued) → o ≡ served v → RootFound (rulesOn alpha pls ss ts fs payments accruals owns strike t notional side) ts fs payments t (sumOf alpha pls ss t payments accruals strike) (v .root)
+    unfolding pricerOutcome pricerPriced on
     rooted v e =
-        let s = searches (served v) tt (sym is ∙ e) in
+        let s = searches (rulesOn alpha pls ss ts fs payments accruals owns strike t notional side) ts fs payments t on tt (served v) tt (sym is ∙ e) in
         record { begun = s .begun; located = located _ _ _ _ _ _ _ _ _ _ v (s .goes-on) }
 
-    pub refused-so : (o ≡ refused R.NoBracket) ↔ WantsBracket alpha pls ss ts fs payments accruals owns strike t notional side
-    unfolding on
+    pub refused-so : (o ≡ refused R.NoBracket) ↔ WantsBracket (rulesOn alpha pls ss ts fs payments accruals owns strike t notional side) ts fs payments t (sumOf alpha pls ss t payments accruals strike)
+    unfolding pricerOutcome pricerPriced on
     refused-so = (
-      λ e. let s = searches (refused R.NoBracket) tt (sym is ∙ e) in record { begun = s .begun; unbracketed = unbracketed _ _ _ _ _ _ _ _ _ _ (s .goes-on) },
-      λ w. is ∙ begins (w .begun) ∙ bracket-wanted _ _ _ _ _ _ _ _ _ _ (w .unbracketed),
+      λ e. let s = searches (rulesOn alpha pls ss ts fs payments accruals owns strike t notional side) ts fs payments t on tt (refused R.NoBracket) tt (sym is ∙ e) in
+          record { begun = s .begun; unbracketed = unbracketed _ _ _ _ _ _ _ _ _ _ (s .goes-on) },
+      λ w. is ∙ begins (rulesOn alpha pls ss ts fs payments accruals owns strike t notional side) ts fs payments t on (w .begun) ∙ bracket-wanted _ _ _ _ _ _ _ _ _ _ (w .unbracketed),
     )

@@ -32,10 +32,10 @@ use Rattle.search.specs.Facts.{Searched}
 use Rattle.search.proofs.Answers.{priced}
 use Rattle.terms.specs.Terms.{coefficientsOf, bsOf, factorsAt}
 use Rattle.terms.proofs.Entries.{weights-length}
-use Rattle.pricers.specs.declared.bond_option.SwaptionType.{SwaptionType}
-use Rattle.pricers.specs.Affine.{deviationOf, affinesOf}
-use Rattle.pricers.specs.Newton.{sumsOf, stepped}
-use Rattle.pricers.specs.Components.{componentsOf}
+use Rattle.closedform.specs.declared.bond_option.SwaptionType.{SwaptionType}
+use Rattle.closedform.specs.Affine.{deviationOf, affinesOf}
+use Rattle.closedform.specs.Newton.{sumsOf, stepped}
+use Rattle.closedform.specs.Components.{componentsOf}
 use Rattle.pricers.specs.Pricer.{Valued, finishingValuation, pricedBy, pricerPriced, pricerRules, rulesOn, pricerOutcome}
 use Rattle.pricers.proofs.Parts.{front}
 

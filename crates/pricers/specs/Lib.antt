@@ -1,7 +1,3 @@
--- What the contracts of the pricer say, in the order of closedformhullwhiteswaptionpricer.rs.
-pub mod Affine
-pub mod Newton
-pub mod BondOption
-pub mod Components
+-- What the contracts of the pricer say: kinds 6 and 7, and demand 3.
 pub mod Pricer
 pub mod Demand3

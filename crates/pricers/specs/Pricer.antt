@@ -20,12 +20,12 @@ use Rattle.search.specs.Sum.{couponSum}
 use Rattle.search.specs.Rate.{criticalOf}
 use Rattle.search.specs.Values.{Values, noValues, criticalOutcome}
 use Rattle.terms.specs.Terms.{coefficientsOf, bsOf, factorsAt}
-use Rattle.pricers.specs.declared.bond_option.SwaptionType.{SwaptionType}
+use Rattle.closedform.specs.declared.bond_option.SwaptionType.{SwaptionType}
 use Rattle.pricers.specs.declared.pricer.Valuation.{Valuation}
 use Rattle.pricers.specs.declared.pricer.Valuation.the-variants as Val
-use Rattle.pricers.specs.Affine.{deviationOf, affinesOf}
-use Rattle.pricers.specs.Newton.{sumsOf, stepped}
-use Rattle.pricers.specs.Components.{componentsOf}
+use Rattle.closedform.specs.Affine.{deviationOf, affinesOf}
+use Rattle.closedform.specs.Newton.{sumsOf, stepped}
+use Rattle.closedform.specs.Components.{componentsOf}
 
 -- a value, the critical rate after the Newton step, and where the root lies: the rate before the step, the final bracket, the rungs
 pub record Valued : Type 0 where

@@ -8,11 +8,8 @@ ghost use Rattle.lists.specs.Refusals.{reported, firstOf};
 ghost use Rattle.lists.specs.Faults.{curveFaults};
 ghost use Rattle.pricers.specs.Pricer.{valuationOutcome, noValued, ownFits, pricerRules, pricedBy, pricerPriced, pricerOutcome, finishingValuation};
 ghost use Rattle.pricers.specs.Demand3.{Rooted, RefusedSo};
-use super::bond_option::SwaptionType;
-use super::components;
-use super::newton;
-use super::newton::Step;
-use super::variance;
+use closedform::Step;
+use closedform::SwaptionType;
 use lists::Answer;
 use lists::Faults;
 use lists::Found;
@@ -225,10 +222,10 @@ fn pricer_priced(
     let state_variance = schedules::variance_of(alpha, pillars, sigmas, 0.0, t);
     let forward = formulas::forward_of(p_t, p_plus);
     let mut a = [0.0; 64];
-    variance::affines(state_variance, forward, p_t, &b[..n], &p[..n], &mut a[..n]);
+    closedform::affines(state_variance, forward, p_t, &b[..n], &p[..n], &mut a[..n]);
     priced_by(
         option,
-        variance::deviation(state_variance),
+        closedform::deviation(state_variance),
         p_t,
         &c[..n],
         &a[..n],
@@ -240,7 +237,7 @@ fn pricer_priced(
     )
 }
 
-// The search, the Newton step, the components.
+// The search, the Newton step, the components. `pricer_priced` has the lists of one length of at most 64.
 fn priced_by(
     option: SwaptionType,
     deviation: f64,
@@ -272,11 +269,11 @@ fn priced_by(
     else {
         return Valuation::Refused(Refusal::NoBracket);
     };
-    let Step::To(stepped) = newton::implicit_critical_rate(rate, c, a, b) else {
+    let Step::To(stepped) = closedform::implicit_critical_rate(rate, c, a, b) else {
         return Valuation::Refused(Refusal::FlatDerivative);
     };
     let own = !lists::all(own_dfs, Test::Zero);
-    let sum = components::components(option, own, deviation, p_t, stepped, c, a, b, p, own_dfs);
+    let sum = closedform::components(option, own, deviation, p_t, stepped, c, a, b, p, own_dfs);
     finished(sum * notional * side, stepped, rate, bracket, below, above)
 }
 

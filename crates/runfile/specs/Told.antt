@@ -10,11 +10,11 @@ use Rattle.models.specs.declared.options.BondOption.the-variants.{Put, Call}
 use Rattle.models.specs.Options.{optionletOutcome, bondOptionOutcome}
 use Rattle.swaptions.specs.Price as Model
 use Rattle.swaptions.specs.Model.{modelOutcome}
-use Rattle.pricers.specs.declared.bond_option.SwaptionType.the-variants.{Payer, Receiver}
+use Rattle.closedform.specs.declared.bond_option.SwaptionType.the-variants.{Payer, Receiver}
 use Rattle.pricers.specs.Pricer as Pricer
 use Rattle.pricers.specs.Pricer.{pricerOutcome}
 use Rattle.bisection.specs.declared.result.Fit.{Fit}
-use Rattle.calibration.specs.declared.market.Quote.the-variants.{Black, Normal}
+use Rattle.objectives.specs.declared.market.Quote.the-variants.{Black, Normal}
 use Rattle.calibration.specs.Fits.{capletFitOutcome, swaptionFitOutcome}
 use Rattle.layout.specs.declared.records.Job.{Job}
 use Rattle.layout.specs.Request.{Request}

@@ -6,27 +6,25 @@ use mathlib.Core.List.{List}
 use Prim.Native.Nat.{ℕ, zero, suc, _<_}
 use native.Mathlib.Omega.{arith}
 use borrow.Author.Tests.{ne-eqb}
-use lib.Dec.{T, eqb}
+use lib.Dec.{eqb}
 use lib.ListN.{length}
 use lib.Ieee.{Float}
 use lib.Ieee.Scale.{finite}
-use Rattle.ieee.specs.Rounded.{_⊕_}
-use Rattle.lists.specs.declared.refusals.Refusal.{Refusal}
 use Rattle.lists.specs.declared.refusals.Refusal.the-variants as R
 use Rattle.lists.specs.Refusals.{Outcome, served, refused, after, following}
-use Rattle.lists.specs.Lookups.{factorAt}
 use Rattle.lists.proofs.Outcomes.{not-both}
-use Rattle.formulas.specs.HullWhite.{h, forwardOf, decayOf, deviationOf}
+use Rattle.formulas.specs.HullWhite.{forwardOf, decayOf, deviationOf}
 use Rattle.search.specs.Rate.{criticalOf}
 use Rattle.search.specs.Values.{Values, criticalOutcome}
 use Rattle.search.specs.Reached.{Unbracketed}
 use Rattle.search.specs.Facts.{Located}
-use Rattle.search.proofs.Callers.{early, Late, past-rules, past-lookups, through-lookups, searching, root-located, wants-bracket, no-bracket, ends-so, ends-otherwise}
-use Rattle.terms.specs.Terms.{coefficientsOf, bsOf, driftsOf, affinesOf, factorsAt}
-use Rattle.terms.proofs.Fetched.{off-curve}
+use Rattle.search.proofs.Callers.{Late, past-rules, searching, root-located, wants-bracket, no-bracket, ends-so, ends-otherwise}
+use Rattle.terms.specs.Terms.{coefficientsOf, bsOf, driftsOf, affinesOf}
+use Rattle.terms.specs.Begun.{Begun, RootFound, WantsBracket}
+use Rattle.terms.proofs.Begun.{Searches, looked-up, looks-up}
 use Rattle.swaptions.specs.Price.{Valued, noValued, putsOf, priceAt, finishingSwaption}
 use Rattle.swaptions.specs.Model.{rulesOn, termsPriced, modelPriced, modelOutcome}
-use Rattle.swaptions.specs.Demand3.{sumOf, Begun, RootFound, WantsBracket}
+use Rattle.swaptions.specs.Demand3.{sumOf}
 
 -- ---- rule 13 after the price
 keeps : (w v : Valued) → finishingSwaption w ≡ served v → w ≡ v
@@ -79,48 +77,39 @@ with-coupons : (n : ℕ) (rest : Outcome Valued) → 0 < n → cond (eqb n 0) (s
 with-coupons n rest l = rw (ne-eqb n 0 (λ e. omega arith))
 
 module _ (alpha : Float) (ts fs payments accruals : List Float) (strike t sigma : Float) where
-  fetch-early : (q : Refusal) → factorsAt ts fs payments ≡ refused q → T (early q)
-  fetch-early q e = rw (off-curve ts fs payments q e) tt
-
-  record Searches (o : Outcome Valued) : Type 0 where
-    begun : Begun alpha ts fs payments accruals strike t sigma
-    goes-on : termsPriced alpha payments accruals strike t sigma (begun .pt) (begun .pPlus) (begun .ps) ≡ o
-
   -- what is left of the call after its rules
   abbrev called : Outcome Valued
   called = cond (eqb (length payments) 0) (served noValued) (modelPriced alpha ts fs payments accruals strike t sigma)
 
-  searches : (o : Outcome Valued) → Late o → modelOutcome alpha ts fs payments accruals strike t sigma ≡ o → (called ≡ o → 0 < length payments) → Searches o
+  searches : (o : Outcome Valued) → Late o → modelOutcome alpha ts fs payments accruals strike t sigma ≡ o → (called ≡ o → 0 < length payments)
+      → (0 < length payments) × Searches (rulesOn alpha ts fs payments accruals strike t sigma) ts fs payments t (termsPriced alpha payments accruals strike t sigma) o
   unfolding modelOutcome modelPriced
   searches o late e l =
       let p = past-rules o late (rulesOn alpha ts fs payments accruals strike t sigma) called tt e in
       let q = sym (with-coupons (length payments) (modelPriced alpha ts fs payments accruals strike t sigma) (l (p .1))) ∙ p .1 in
-      let r = past-lookups (factorAt ts fs t) (factorAt ts fs (t ⊕ h)) (factorsAt ts fs payments) (λ pt pPlus ps. termsPriced alpha payments accruals strike t sigma pt pPlus ps) o late fetch-early q in
-      record {
-        begun = record { passed = p .0; coupons = l (p .1); pt = r .pt; pPlus = r .pPlus; ps = r .ps; at-option = r .at-option; day-after = r .day-after; at-payments = r .at-payments };
-        goes-on = r .goes-on;
-      }
+      (l (p .1), looked-up _ ts fs payments t (termsPriced alpha payments accruals strike t sigma) o late (p .0) q)
 
   -- a search that is begun is what the call comes to
-  begins : (b : Begun alpha ts fs payments accruals strike t sigma) → modelOutcome alpha ts fs payments accruals strike t sigma ≡ termsPriced alpha payments accruals strike t sigma (b .pt) (b .pPlus) (b .ps)
+  begins : 0 < length payments → (b : Begun (rulesOn alpha ts fs payments accruals strike t sigma) ts fs payments t) → modelOutcome alpha ts fs payments accruals strike t sigma ≡ termsPriced alpha payments accruals strike t sigma (b .pt) (b .pPlus) (b .ps)
   unfolding modelOutcome modelPriced
-  begins b =
+  begins l b =
       ap (λ a. after a called) (b .passed)
-      ∙ with-coupons (length payments) (modelPriced alpha ts fs payments accruals strike t sigma) (b .coupons)
-      ∙ through-lookups (factorAt ts fs t) (factorAt ts fs (t ⊕ h)) (factorsAt ts fs payments) (λ pt pPlus ps. termsPriced alpha payments accruals strike t sigma pt pPlus ps) (b .at-option) (b .day-after) (b .at-payments)
+      ∙ with-coupons (length payments) (modelPriced alpha ts fs payments accruals strike t sigma) l
+      ∙ looks-up (rulesOn alpha ts fs payments accruals strike t sigma) ts fs payments t (termsPriced alpha payments accruals strike t sigma) b
 
   -- ---- of any answer whose outcome is the one defined: `Rooted` and `RefusedSo`
   module _ {o : Outcome Valued} (is : o ≡ modelOutcome alpha ts fs payments accruals strike t sigma) where
-    pub rooted : (v : Valued) → o ≡ served v → 0 < length payments → RootFound alpha ts fs payments accruals strike t sigma v
+    pub rooted : (v : Valued) → o ≡ served v → 0 < length payments → RootFound (rulesOn alpha ts fs payments accruals strike t sigma) ts fs payments t (sumOf alpha t payments accruals strike sigma) (v .root)
     unfolding sum
     rooted v e l =
-        let s = searches (served v) tt (sym is ∙ e) (λ z. l) in
+        let s = searches (served v) tt (sym is ∙ e) (λ z. l) .1 in
         record { begun = s .begun; located = located alpha payments accruals strike t sigma (s .begun .pt) (s .begun .pPlus) (s .begun .ps) v (s .goes-on) }
 
-    pub refused-so : (o ≡ refused R.NoBracket) ↔ WantsBracket alpha ts fs payments accruals strike t sigma
+    pub refused-so : (o ≡ refused R.NoBracket) ↔ ((0 < length payments) × WantsBracket (rulesOn alpha ts fs payments accruals strike t sigma) ts fs payments t (sumOf alpha t payments accruals strike sigma))
     unfolding sum
     refused-so = (
       λ e. let s = searches (refused R.NoBracket) tt (sym is ∙ e) (coupons-there (length payments) (modelPriced alpha ts fs payments accruals strike t sigma)) in
-          record { begun = s .begun; unbracketed = unbracketed alpha payments accruals strike t sigma (s .begun .pt) (s .begun .pPlus) (s .begun .ps) (s .goes-on) },
-      λ w. is ∙ begins (w .begun) ∙ bracket-wanted alpha payments accruals strike t sigma (w .begun .pt) (w .begun .pPlus) (w .begun .ps) (w .unbracketed),
+          let b = s .1 .begun in
+          (s .0, record { begun = b; unbracketed = unbracketed alpha payments accruals strike t sigma (b .pt) (b .pPlus) (b .ps) (s .1 .goes-on) }),
+      λ w. let b = w .1 .begun in is ∙ begins (w .0) b ∙ bracket-wanted alpha payments accruals strike t sigma (b .pt) (b .pPlus) (b .ps) (w .1 .unbracketed),
     )

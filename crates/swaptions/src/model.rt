@@ -167,7 +167,8 @@ fn model_priced(
     )
 }
 
-// The terms and the price, on the factors at t, t + h and the payment times.
+// The terms and the price, on the factors at t, t + h and the payment times. `model_priced` has the lists of
+// one length of at most 64.
 fn terms_priced(
     alpha: f64,
     payments: &[f64],

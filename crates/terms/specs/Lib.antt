@@ -1,2 +1,3 @@
--- What the contracts of the terms say.
+-- What the contracts of the terms say; and what those of the calls that search on them do.
 pub mod Terms
+pub mod Begun

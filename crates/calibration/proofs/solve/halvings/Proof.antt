@@ -2,7 +2,7 @@
 use mathlib.Core.Path.{_≡_, refl, sym, _∙_}
 use Prim.Native.Nat.{_-_, _≤_}
 use Rattle.bisection.specs.Solve.{halvingsFrom}
-use Rattle.calibration.specs.Objective.{objectiveOf}
+use Rattle.objectives.specs.Objective.{objectiveOf}
 use Rattle.calibration.proofs.Turning.{turn-unmoved, count-refused, count-converged, count-moved, count-done}
 use borrow.Author.Needs.{needs}
 use Rattle.calibration.proofs.solve.halvings.Statement.{statement}

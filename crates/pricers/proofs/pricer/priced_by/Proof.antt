@@ -2,7 +2,7 @@
 use mathlib.Core.Path.{sym, ap, _∙_}
 use Rattle.search.proofs.Callers.{nothing-found}
 use Rattle.terms.proofs.Entries.{weights-length}
-use Rattle.pricers.specs.Newton.{stepOutcome}
+use Rattle.closedform.specs.Newton.{stepOutcome}
 use Rattle.pricers.proofs.Parts.{within, sized, lent}
 use Rattle.pricers.proofs.Pricing.{searched, search-nan, search-none, step-flat, valued}
 use borrow.Author.Needs.{needs}

@@ -6,7 +6,7 @@ use lib.Ieee.{Float}
 use Rattle.lists.proofs.Outcomes.{at, missing}
 use Rattle.terms.proofs.Entries.{coefficients-length, bs-length}
 use Rattle.terms.proofs.Fetched.{fetch-refused, fetch-all}
-use Rattle.pricers.proofs.Entries.{affines-length}
+use Rattle.closedform.proofs.Entries.{affines-length}
 use Rattle.pricers.proofs.Parts.{within, front, sized, factors-within, factors-front, factors-sized, lent}
 use Rattle.pricers.proofs.Pricing.{off-option, off-day, off-payments, on-curve}
 use borrow.Author.Needs.{needs}

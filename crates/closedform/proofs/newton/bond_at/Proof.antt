@@ -1,0 +1,15 @@
+-- `closedform::bond_at` meets its contract. Assumes nothing.
+use Rattle.closedform.specs.Newton.{bondAt}
+use borrow.Author.Needs.{needs}
+use Rattle.closedform.proofs.newton.bond_at.Statement.{statement}
+use Rattle.closedform.proofs.newton.bond_at.Tie as tie
+
+exp-requires : tie.Need-exp-requires
+exp-requires c κs = search needs
+
+returns : tie.Need-returns
+unfolding bondAt
+returns c = cc
+
+pub bond-at-spec : {M : Type 1} → statement M
+bond-at-spec = tie.close (tie.spec exp-requires returns)

@@ -1,0 +1,15 @@
+-- `closedform::sums_after` meets its contract. Assumes nothing.
+use Rattle.closedform.specs.Newton.{sumsAfter}
+use borrow.Author.Needs.{needs}
+use Rattle.closedform.proofs.newton.sums_after.Statement.{statement}
+use Rattle.closedform.proofs.newton.sums_after.Tie as tie
+
+bond-at-requires : tie.Need-bond-at-requires
+bond-at-requires c κs = search needs
+
+returns : tie.Need-returns
+unfolding sumsAfter
+returns c = cc
+
+pub sums-after-spec : {M : Type 1} → statement M
+sums-after-spec = tie.close (tie.spec bond-at-requires returns)

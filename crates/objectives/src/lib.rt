@@ -1,0 +1,10 @@
+// hullwhitecalibration.rs, the objective of a fit: an instrument's market price at its quoted volatility,
+// and the residual at a sigma.
+mod market;
+mod objective;
+
+pub use market::Quote;
+pub use market::caplet_market;
+pub use market::swaption_market;
+pub use objective::Instrument;
+pub use objective::residual;
