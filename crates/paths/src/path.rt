@@ -2,9 +2,10 @@
 // point (kind 12).
 ghost use mathlib.Core.Path.{_≡_};
 ghost use mathlib.Core.Bool.{true};
+ghost use mathlib.Core.List.{[]};
 ghost use lib.ListN.{length};
 ghost use Rattle.lists.specs.Checks.{inOrder};
-ghost use Rattle.lists.specs.Refusals.{served, answerOf, firstOf, after};
+ghost use Rattle.lists.specs.Refusals.{served, answerOf, answerNumber, reported, firstOf, after};
 ghost use Rattle.lists.specs.Faults.{curveFaults};
 ghost use Rattle.paths.specs.Written.{storedOf};
 ghost use Rattle.paths.specs.Generate.{pathRules, startsBelow, stateAfter, shiftOf, pathFrom, startState, generateOutcome};
@@ -35,6 +36,7 @@ pub fn generate(
 ) -> Answer
     ensures answer { λ r. ⌜ r ≡ answerOf (generateOutcome alpha (now (pillars .entry)) (now (sigmas .entry)) (now (times .entry)) (now (factors .entry)) (now (grid .entry)) (now (draws .entry)) (length (now (out .entry)))) ⌝ }
     ensures output { λ r. ⌜ now (out .exit) ≡ storedOf (generateOutcome alpha (now (pillars .entry)) (now (sigmas .entry)) (now (times .entry)) (now (factors .entry)) (now (grid .entry)) (now (draws .entry)) (length (now (out .entry)))) (now (out .entry)) ⌝ }
+    ensures number { λ r. ⌜ answerNumber r ≡ reported [] (generateOutcome alpha (now (pillars .entry)) (now (sigmas .entry)) (now (times .entry)) (now (factors .entry)) (now (grid .entry)) (now (draws .entry)) (length (now (out .entry)))) .answer ⌝ }
 {
     let curve = lists::curve_faults(times, factors);
     generate_on(
@@ -66,6 +68,7 @@ pub fn generate_on(
     requires { ⌜ curve ≡ curveFaults (now times) (now factors) ⌝ }
     ensures answer { λ r. ⌜ r ≡ answerOf (generateOutcome alpha (now (pillars .entry)) (now (sigmas .entry)) (now (times .entry)) (now (factors .entry)) (now (grid .entry)) (now (draws .entry)) (length (now (out .entry)))) ⌝ }
     ensures output { λ r. ⌜ now (out .exit) ≡ storedOf (generateOutcome alpha (now (pillars .entry)) (now (sigmas .entry)) (now (times .entry)) (now (factors .entry)) (now (grid .entry)) (now (draws .entry)) (length (now (out .entry)))) (now (out .entry)) ⌝ }
+    ensures number { λ r. ⌜ answerNumber r ≡ reported [] (generateOutcome alpha (now (pillars .entry)) (now (sigmas .entry)) (now (times .entry)) (now (factors .entry)) (now (grid .entry)) (now (draws .entry)) (length (now (out .entry)))) .answer ⌝ }
 {
     let schedule = lists::pillar_faults(pillars, sigmas);
     let points = lists::grid_faults(grid, draws);
