@@ -1,6 +1,5 @@
 -- `volatility_near` meets its contract: the sigma of the last pillar that is reached, or the first, and nothing where there is no pillar.
-use mathlib.Core.Path.{sym, ap, _∙_}
-use lib.ListN.{getD}
+use mathlib.Core.Path.{sym}
 use Rattle.lists.proofs.Walks.{volatility-none}
 use Rattle.lists.proofs.Halves.{volatility-parted}
 use borrow.Author.Needs.{needs}

@@ -32,10 +32,10 @@ rules r =
     let a = entry r .args in
     rules-of (eqb (length (now (a .pillars))) 0) (ltb (length (now (a .out))) (length (now (a .grid)))) (a .alpha) (r .before .before .before .pillar-faults .ensures) (entry r .pre) (r .before .before .grid-faults .ensures) (r .before .starts-below .ensures) (r .path-rules .ensures)
 
-fit : (e : tie.After-enum-told) → let a = entry (e .before .before) .args in (length (now (a .grid)) ≤ 1024) × (length (now (a .draws)) ≡ length (now (a .grid))) × (inOrder true (now (a .times)) ≡ true) × (length (now (a .grid)) ≤ length (now (a .out)))
+fit : (e : tie.After-enum-told) → let a = entry (e .before .before) .args in (length (now (a .grid)) ≤ 1024) × (length (now (a .draws)) ≡ length (now (a .grid))) × (inOrder true (now (a .times)) ≡ true) × (inOrder true (now (a .pillars)) ≡ true) × (length (now (a .grid)) ≤ length (now (a .out)))
 fit e =
     let a = entry (e .before .before) .args in
-    grid-fits (pillarFaults (now (a .pillars)) (now (a .sigmas))) (now (a .times)) (now (a .factors)) (now (a .grid)) (now (a .draws)) (eqb (length (now (a .pillars))) 0) (startsBelow (now (a .grid))) (length (now (a .out))) (a .alpha) (e .enum-told .given .1) (rules (e .before .before))
+    grid-fits (now (a .pillars)) (now (a .sigmas)) (now (a .times)) (now (a .factors)) (now (a .grid)) (now (a .draws)) (eqb (length (now (a .pillars))) 0) (startsBelow (now (a .grid))) (length (now (a .out))) (a .alpha) (e .enum-told .given .1) (rules (e .before .before))
 
 abbrev worked : tie.After-walk-grid → List Float
 worked v = v .walk-grid .last .1 .1 .1 .1 .1 .1 .1 .0
@@ -73,7 +73,7 @@ slice-aggregate-walk-grid : tie.Need-slice-aggregate-walk-grid
 slice-aggregate-walk-grid c = lent-is work _ (fit (c .before) .0)
 
 walk-grid-requires : tie.Need-walk-grid-requires
-walk-grid-requires c κs = (sym (lent-is work _ (fit (c .before) .0)), fit (c .before) .1, fit (c .before) .2)
+walk-grid-requires c κs = (sym (lent-is work _ (fit (c .before) .0)), fit (c .before) .1, fit (c .before) .2, fit (c .before) .3)
 
 enum-known-walk : tie.Need-enum-known-walk
 enum-known-walk c = search needs
@@ -99,7 +99,7 @@ slice-aggregate-finish c = let v = c .before .before .before .before in back-is 
 finish-requires : tie.Need-finish-requires
 finish-requires c κs =
     let v = c .before .before .before .before .before in
-    rw (← back-is work _ (fit (v .before .before) .0) (worked v) (v .walk-grid .kept .1 .1 .1 .1 .1 .1 .1 .0)) (fit (v .before .before) .3)
+    rw (← back-is work _ (fit (v .before .before) .0) (worked v) (v .walk-grid .kept .1 .1 .1 .1 .1 .1 .1 .0)) (fit (v .before .before) .4)
 
 same-length : tie.Need-same-length
 same-length c = search needs
