@@ -12,16 +12,17 @@ use Rattle.lists.specs.declared.refusals.Refusal.the-variants as R
 use Rattle.lists.specs.Checks.{stepOf}
 use Rattle.lists.specs.Refusals.{Outcome, refused}
 
--- ---- where a rising list parts at t
+-- ---- where a rising list parts in two at t
 
 -- its first n numbers are below t, or, where not `strictly`, at most t
 abbrev pub Front : Bool → List Float → Float → ℕ → Type 0
 Front strictly xs t n = (k : ℕ) → k < n → stepOf strictly (getD xs k nan) t ≡ true
 
--- those from place n on are not
+-- none from place n on is
 abbrev pub Back : Bool → List Float → Float → ℕ → Type 0
 Back strictly xs t n = (k : ℕ) → n ≤ k → k < length xs → stepOf strictly (getD xs k nan) t ≡ false
 
+-- the first n are so, and no others
 abbrev pub PartsAt : Bool → List Float → Float → ℕ → Type 0
 PartsAt strictly xs t n = (n ≤ length xs) × Front strictly xs t n × Back strictly xs t n
 

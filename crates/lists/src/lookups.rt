@@ -12,7 +12,7 @@ pub enum Found {
     Missing,
 }
 
-// What a list has for a time, and where a walk along rising times looks for the next one first.
+// What a list has for a time, and the hint with which a walk along rising times asks for the next one.
 pub struct Spot {
     pub found: Found,
     pub next: usize,
@@ -28,7 +28,7 @@ pub fn factor(times: &[f64], factors: &[f64], t: f64) -> Found
     factor_at(times, factors, place, t)
 }
 
-// The same, looked for at `hint` first.
+// The same, looked for at the place `hint` first.
 pub fn factor_near(times: &[f64], factors: &[f64], hint: usize, t: f64) -> Spot
     requires { ⌜ inOrder true (now times) ≡ true ⌝ }
     ensures { λ r. ⌜ foundOf (r .found) ≡ factorAt (now (times .entry)) (now (factors .entry)) t ⌝ }
@@ -41,7 +41,7 @@ pub fn factor_near(times: &[f64], factors: &[f64], hint: usize, t: f64) -> Spot
     }
 }
 
-// The factor at the place where t stands, if it is there.
+// The factor at t, which stands at this place or nowhere.
 fn factor_at(times: &[f64], factors: &[f64], place: usize, t: f64) -> Found
     requires { ⌜ (inOrder true (now times) ≡ true) × PartsAt true (now times) t place ⌝ }
     ensures { λ r. ⌜ foundOf r ≡ factorAt (now (times .entry)) (now (factors .entry)) t ⌝ }
@@ -60,7 +60,7 @@ fn factor_at(times: &[f64], factors: &[f64], place: usize, t: f64) -> Found
     }
 }
 
-// How many times of a rising list are before t, or at t besides where not `strictly`.
+// How many times of a rising list are below t where `strictly`, else at most t, looked for by halves.
 fn part(times: &[f64], t: f64, strictly: bool) -> usize
     requires { ⌜ inOrder true (now times) ≡ true ⌝ }
     ensures { λ r. ⌜ PartsAt strictly (now (times .entry)) t r ⌝ }
@@ -78,7 +78,7 @@ fn part(times: &[f64], t: f64, strictly: bool) -> usize
     low
 }
 
-// The same, where it is likely to be `hint`.
+// The same, where `hint` is likely to be it: the times on both sides of the place say whether it is.
 fn part_near(times: &[f64], hint: usize, t: f64, strictly: bool) -> usize
     requires { ⌜ inOrder true (now times) ≡ true ⌝ }
     ensures { λ r. ⌜ PartsAt strictly (now (times .entry)) t r ⌝ }
@@ -91,7 +91,7 @@ fn part_near(times: &[f64], hint: usize, t: f64, strictly: bool) -> usize
     part(times, t, strictly)
 }
 
-// Whether the first n times are before t, which the last of them shows.
+// Whether the first n times are so: in a rising list the last of them shows it.
 fn reaches(times: &[f64], n: usize, t: f64, strictly: bool) -> bool
     requires { ⌜ inOrder true (now times) ≡ true ⌝ }
     ensures { λ r. ⌜ (r ≡ true → (n ≤ length (now (times .entry))) × Front strictly (now (times .entry)) t n) ⌝ }
@@ -105,7 +105,7 @@ fn reaches(times: &[f64], n: usize, t: f64, strictly: bool) -> bool
     checks::follows(strictly, times[n - 1], t)
 }
 
-// Whether the times from place n on are not, which the first of them shows.
+// Whether none from place n on is: the first of them shows it.
 fn stops(times: &[f64], n: usize, t: f64, strictly: bool) -> bool
     requires { ⌜ inOrder true (now times) ≡ true ⌝ }
     ensures { λ r. ⌜ (r ≡ true → Back strictly (now (times .entry)) t n) ⌝ }
@@ -140,7 +140,7 @@ pub fn volatility(times: &[f64], sigmas: &[f64], t: f64) -> Found
     Found::At(best)
 }
 
-// The same on rising times of which `hint` are likely to be at or before t.
+// The same on rising times, of which `hint` are likely to be at or before t.
 pub fn volatility_near(times: &[f64], sigmas: &[f64], hint: usize, t: f64) -> Spot
     requires { ⌜ inOrder true (now times) ≡ true ⌝ }
     ensures { λ r. ⌜ foundOf (r .found) ≡ volatilityAt (now (times .entry)) (now (sigmas .entry)) t ⌝ }
