@@ -77,10 +77,6 @@ module _ (t : Float) (xs : List Float) (i : ℕ) where
 
 -- ---- the factor at a time
 module _ (xs fs : List Float) (t : Float) (i : ℕ) where
-  pub factor-turn : i < length xs → i < length fs → eq (getD xs i nan) t ≡ false → factorAt (drop i xs) (drop i fs) t ≡ factorAt (drop (i + 1) xs) (drop (i + 1) fs) t
-  unfolding factorAt
-  factor-turn h k q = rw (next xs i h, next fs i k, q)
-
   pub factor-hit : i < length xs → i < length fs → eq (getD xs i nan) t ≡ true → factorAt (drop i xs) (drop i fs) t ≡ just (getD fs i nan)
   unfolding factorAt
   factor-hit h k q = rw (next xs i h, next fs i k, q)

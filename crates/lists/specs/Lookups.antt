@@ -1,12 +1,32 @@
 -- The factor at a time, the volatility at a time, and the times up to a time. Formulas cite `factorAt` by its name and its laws alone.
-use mathlib.Core.Bool.{cond}
+use mathlib.Core.Path.{_≡_}
+use mathlib.Core.Bool.{Bool, true, false, cond}
 use mathlib.Core.List.{List, [], _∷_}
-use lib.Ieee.{Float, eq, le}
+use Prim.Native.Nat.{ℕ, _≤_, _<_}
+use lib.ListN.{length, getD}
+use lib.Ieee.{Float, nan, eq, le}
 use Rattle.lists.specs.declared.lookups.Found.{Found}
 use Rattle.lists.specs.declared.lookups.Found.the-variants as F
 use Rattle.lists.specs.declared.refusals.Refusal.{Refusal}
 use Rattle.lists.specs.declared.refusals.Refusal.the-variants as R
+use Rattle.lists.specs.Checks.{stepOf}
 use Rattle.lists.specs.Refusals.{Outcome, refused}
+
+-- ---- where a rising list parts in two at t
+
+-- its first n numbers are below t, or, where not `strictly`, at most t
+abbrev pub Front : Bool → List Float → Float → ℕ → Type 0
+Front strictly xs t n = (k : ℕ) → k < n → stepOf strictly (getD xs k nan) t ≡ true
+
+-- none from place n on is
+abbrev pub Back : Bool → List Float → Float → ℕ → Type 0
+Back strictly xs t n = (k : ℕ) → n ≤ k → k < length xs → stepOf strictly (getD xs k nan) t ≡ false
+
+-- the first n are so, and no others
+abbrev pub PartsAt : Bool → List Float → Float → ℕ → Type 0
+PartsAt strictly xs t n = (n ≤ length xs) × Front strictly xs t n × Back strictly xs t n
+
+-- ---- lookups
 
 -- what a list may lack
 pub data Maybe : Type 0 where

@@ -37,7 +37,7 @@ pub fn all(xs: &[f64], test: Test) -> bool
 }
 
 // Whether x may follow the number before it.
-fn follows(strictly: bool, before: f64, x: f64) -> bool
+pub fn follows(strictly: bool, before: f64, x: f64) -> bool
     ensures { λ r. ⌜ r ≡ stepOf strictly before x ⌝ }
 {
     if strictly { before < x } else { before <= x }

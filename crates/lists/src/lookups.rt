@@ -1,14 +1,21 @@
 // The factor at a time, the volatility at a time, and the times up to a time.
 ghost use mathlib.Core.Path.{_≡_};
 ghost use mathlib.Core.Bool.{true};
-ghost use Prim.Native.Nat.{_≤_};
+ghost use Prim.Native.Nat.{_≤_, _-_};
 ghost use lib.ListN.{length, take};
 ghost use Rattle.lists.specs.Checks.{inOrder};
-ghost use Rattle.lists.specs.Lookups.{foundOf, factorAt, volatilityAt, upTo};
+ghost use Rattle.lists.specs.Lookups.{Front, Back, PartsAt, foundOf, factorAt, volatilityAt, upTo};
+use super::checks;
 
 pub enum Found {
     At(f64),
     Missing,
+}
+
+// What a list has for a time, and the hint with which a walk along rising times asks for the next one.
+pub struct Spot {
+    pub found: Found,
+    pub next: usize,
 }
 
 // The factor at a time that is on the curve, numbers compared. It is looked for by halves: the times
@@ -17,28 +24,96 @@ pub fn factor(times: &[f64], factors: &[f64], t: f64) -> Found
     requires { ⌜ inOrder true (now times) ≡ true ⌝ }
     ensures { λ r. ⌜ foundOf r ≡ factorAt (now (times .entry)) (now (factors .entry)) t ⌝ }
 {
+    let place = part(times, t, true);
+    factor_at(times, factors, place, t)
+}
+
+// The same, looked for at the place `hint` first.
+pub fn factor_near(times: &[f64], factors: &[f64], hint: usize, t: f64) -> Spot
+    requires { ⌜ inOrder true (now times) ≡ true ⌝ }
+    ensures { λ r. ⌜ foundOf (r .found) ≡ factorAt (now (times .entry)) (now (factors .entry)) t ⌝ }
+{
+    let place = part_near(times, hint, t, true);
+    let found = factor_at(times, factors, place, t);
+    Spot {
+        found,
+        next: place + 1,
+    }
+}
+
+// The factor at t, which stands at this place or nowhere.
+fn factor_at(times: &[f64], factors: &[f64], place: usize, t: f64) -> Found
+    requires { ⌜ (inOrder true (now times) ≡ true) × PartsAt true (now times) t place ⌝ }
+    ensures { λ r. ⌜ foundOf r ≡ factorAt (now (times .entry)) (now (factors .entry)) t ⌝ }
+{
+    if times.len() <= place {
+        return Found::Missing;
+    }
+    if factors.len() <= place {
+        return Found::Missing;
+    }
+    if times[place] == t {
+        let found = factors[place];
+        Found::At(found)
+    } else {
+        Found::Missing
+    }
+}
+
+// How many times of a rising list are below t where `strictly`, else at most t, looked for by halves.
+fn part(times: &[f64], t: f64, strictly: bool) -> usize
+    requires { ⌜ inOrder true (now times) ≡ true ⌝ }
+    ensures { λ r. ⌜ PartsAt strictly (now (times .entry)) t r ⌝ }
+{
     let mut low = 0;
     let mut high = times.len();
     while low < high {
         let middle = low + (high - low) / 2;
-        if times[middle] < t {
+        if checks::follows(strictly, times[middle], t) {
             low = middle + 1;
         } else {
             high = middle;
         }
     }
-    if times.len() <= low {
-        return Found::Missing;
+    low
+}
+
+// The same, where `hint` is likely to be it: the times on both sides of the place say whether it is.
+fn part_near(times: &[f64], hint: usize, t: f64, strictly: bool) -> usize
+    requires { ⌜ inOrder true (now times) ≡ true ⌝ }
+    ensures { λ r. ⌜ PartsAt strictly (now (times .entry)) t r ⌝ }
+{
+    if reaches(times, hint, t, strictly) {
+        if stops(times, hint, t, strictly) {
+            return hint;
+        }
     }
-    if factors.len() <= low {
-        return Found::Missing;
+    part(times, t, strictly)
+}
+
+// Whether the first n times are so: in a rising list the last of them shows it.
+fn reaches(times: &[f64], n: usize, t: f64, strictly: bool) -> bool
+    requires { ⌜ inOrder true (now times) ≡ true ⌝ }
+    ensures { λ r. ⌜ (r ≡ true → (n ≤ length (now (times .entry))) × Front strictly (now (times .entry)) t n) ⌝ }
+{
+    if n == 0 {
+        return true;
     }
-    if times[low] == t {
-        let found = factors[low];
-        Found::At(found)
-    } else {
-        Found::Missing
+    if times.len() < n {
+        return false;
     }
+    checks::follows(strictly, times[n - 1], t)
+}
+
+// Whether none from place n on is: the first of them shows it.
+fn stops(times: &[f64], n: usize, t: f64, strictly: bool) -> bool
+    requires { ⌜ inOrder true (now times) ≡ true ⌝ }
+    ensures { λ r. ⌜ (r ≡ true → Back strictly (now (times .entry)) t n) ⌝ }
+{
+    if times.len() <= n {
+        return true;
+    }
+    !checks::follows(strictly, times[n], t)
 }
 
 // The volatility of the last pillar at or before t, else of the first.
@@ -63,6 +138,39 @@ pub fn volatility(times: &[f64], sigmas: &[f64], t: f64) -> Found
         i += 1;
     }
     Found::At(best)
+}
+
+// The same on rising times, of which `hint` are likely to be at or before t.
+pub fn volatility_near(times: &[f64], sigmas: &[f64], hint: usize, t: f64) -> Spot
+    requires { ⌜ inOrder true (now times) ≡ true ⌝ }
+    ensures { λ r. ⌜ foundOf (r .found) ≡ volatilityAt (now (times .entry)) (now (sigmas .entry)) t ⌝ }
+{
+    let n = part_near(times, hint, t, false);
+    if times.len() == 0 {
+        return Spot {
+            found: Found::Missing,
+            next: n,
+        };
+    }
+    let last = last_of(n);
+    if sigmas.len() <= last {
+        return Spot {
+            found: volatility(times, sigmas, t),
+            next: n,
+        };
+    }
+    let sigma = sigmas[last];
+    Spot {
+        found: Found::At(sigma),
+        next: n,
+    }
+}
+
+// The place of the last of n, and 0 where there is none.
+fn last_of(n: usize) -> usize
+    ensures { λ r. ⌜ r ≡ n - 1 ⌝ }
+{
+    if n == 0 { 0 } else { n - 1 }
 }
 
 // How many of the times from the front are at or before t.

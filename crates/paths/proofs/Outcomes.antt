@@ -1,4 +1,4 @@
--- What a call that its rules let through knows: its lengths, and that the curve's times rise. And what the part of the working list holds that was lent.
+-- What a call that its rules let through knows: its lengths, and that the times of its pillars and of its curve rise. And what the part of the working list holds that was lent.
 use mathlib.Core.Path.{_≡_, sym, _∙_}
 use mathlib.Core.Bool.{Bool, true, not, _||_}
 use mathlib.Core.List.{List, _++_}
@@ -15,7 +15,7 @@ use Rattle.lists.specs.declared.refusals.Answer.the-variants as A
 use Rattle.lists.specs.Refusals.{firstOf}
 use Rattle.lists.specs.Order.{none-applies}
 use Rattle.lists.specs.Checks.{inOrder}
-use Rattle.lists.specs.Faults.{curveFaults, gridFaults}
+use Rattle.lists.specs.Faults.{curveFaults, pillarFaults, gridFaults}
 use Rattle.lists.proofs.Outcomes.{neither}
 use Rattle.lists.proofs.Laws.{curve-rises}
 use Rattle.paths.specs.Transition.{transitionRules}
@@ -36,10 +36,11 @@ pub rules-of : {schedule schedule′ curve curve′ points points′ : Faults} (
     → answer ≡ firstOf (pathRules schedule curve points empty below short alpha) → answer ≡ firstOf (pathRules schedule′ curve′ points′ empty below′ short alpha)
 rules-of empty short alpha p q r s h = rw (← p, ← q, ← r, ← s) h
 
-pub grid-fits : (schedule : Faults) (ts fs grid draws : List Float) (empty below : Bool) (room : ℕ) (alpha : Float) {answer : Answer}
-    → answer ≡ A.Served → answer ≡ firstOf (pathRules schedule (curveFaults ts fs) (gridFaults grid draws) empty below (ltb room (length grid)) alpha)
-    → (length grid ≤ 1024) × (length draws ≡ length grid) × (inOrder true ts ≡ true) × (length grid ≤ room)
-grid-fits schedule ts fs grid draws empty below room alpha e h =
+pub grid-fits : (ps ss ts fs grid draws : List Float) (empty below : Bool) (room : ℕ) (alpha : Float) {answer : Answer}
+    → answer ≡ A.Served → answer ≡ firstOf (pathRules (pillarFaults ps ss) (curveFaults ts fs) (gridFaults grid draws) empty below (ltb room (length grid)) alpha)
+    → (length grid ≤ 1024) × (length draws ≡ length grid) × (inOrder true ts ≡ true) × (inOrder true ps ≡ true) × (length grid ≤ room)
+grid-fits ps ss ts fs grid draws empty below room alpha e h =
+    let schedule = pillarFaults ps ss in
     let curve = curveFaults ts fs in
     let points = gridFaults grid draws in
     let none = none-applies (pathRules schedule curve points empty below (ltb room (length grid)) alpha) .0 (sym h ∙ e) in
@@ -47,8 +48,8 @@ grid-fits schedule ts fs grid draws empty below room alpha e h =
     let points-size = neither (schedule .size || curve .size) (points .size) (sizes .0) .1 in
     let both = neither (ltb 1024 (length grid)) (not (eqb (length grid) (length draws))) points-size in
     let orders = neither (schedule .order || curve .order) (points .order) (none .1 .1 .1 .0) in
-    let curve-order = neither (schedule .order) (curve .order) (orders .0) .1 in
-    (ltb-false 1024 (length grid) (both .0), sym (eqb-true (length grid) (length draws) (not-false (eqb (length grid) (length draws)) (both .1))), curve-rises ts fs curve-order, ltb-false room (length grid) (sizes .1))
+    let listed = neither (schedule .order) (curve .order) (orders .0) in
+    (ltb-false 1024 (length grid) (both .0), sym (eqb-true (length grid) (length draws) (not-false (eqb (length grid) (length draws)) (both .1))), curve-rises ts fs (listed .1), not-false (inOrder true ps) (listed .0), ltb-false room (length grid) (sizes .1))
 
 -- ---- the front of the working list, lent as n places and handed back as the values vs
 module _ (work : List Float) (n : ℕ) (fits : n ≤ length work) where

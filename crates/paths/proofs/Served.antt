@@ -69,5 +69,5 @@ module _ (alpha : Float) (ps ss ts fs : List Float) where
       let o = pathFrom alpha ps ss ts fs startState grid draws in
       let a = after-served (firstOf rules) (following o finishingList) xs e in
       let w = following-served o finishingList xs (a .1) in
-      let same = grid-fits schedule ts fs grid draws empty below room alpha (a .0) refl .1 in
+      let same = grid-fits ps ss ts fs grid draws empty below room alpha (a .0) refl .1 in
       ap length (sym (finished (allOf Finite (w .0)) (w .0) xs (w .2))) ∙ from-length startState grid draws (w .0) same (w .1)

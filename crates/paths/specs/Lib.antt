@@ -2,3 +2,4 @@
 pub mod Written
 pub mod Transition
 pub mod Generate
+pub mod Walk

@@ -2,17 +2,23 @@
 // point (kind 12).
 ghost use mathlib.Core.Path.{_≡_};
 ghost use mathlib.Core.Bool.{true};
+ghost use mathlib.Core.List.{[]};
 ghost use lib.ListN.{length};
+ghost use Rattle.ieee.specs.Numbers.{zero};
 ghost use Rattle.lists.specs.Checks.{inOrder};
-ghost use Rattle.lists.specs.Refusals.{served, answerOf, firstOf, after};
+ghost use Rattle.lists.specs.Refusals.{served, answerOf, answerNumber, reported, firstOf, after};
+ghost use Rattle.lists.specs.Lookups.{foundOf};
 ghost use Rattle.lists.specs.Faults.{curveFaults};
 ghost use Rattle.paths.specs.Written.{storedOf};
 ghost use Rattle.paths.specs.Generate.{pathRules, startsBelow, stateAfter, shiftOf, pathFrom, startState, generateOutcome};
+ghost use Rattle.paths.specs.Walk.{decayOf, decaysFrom, forwardAt};
+use super::decays;
 use super::output;
 use lists::Answer;
 use lists::Faults;
 use lists::Found;
 use lists::Refusal;
+use lists::Spot;
 
 // The state of a path: the centred rate, the time, and the state's variance.
 pub struct State {
@@ -35,6 +41,7 @@ pub fn generate(
 ) -> Answer
     ensures answer { λ r. ⌜ r ≡ answerOf (generateOutcome alpha (now (pillars .entry)) (now (sigmas .entry)) (now (times .entry)) (now (factors .entry)) (now (grid .entry)) (now (draws .entry)) (length (now (out .entry)))) ⌝ }
     ensures output { λ r. ⌜ now (out .exit) ≡ storedOf (generateOutcome alpha (now (pillars .entry)) (now (sigmas .entry)) (now (times .entry)) (now (factors .entry)) (now (grid .entry)) (now (draws .entry)) (length (now (out .entry)))) (now (out .entry)) ⌝ }
+    ensures number { λ r. ⌜ answerNumber r ≡ reported [] (generateOutcome alpha (now (pillars .entry)) (now (sigmas .entry)) (now (times .entry)) (now (factors .entry)) (now (grid .entry)) (now (draws .entry)) (length (now (out .entry)))) .answer ⌝ }
 {
     let curve = lists::curve_faults(times, factors);
     generate_on(
@@ -66,6 +73,7 @@ pub fn generate_on(
     requires { ⌜ curve ≡ curveFaults (now times) (now factors) ⌝ }
     ensures answer { λ r. ⌜ r ≡ answerOf (generateOutcome alpha (now (pillars .entry)) (now (sigmas .entry)) (now (times .entry)) (now (factors .entry)) (now (grid .entry)) (now (draws .entry)) (length (now (out .entry)))) ⌝ }
     ensures output { λ r. ⌜ now (out .exit) ≡ storedOf (generateOutcome alpha (now (pillars .entry)) (now (sigmas .entry)) (now (times .entry)) (now (factors .entry)) (now (grid .entry)) (now (draws .entry)) (length (now (out .entry)))) (now (out .entry)) ⌝ }
+    ensures number { λ r. ⌜ answerNumber r ≡ reported [] (generateOutcome alpha (now (pillars .entry)) (now (sigmas .entry)) (now (times .entry)) (now (factors .entry)) (now (grid .entry)) (now (draws .entry)) (length (now (out .entry)))) .answer ⌝ }
 {
     let schedule = lists::pillar_faults(pillars, sigmas);
     let points = lists::grid_faults(grid, draws);
@@ -143,12 +151,12 @@ fn path_rules(
     lists::and_rule(answer, Refusal::Empty, empty)
 }
 
-// One Euler step of the state to the time t.
-fn state_after(alpha: f64, sigma: f64, t: f64, draw: f64, s: State) -> State
+// One Euler step of the state to the time t, with the decay over it.
+fn state_after(alpha: f64, sigma: f64, t: f64, draw: f64, decay: f64, s: State) -> State
+    requires { ⌜ decay ≡ decayOf alpha (s .t) t ⌝ }
     ensures { λ r. ⌜ r ≡ stateAfter alpha sigma t draw s ⌝ }
 {
     let dt = t - s.t;
-    let decay = elementary::exp(-2.0 * alpha * dt);
     let variance = ieee::fused(
         s.variance,
         decay,
@@ -166,8 +174,29 @@ fn shift_of(variance: f64, forward: f64) -> f64
     ieee::fused(0.5, variance, forward)
 }
 
+// The forward at t, from the factors at t and a day later, looked for at `hint` first.
+fn forward_near(times: &[f64], factors: &[f64], hint: usize, t: f64) -> Spot
+    requires { ⌜ inOrder true (now times) ≡ true ⌝ }
+    ensures { λ r. ⌜ foundOf (r .found) ≡ forwardAt (now (times .entry)) (now (factors .entry)) t ⌝ }
+{
+    let first = lists::factor_near(times, factors, hint, t);
+    let found = first.found;
+    let Found::At(p) = found else {
+        return first;
+    };
+    let second = lists::factor_near(times, factors, first.next, t + formulas::day());
+    let found_plus = second.found;
+    let Found::At(p_plus) = found_plus else {
+        return second;
+    };
+    Spot {
+        found: Found::At(formulas::forward_of(p, p_plus)),
+        next: second.next,
+    }
+}
+
 // Works every point of the grid into `out`, or says why one cannot be worked. `generate_on` has asked the
-// rules: the lists are of one length, and the curve's times strictly rise.
+// rules: the lists are of one length, and the times of the pillars and of the curve strictly rise.
 fn walk_grid(
     alpha: f64,
     pillars: &[f64],
@@ -178,7 +207,26 @@ fn walk_grid(
     draws: &[f64],
     out: &mut [f64],
 ) -> Answer
-    requires { ⌜ (length (now out) ≡ length (now grid)) × (length (now draws) ≡ length (now grid)) × (inOrder true (now times) ≡ true) ⌝ }
+    requires { ⌜ (length (now out) ≡ length (now grid)) × (length (now draws) ≡ length (now grid)) × (inOrder true (now times) ≡ true) × (inOrder true (now pillars) ≡ true) ⌝ }
+    ensures { λ r. ⌜ pathFrom alpha (now (pillars .entry)) (now (sigmas .entry)) (now (times .entry)) (now (factors .entry)) startState (now (grid .entry)) (now (draws .entry)) ≡ after r (served (now (out .exit))) ⌝ }
+{
+    decays::write_decays(alpha, grid, out);
+    walk_points(alpha, pillars, sigmas, times, factors, grid, draws, out)
+}
+
+// The same, where `out` holds the decay over each step: a point's rate takes the place of its decay. A
+// volatility and a forward are looked for where those of the point before were found.
+fn walk_points(
+    alpha: f64,
+    pillars: &[f64],
+    sigmas: &[f64],
+    times: &[f64],
+    factors: &[f64],
+    grid: &[f64],
+    draws: &[f64],
+    out: &mut [f64],
+) -> Answer
+    requires { ⌜ (now out ≡ decaysFrom alpha zero (now grid)) × (length (now draws) ≡ length (now grid)) × (inOrder true (now times) ≡ true) × (inOrder true (now pillars) ≡ true) ⌝ }
     ensures { λ r. ⌜ pathFrom alpha (now (pillars .entry)) (now (sigmas .entry)) (now (times .entry)) (now (factors .entry)) startState (now (grid .entry)) (now (draws .entry)) ≡ after r (served (now (out .exit))) ⌝ }
 {
     let mut s = State {
@@ -186,20 +234,25 @@ fn walk_grid(
         t: 0.0,
         variance: 0.0,
     };
+    let mut reached = 0;
+    let mut place = 0;
     let mut i = 0;
     while i < grid.len() {
         let t = grid[i];
-        let Found::At(sigma) = lists::volatility(pillars, sigmas, t) else {
+        let volatility = lists::volatility_near(pillars, sigmas, reached, t);
+        let found = volatility.found;
+        let Found::At(sigma) = found else {
             return Answer::Refused(Refusal::Empty);
         };
-        let Found::At(p) = lists::factor(times, factors, t) else {
+        let forward = forward_near(times, factors, place, t);
+        let found_forward = forward.found;
+        let Found::At(f) = found_forward else {
             return Answer::Refused(Refusal::OffCurve);
         };
-        let Found::At(p_plus) = lists::factor(times, factors, t + formulas::day()) else {
-            return Answer::Refused(Refusal::OffCurve);
-        };
-        s = state_after(alpha, sigma, t, draws[i], s);
-        out[i] = s.x + shift_of(s.variance, formulas::forward_of(p, p_plus));
+        s = state_after(alpha, sigma, t, draws[i], out[i], s);
+        out[i] = s.x + shift_of(s.variance, f);
+        reached = volatility.next;
+        place = forward.next;
         i += 1;
     }
     Answer::Served

@@ -1,8 +1,9 @@
 // parameters.rs, transition_variances: the variance over each of a number of steps of one length.
 ghost use mathlib.Core.Path.{_≡_};
+ghost use mathlib.Core.List.{[]};
 ghost use Prim.Native.Nat.{_≤_};
 ghost use lib.ListN.{length};
-ghost use Rattle.lists.specs.Refusals.{answerOf, firstOf};
+ghost use Rattle.lists.specs.Refusals.{answerOf, answerNumber, reported, firstOf};
 ghost use Rattle.paths.specs.Written.{storedOf};
 ghost use Rattle.paths.specs.Transition.{transitionRules, stepVariance, variancesOf, transitionOutcome};
 use super::output;
@@ -20,6 +21,7 @@ pub fn transition_variances(
 ) -> Answer
     ensures answer { λ r. ⌜ r ≡ answerOf (transitionOutcome alpha (now (times .entry)) (now (sigmas .entry)) steps «time_step» (length (now (out .entry)))) ⌝ }
     ensures output { λ r. ⌜ now (out .exit) ≡ storedOf (transitionOutcome alpha (now (times .entry)) (now (sigmas .entry)) steps «time_step» (length (now (out .entry)))) (now (out .entry)) ⌝ }
+    ensures number { λ r. ⌜ answerNumber r ≡ reported [] (transitionOutcome alpha (now (times .entry)) (now (sigmas .entry)) steps «time_step» (length (now (out .entry)))) .answer ⌝ }
 {
     let pillars = lists::pillar_faults(times, sigmas);
     let answer = transition_rules(

@@ -1,5 +1,5 @@
 -- `paths::path::generate_on` meets its contract: the rules turn the call down, or the walk along the grid does, or the points of the whole grid are handed to `finish`. Assumes nothing.
-use mathlib.Core.Path.{_≡_, refl, sym, _∙_}
+use mathlib.Core.Path.{_≡_, refl, sym, ap, _∙_}
 use mathlib.Core.Bool.{true}
 use mathlib.Core.List.{List}
 use Prim.Native.Nat.{_≤_}
@@ -10,7 +10,7 @@ use lib.ListN.{length, replicate}
 use lib.Ieee.{Float}
 use Rattle.ieee.specs.Numbers.{zero}
 use Rattle.lists.specs.Checks.{inOrder}
-use Rattle.lists.specs.Refusals.{firstOf, following}
+use Rattle.lists.specs.Refusals.{answerNumber, firstOf, following}
 use Rattle.lists.specs.Faults.{pillarFaults, curveFaults, gridFaults}
 use Rattle.lists.proofs.Outcomes.{turned-down, let-through}
 use Rattle.paths.specs.Written.{finishingList}
@@ -32,10 +32,10 @@ rules r =
     let a = entry r .args in
     rules-of (eqb (length (now (a .pillars))) 0) (ltb (length (now (a .out))) (length (now (a .grid)))) (a .alpha) (r .before .before .before .pillar-faults .ensures) (entry r .pre) (r .before .before .grid-faults .ensures) (r .before .starts-below .ensures) (r .path-rules .ensures)
 
-fit : (e : tie.After-enum-told) → let a = entry (e .before .before) .args in (length (now (a .grid)) ≤ 1024) × (length (now (a .draws)) ≡ length (now (a .grid))) × (inOrder true (now (a .times)) ≡ true) × (length (now (a .grid)) ≤ length (now (a .out)))
+fit : (e : tie.After-enum-told) → let a = entry (e .before .before) .args in (length (now (a .grid)) ≤ 1024) × (length (now (a .draws)) ≡ length (now (a .grid))) × (inOrder true (now (a .times)) ≡ true) × (inOrder true (now (a .pillars)) ≡ true) × (length (now (a .grid)) ≤ length (now (a .out)))
 fit e =
     let a = entry (e .before .before) .args in
-    grid-fits (pillarFaults (now (a .pillars)) (now (a .sigmas))) (now (a .times)) (now (a .factors)) (now (a .grid)) (now (a .draws)) (eqb (length (now (a .pillars))) 0) (startsBelow (now (a .grid))) (length (now (a .out))) (a .alpha) (e .enum-told .given .1) (rules (e .before .before))
+    grid-fits (now (a .pillars)) (now (a .sigmas)) (now (a .times)) (now (a .factors)) (now (a .grid)) (now (a .draws)) (eqb (length (now (a .pillars))) 0) (startsBelow (now (a .grid))) (length (now (a .out))) (a .alpha) (e .enum-told .given .1) (rules (e .before .before))
 
 abbrev worked : tie.After-walk-grid → List Float
 worked v = v .walk-grid .last .1 .1 .1 .1 .1 .1 .1 .0
@@ -61,7 +61,7 @@ unfolding generateOutcome
 returns c =
     let r = c .before .before .before in
     let a = entry r .args in
-    rw (turned-down _ (following (pathFrom (a .alpha) (now (a .pillars)) (now (a .sigmas)) (now (a .times)) (now (a .factors)) startState (now (a .grid)) (now (a .draws))) finishingList) (c .before .answer .given .1) (rules r)) (refl, refl)
+    rw (turned-down _ (following (pathFrom (a .alpha) (now (a .pillars)) (now (a .sigmas)) (now (a .times)) (now (a .factors)) startState (now (a .grid)) (now (a .draws))) finishingList) (c .before .answer .given .1) (rules r)) (refl, (refl, refl))
 
 enum-told : tie.Need-enum-told
 enum-told c = search needs
@@ -73,7 +73,7 @@ slice-aggregate-walk-grid : tie.Need-slice-aggregate-walk-grid
 slice-aggregate-walk-grid c = lent-is work _ (fit (c .before) .0)
 
 walk-grid-requires : tie.Need-walk-grid-requires
-walk-grid-requires c κs = (sym (lent-is work _ (fit (c .before) .0)), fit (c .before) .1, fit (c .before) .2)
+walk-grid-requires c κs = (sym (lent-is work _ (fit (c .before) .0)), fit (c .before) .1, fit (c .before) .2, fit (c .before) .3)
 
 enum-known-walk : tie.Need-enum-known-walk
 enum-known-walk c = search needs
@@ -85,7 +85,7 @@ returns-2 c =
     let e = v .before .before in
     let a = entry (e .before .before) .args in
     let w = v .walk-grid .ensures ∙ turned-down _ _ (c .before .walk .given .1) refl in
-    rw (let-through _ (following (pathFrom (a .alpha) (now (a .pillars)) (now (a .sigmas)) (now (a .times)) (now (a .factors)) startState (now (a .grid)) (now (a .draws))) finishingList) (e .enum-told .given .1) (rules (e .before .before)), w) (refl, refl)
+    rw (let-through _ (following (pathFrom (a .alpha) (now (a .pillars)) (now (a .sigmas)) (now (a .times)) (now (a .factors)) startState (now (a .grid)) (now (a .draws))) finishingList) (e .enum-told .given .1) (rules (e .before .before)), w) (refl, (refl, refl))
 
 enum-told-2 : tie.Need-enum-told-2
 enum-told-2 c = search needs
@@ -99,7 +99,7 @@ slice-aggregate-finish c = let v = c .before .before .before .before in back-is 
 finish-requires : tie.Need-finish-requires
 finish-requires c κs =
     let v = c .before .before .before .before .before in
-    rw (← back-is work _ (fit (v .before .before) .0) (worked v) (v .walk-grid .kept .1 .1 .1 .1 .1 .1 .1 .0)) (fit (v .before .before) .3)
+    rw (← back-is work _ (fit (v .before .before) .0) (worked v) (v .walk-grid .kept .1 .1 .1 .1 .1 .1 .1 .0)) (fit (v .before .before) .4)
 
 same-length : tie.Need-same-length
 same-length c = search needs
@@ -112,7 +112,8 @@ returns-3 c =
     let a = entry (e .before .before) .args in
     let w = values-are work _ (fit e .0) (worked v) (v .walk-grid .kept .1 .1 .1 .1 .1 .1 .1 .0) in
     let d = v .walk-grid .ensures ∙ let-through _ _ (c .before .before .before .before .before .enum-told2 .given .1) refl in
-    rw (let-through _ (following (pathFrom (a .alpha) (now (a .pillars)) (now (a .sigmas)) (now (a .times)) (now (a .factors)) startState (now (a .grid)) (now (a .draws))) finishingList) (e .enum-told .given .1) (rules (e .before .before)), d, ← w) (c .before .before .finish .ensures)
+    let f = c .before .before .finish .ensures in
+    rw (let-through _ (following (pathFrom (a .alpha) (now (a .pillars)) (now (a .sigmas)) (now (a .times)) (now (a .factors)) startState (now (a .grid)) (now (a .draws))) finishingList) (e .enum-told .given .1) (rules (e .before .before)), d, ← w) (f .0, (f .1, ap answerNumber (f .0)))
 
 pub generate-on-spec : {M : Type 1} → statement M
 generate-on-spec =

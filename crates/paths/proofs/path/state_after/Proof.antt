@@ -4,9 +4,6 @@ use borrow.Author.Needs.{needs}
 use Rattle.paths.proofs.path.state_after.Statement.{statement}
 use Rattle.paths.proofs.path.state_after.Tie as tie
 
-exp-requires : tie.Need-exp-requires
-exp-requires c κs = search needs
-
 fused-requires : tie.Need-fused-requires
 fused-requires c κs = search needs
 
@@ -22,4 +19,4 @@ returns c = cc
 
 pub state-after-spec : {M : Type 1} → statement M
 state-after-spec =
-    tie.close (tie.spec exp-requires fused-requires sqrt-requires fused-requires-2 returns)
+    tie.close (tie.spec fused-requires sqrt-requires fused-requires-2 returns)

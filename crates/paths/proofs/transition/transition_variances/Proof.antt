@@ -9,7 +9,7 @@ use lib.ListN.{length, replicate}
 use lib.Ieee.{Float}
 use Rattle.ieee.specs.Numbers.{zero}
 use Rattle.lists.specs.declared.curves.Faults.{Faults}
-use Rattle.lists.specs.Refusals.{firstOf}
+use Rattle.lists.specs.Refusals.{answerNumber, firstOf}
 use Rattle.lists.specs.Faults.{pillarFaults}
 use Rattle.lists.proofs.Outcomes.{turned-down, let-through}
 use Rattle.paths.specs.Written.{finishingList}
@@ -51,7 +51,7 @@ unfolding transitionOutcome
 returns c =
     let r = c .before .before .before in
     let a = entry r .args in
-    rw (turned-down _ (finishingList (variancesOf (a .alpha) (now (a .times)) (now (a .sigmas)) (a .time-step) 0 (a .steps))) (c .before .answer .given .1) (rules r)) (refl, refl)
+    rw (turned-down _ (finishingList (variancesOf (a .alpha) (now (a .times)) (now (a .sigmas)) (a .time-step) 0 (a .steps))) (c .before .answer .given .1) (rules r)) (refl, (refl, refl))
 
 enum-told : tie.Need-enum-told
 enum-told c = search needs
@@ -87,7 +87,8 @@ returns-2 c =
     let a = entry (e .before .before) .args in
     let all = variancesOf (a .alpha) (now (a .times)) (now (a .sigmas)) (a .time-step) 0 in
     let w = values-are work _ (fit e .0) (worked v) (v .variances .kept .1 .1 .1 .1 .0) ∙ v .variances .ensures ∙ ap all (sym (lent-is work _ (fit e .0))) in
-    rw (let-through _ (finishingList (all (a .steps))) (e .enum-told .given .1) (rules (e .before .before)), ← w) (c .before .before .finish .ensures)
+    let f = c .before .before .finish .ensures in
+    rw (let-through _ (finishingList (all (a .steps))) (e .enum-told .given .1) (rules (e .before .before)), ← w) (f .0, (f .1, ap answerNumber (f .0)))
 
 pub transition-variances-spec : {M : Type 1} → statement M
 transition-variances-spec =

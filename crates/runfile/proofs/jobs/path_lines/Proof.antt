@@ -102,7 +102,7 @@ returns-3 c =
     let g = t .before .before .before in
     let v = was-served (outcome g (points g)) (g .generate-on .result) (t .enum-told .given .1) (gave g) in
     let same = as-long g (v .0) (v .1) in
-    point-by-point (entry g .args .k) (outcome g (points g)) _ _ _ (v .0) _ (v .1) (λ z. c .before .before .before .before .before .if1 .left (sym same ∙ z)) (values-are work (points g) (entry g .pre .1) (left g) (g .generate-on .kept .1 .1 .1 .1 .1 .1 .1 .1 .0) ∙ left-is (outcome g) work (points g) (entry g .pre .1) (v .0) (left g) (v .1) same (g .generate-on .ensures .1)) (c .before .before .point-lines .ensures)
+    point-by-point (entry g .args .k) (outcome g (points g)) _ _ _ (v .0) _ (v .1) (λ z. c .before .before .before .before .before .if1 .left (sym same ∙ z)) (values-are work (points g) (entry g .pre .1) (left g) (g .generate-on .kept .1 .1 .1 .1 .1 .1 .1 .1 .0) ∙ left-is (outcome g) work (points g) (entry g .pre .1) (v .0) (left g) (v .1) same (g .generate-on .ensures .1 .0)) (c .before .before .point-lines .ensures)
 
 pub path-lines-spec : {M : Type 1} → statement M
 path-lines-spec =
