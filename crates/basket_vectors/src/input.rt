@@ -1,39 +1,21 @@
-// A basket's bytes as they are read, and the numbers in them.
+// A basket's bytes as they are read, and the columns of numbers in them.
 ghost use mathlib.Core.Path.{_≡_};
-ghost use Prim.Native.Nat.{_+_, _*_, _<_, _≤_};
+ghost use Prim.Native.Nat.{_+_, _*_, _≤_};
 ghost use lib.ListN.{length, take};
-ghost use Rattle.layout.specs.Bytes.{fourBytes};
 ghost use Rattle.layout.specs.Request.{floatsFrom};
 ghost use Rattle.basket_vectors.specs.Marks.{marksOf};
 use layout::Part;
 
-// The number at place `at`, the least byte first.
-pub fn half(s: &[u8], at: usize) -> u64
-    requires { ⌜ at + 4 ≤ length (now s) ⌝ }
-    ensures { λ r. ⌜ r < 0x1_0000_0000 ⌝ }
-    ensures { λ r. ⌜ r ≡ fourBytes (now (s .entry)) at ⌝ }
-{
-    wide(s[at])
-        + 0x100 * wide(s[at + 1])
-        + 0x1_0000 * wide(s[at + 2])
-        + 0x100_0000 * wide(s[at + 3])
-}
-
-fn wide(b: u8) -> u64
-    ensures { λ r. ⌜ r < 256 ⌝ }
-    ensures { λ r. ⌜ r ≡ b ⌝ }
-{
-    b as u64
-}
-
-// Reads n bytes to the front of out. False where the input has fewer.
+// Reads n bytes to the front of out. False where the input has fewer. `next` has tested how many points
+// and caplets there are, and lends a list with room for the most.
 pub fn fill(out: &mut [u8], n: usize) -> bool
     requires { ⌜ n ≤ length (now out) ⌝ }
 {
     io::read_full(libc::STDIN_FILENO, &mut out[..n]) == n
 }
 
-// Of n records at the front of s, `width` bytes each, the float number `field`, counted from 0.
+// Of n records at the front of s, `width` bytes each, the float number `field`, counted from 0. `answer`
+// is given at most 2,049 points of 16 bytes and 65 caplets of 40, and each of its lists has 2,049 places.
 pub fn column(s: &[u8; 32784], n: usize, width: usize, field: usize, out: &mut [f64])
     requires { ⌜ (n ≤ length (now out)) × (n * width ≤ 32784) × (8 * field + 8 ≤ width) ⌝ }
     ensures { λ _. ⌜ take n (now (out .exit)) ≡ floatsFrom (now (s .entry)) width field 0 n ⌝ }
@@ -45,7 +27,7 @@ pub fn column(s: &[u8; 32784], n: usize, width: usize, field: usize, out: &mut [
     layout::column(s, records, width, field, &mut out[..n]);
 }
 
-// Whether each number is 1.
+// Whether each number is 1. `answer` lends two lists of one length.
 pub fn mark(numbers: &[f64], marks: &mut [bool])
     requires { ⌜ length (now marks) ≡ length (now numbers) ⌝ }
     ensures { λ _. ⌜ now (marks .exit) ≡ marksOf (now (numbers .entry)) ⌝ }

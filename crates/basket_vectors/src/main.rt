@@ -10,7 +10,8 @@ mod output;
 
 use layout::Part;
 
-// A basket of n caplets on a curve of m points, from the fronts of longer lists.
+// A basket of n caplets on a curve of m points, from the fronts of longer lists: those of `answer` have
+// 2,049 places.
 fn fit(
     alpha: f64,
     m: usize,
@@ -39,7 +40,8 @@ fn fit(
 }
 
 // The same as it stands in the input: a point is a time and a factor; a caplet is 1 for a normal quote or 0 for a
-// Black one, strike, start, end, quoted volatility. All lists have the room of the longest.
+// Black one, strike, start, end, quoted volatility. All lists have the room of the longest; `next` has tested
+// how many points and caplets there are.
 fn answer(alpha: f64, m: usize, n: usize, points: &[u8; 32784], caplets: &[u8; 32784])
     requires { ⌜ (m ≤ 2049) × (n ≤ 65) ⌝ }
 {
@@ -80,8 +82,8 @@ fn next() -> bool {
     if io::read_full(libc::STDIN_FILENO, &mut head) < 16 {
         return false;
     }
-    let m = input::half(&head, 0) as usize;
-    let n = input::half(&head, 4) as usize;
+    let m = layout::half(&head, 0) as usize;
+    let n = layout::half(&head, 4) as usize;
     if m > 2049 {
         return false;
     }

@@ -33,9 +33,5 @@ fn floats(list: &[f64; 64]) {
 // The 16 hexadecimal digits of the bits, a space before them. A NaN has those of one.
 fn float(x: f64) {
     io::write_all(libc::STDOUT_FILENO, b" ");
-    if x != x {
-        io::print_hex(libc::STDOUT_FILENO, 0x7ff8_0000_0000_0000, 16);
-    } else {
-        io::print_hex(libc::STDOUT_FILENO, f64::to_bits(x), 16);
-    }
+    io::print_hex(libc::STDOUT_FILENO, lines::bits_of(x), 16);
 }

@@ -71,7 +71,7 @@ pub fn first_fits(
     Answer::Served
 }
 
-// One entry's bumped fit; the diagonal's float must be finite too.
+// One entry's bumped fit; the diagonal's float must be finite too. `bumped_fits` hands its own bound on.
 fn bumped(
     normal: bool,
     alpha: f64,
@@ -107,7 +107,8 @@ fn bumped(
     }
 }
 
-// Every entry's bumped fit beside the sigma fitted first.
+// Every entry's bumped fit beside the sigma fitted first. `fit_basket` has asked the rules, and the sigmas
+// are as many as the entries.
 pub fn bumped_fits(
     alpha: f64,
     times: &[f64],

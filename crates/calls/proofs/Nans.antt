@@ -1,20 +1,14 @@
 -- Of f64: only a NaN differs from itself.
-use mathlib.Core.Path.{_≡_, refl, sym, _∙_, subst}
-use mathlib.Core.Bool.{Bool, true, false, not, cond, true≢false}
-use Prim.Native.Nat.{ℕ}
+use mathlib.Core.Path.{_≡_, refl, sym, subst}
+use mathlib.Core.Bool.{Bool, true, false, not}
 use lib.Dec.{T}
-use lib.Ieee.{Float, nan, inf, fin, binary64, ne, isNan, toBits}
+use lib.Ieee.{Float, nan, binary64, ne, isNan, toBits}
 use lib.Ieee.Bits.{cond-no}
-use lib.Ieee.Compare.{nan-differs, differs-from-itself}
-use Rattle.calls.specs.Match.{bitsOf, matchesOf, sameOf}
+use lib.Ieee.Compare.{differs-from-itself}
+use Rattle.lines.proofs.Nans.{number-is}
+use Rattle.calls.specs.Match.{matchesOf, sameOf}
 
-pub number-is : (x : Float) → ne x x ≡ false → T (not (isNan x))
-unfolding isNan
-number-is nan e = absurd (true≢false (sym nan-differs ∙ e))
-number-is (inf s) e = tt
-number-is (fin s m e) h = tt
-
-pub nan-is : (x : Float) → ne x x ≡ true → x ≡ nan
+nan-is : (x : Float) → ne x x ≡ true → x ≡ nan
 nan-is x e = differs-from-itself x (subst T (sym e) tt)
 
 false-of : (b : Bool) → T (not b) → b ≡ false
@@ -22,17 +16,10 @@ false-of true t = absurd t
 false-of false t = refl
 
 -- whether a number differs from itself is whether it is a NaN
-pub differs : (x : Float) (b : Bool) → ne x x ≡ b → b ≡ isNan x
+differs : (x : Float) (b : Bool) → ne x x ≡ b → b ≡ isNan x
 unfolding isNan
 differs x true e = rw (nan-is x e)
 differs x false e = sym (false-of (isNan x) (number-is x e))
-
-pub bits-nan : (x : Float) → ne x x ≡ true → 0x7ff8_0000_0000_0000 ≡ bitsOf x
-unfolding isNan
-bits-nan x e = rw (nan-is x e)
-
-pub bits-number : (x : Float) → ne x x ≡ false → toBits binary64 x ≡ bitsOf x
-bits-number x e = sym (cond-no (isNan x) 0x7ff8_0000_0000_0000 (toBits binary64 x) (number-is x e))
 
 pub same-nan : (x y : Float) → ne y y ≡ true → ne x x ≡ sameOf x y
 unfolding isNan

@@ -1,7 +1,7 @@
 -- A step along lists and along a store.
-use mathlib.Core.Path.{_≡_, refl, sym, _∙_, ap}
-use mathlib.Core.Bool.{Bool, true, false, not, _&&_}
-use mathlib.Core.List.{List, [], _∷_, _++_, append-nil}
+use mathlib.Core.Path.{_≡_, refl, sym, _∙_}
+use mathlib.Core.Bool.{Bool, true, false, _&&_}
+use mathlib.Core.List.{List, [], _++_, append-nil}
 use Prim.Native.Nat.{ℕ, suc, _+_, _*_, _-_, _/_, _%_, _<_, _≤_}
 use native.Mathlib.Numerals.{add-one}
 use native.Mathlib.Omega.{arith}
@@ -10,8 +10,8 @@ use lib.Dec.{ltb, leb, eqb}
 use lib.ListN.{length, take, drop, getD, set, length-drop, drop-of-length-le}
 use lib.Seq.{append-snoc, drop-cons, drop-drop, drop-length, take-all, take-suc-set}
 use lib.Ieee.{Float, nan}
-use Rattle.calls.specs.Bytes.{eightBytes}
-use Rattle.calls.specs.Match.{floatOf, untouched, expectedFirst, sameOf, holdsOf}
+use Rattle.layout.specs.Bytes.{eightBytes, floatOf}
+use Rattle.calls.specs.Match.{untouched, expectedFirst, sameOf, holdsOf}
 use Rattle.calls.specs.Store.{numbersOf, partOf}
 
 -- ---- the part of a store that a list names

@@ -13,7 +13,7 @@ use Rattle.schedules.specs.Parameters as Schedules
 use Rattle.paths.specs.Transition.{transitionOutcome}
 use Rattle.paths.specs.Generate.{generateOutcome}
 use Rattle.calls.specs.declared.record.Record.{Record}
-use Rattle.calls.specs.Match.{floatOf}
+use Rattle.layout.specs.Bytes.{floatOf}
 use Rattle.calls.specs.Store.{partOf}
 
 module _ (r : Record) where

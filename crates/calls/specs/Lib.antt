@@ -1,5 +1,4 @@
 -- What a vector's bytes mean, which call it names, and when the call gives what the vector expects. Definitions only.
-pub mod Bytes
 pub mod Records
 pub mod Match
 pub mod Store

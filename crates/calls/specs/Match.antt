@@ -6,16 +6,8 @@ use lib.Dec.{eqb}
 use lib.ListN.{length, drop}
 use lib.Ieee.{Float, binary64, isNan, ofBits, toBits}
 
--- the number with the bits n
-abbrev pub floatOf : ℕ → Float
-floatOf n = ofBits binary64 n
-
 abbrev pub matchesOf : Float → ℕ → Bool
 matchesOf x n = cond (isNan x) (isNan (ofBits binary64 n)) (eqb (toBits binary64 x) n)
-
--- the bits of a number; every NaN has those of one
-abbrev pub bitsOf : Float → ℕ
-bitsOf x = cond (isNan x) 0x7ff8_0000_0000_0000 (toBits binary64 x)
 
 -- the same number, a NaN being the same as a NaN
 abbrev pub sameOf : Float → Float → Bool

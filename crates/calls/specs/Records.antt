@@ -2,7 +2,7 @@
 use Prim.Native.Nat.{ℕ, _+_}
 use mathlib.Core.List.{List}
 use Rattle.calls.specs.declared.record.Record.{Record}
-use Rattle.calls.specs.Bytes.{fourBytes, eightBytes}
+use Rattle.layout.specs.Bytes.{fourBytes, eightBytes}
 
 abbrev pub recordOf : List ℕ → ℕ → Record
 recordOf s n = record {

@@ -5,8 +5,7 @@ use mathlib.Core.List.{List, [], _∷_}
 use lib.Dec.{ltb}
 use lib.ListN.{length, take, drop}
 use lib.Ieee.{Float}
-use Rattle.calls.specs.Bytes.{eightBytes}
-use Rattle.calls.specs.Match.{floatOf}
+use Rattle.layout.specs.Bytes.{eightBytes, floatOf}
 
 -- the n numbers whose bits stand in s from place i on
 unfoldable pub numbersOf : ℕ → ℕ → List ℕ → List Float

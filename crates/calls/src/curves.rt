@@ -4,19 +4,18 @@ ghost use Rattle.lists.specs.Refusals.{outcomeOf};
 ghost use Rattle.calls.specs.Calls.{aCall, zcbCall, thetaCall, forwardCall, bondPutCall, bondCallCall, capletCall, floorletCall, annuityCall};
 use crate::record::Record;
 use crate::store;
-use crate::value;
 use lists::Price;
 
 pub fn a(r: Record, s: &[f64]) -> Price
     ensures { λ p. ⌜ outcomeOf p ≡ aCall r (now (s .entry)) ⌝ }
 {
     models::A(
-        value::float_of(r.a),
+        layout::float_of(r.a),
         store::part(s, r.times),
         store::part(s, r.factors),
-        value::float_of(r.b),
-        value::float_of(r.c),
-        value::float_of(r.d),
+        layout::float_of(r.b),
+        layout::float_of(r.c),
+        layout::float_of(r.d),
     )
 }
 
@@ -24,13 +23,13 @@ pub fn zcb_price(r: Record, s: &[f64]) -> Price
     ensures { λ p. ⌜ outcomeOf p ≡ zcbCall r (now (s .entry)) ⌝ }
 {
     models::zcb_price(
-        value::float_of(r.a),
+        layout::float_of(r.a),
         store::part(s, r.times),
         store::part(s, r.factors),
-        value::float_of(r.b),
-        value::float_of(r.c),
-        value::float_of(r.d),
-        value::float_of(r.e),
+        layout::float_of(r.b),
+        layout::float_of(r.c),
+        layout::float_of(r.d),
+        layout::float_of(r.e),
     )
 }
 
@@ -38,11 +37,11 @@ pub fn theta(r: Record, s: &[f64]) -> Price
     ensures { λ p. ⌜ outcomeOf p ≡ thetaCall r (now (s .entry)) ⌝ }
 {
     models::theta(
-        value::float_of(r.a),
+        layout::float_of(r.a),
         store::part(s, r.times),
         store::part(s, r.factors),
-        value::float_of(r.b),
-        value::float_of(r.c),
+        layout::float_of(r.b),
+        layout::float_of(r.c),
     )
 }
 
@@ -52,7 +51,7 @@ pub fn forward_rate(r: Record, s: &[f64]) -> Price
     models::forward_rate(
         store::part(s, r.times),
         store::part(s, r.factors),
-        value::float_of(r.a),
+        layout::float_of(r.a),
     )
 }
 
@@ -60,13 +59,13 @@ pub fn bond_put_price(r: Record, s: &[f64]) -> Price
     ensures { λ p. ⌜ outcomeOf p ≡ bondPutCall r (now (s .entry)) ⌝ }
 {
     models::bond_put_price(
-        value::float_of(r.a),
+        layout::float_of(r.a),
         store::part(s, r.times),
         store::part(s, r.factors),
-        value::float_of(r.b),
-        value::float_of(r.c),
-        value::float_of(r.d),
-        value::float_of(r.e),
+        layout::float_of(r.b),
+        layout::float_of(r.c),
+        layout::float_of(r.d),
+        layout::float_of(r.e),
     )
 }
 
@@ -74,13 +73,13 @@ pub fn bond_call_price(r: Record, s: &[f64]) -> Price
     ensures { λ p. ⌜ outcomeOf p ≡ bondCallCall r (now (s .entry)) ⌝ }
 {
     models::bond_call_price(
-        value::float_of(r.a),
+        layout::float_of(r.a),
         store::part(s, r.times),
         store::part(s, r.factors),
-        value::float_of(r.b),
-        value::float_of(r.c),
-        value::float_of(r.d),
-        value::float_of(r.e),
+        layout::float_of(r.b),
+        layout::float_of(r.c),
+        layout::float_of(r.d),
+        layout::float_of(r.e),
     )
 }
 
@@ -88,13 +87,13 @@ pub fn caplet_price(r: Record, s: &[f64]) -> Price
     ensures { λ p. ⌜ outcomeOf p ≡ capletCall r (now (s .entry)) ⌝ }
 {
     models::caplet_price(
-        value::float_of(r.a),
+        layout::float_of(r.a),
         store::part(s, r.times),
         store::part(s, r.factors),
-        value::float_of(r.b),
-        value::float_of(r.c),
-        value::float_of(r.d),
-        value::float_of(r.e),
+        layout::float_of(r.b),
+        layout::float_of(r.c),
+        layout::float_of(r.d),
+        layout::float_of(r.e),
     )
 }
 
@@ -102,13 +101,13 @@ pub fn floorlet_price(r: Record, s: &[f64]) -> Price
     ensures { λ p. ⌜ outcomeOf p ≡ floorletCall r (now (s .entry)) ⌝ }
 {
     models::floorlet_price(
-        value::float_of(r.a),
+        layout::float_of(r.a),
         store::part(s, r.times),
         store::part(s, r.factors),
-        value::float_of(r.b),
-        value::float_of(r.c),
-        value::float_of(r.d),
-        value::float_of(r.e),
+        layout::float_of(r.b),
+        layout::float_of(r.c),
+        layout::float_of(r.d),
+        layout::float_of(r.e),
     )
 }
 

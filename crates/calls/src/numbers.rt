@@ -4,7 +4,6 @@ ghost use Rattle.lists.specs.Refusals.{outcomeOf};
 ghost use Rattle.quotes.specs.Utils.{pairOutcome};
 ghost use Rattle.calls.specs.Calls.{bCall, zcbVolatilityCall, shortRateVarianceCall, blackCallCall, blackPutCall, bachelierCallCall, d1d2Call};
 use crate::record::Record;
-use crate::value;
 use lists::Price;
 use quotes::Pair;
 
@@ -12,9 +11,9 @@ pub fn b(r: Record) -> Price
     ensures { λ p. ⌜ outcomeOf p ≡ bCall r ⌝ }
 {
     models::B(
-        value::float_of(r.a),
-        value::float_of(r.b),
-        value::float_of(r.c),
+        layout::float_of(r.a),
+        layout::float_of(r.b),
+        layout::float_of(r.c),
     )
 }
 
@@ -22,10 +21,10 @@ pub fn zcb_price_volatility(r: Record) -> Price
     ensures { λ p. ⌜ outcomeOf p ≡ zcbVolatilityCall r ⌝ }
 {
     models::zcb_price_volatility(
-        value::float_of(r.a),
-        value::float_of(r.b),
-        value::float_of(r.c),
-        value::float_of(r.d),
+        layout::float_of(r.a),
+        layout::float_of(r.b),
+        layout::float_of(r.c),
+        layout::float_of(r.d),
     )
 }
 
@@ -33,10 +32,10 @@ pub fn short_rate_variance(r: Record) -> Price
     ensures { λ p. ⌜ outcomeOf p ≡ shortRateVarianceCall r ⌝ }
 {
     models::short_rate_variance(
-        value::float_of(r.a),
-        value::float_of(r.b),
-        value::float_of(r.c),
-        value::float_of(r.d),
+        layout::float_of(r.a),
+        layout::float_of(r.b),
+        layout::float_of(r.c),
+        layout::float_of(r.d),
     )
 }
 
@@ -44,10 +43,10 @@ pub fn black_call(r: Record) -> Price
     ensures { λ p. ⌜ outcomeOf p ≡ blackCallCall r ⌝ }
 {
     quotes::black_call(
-        value::float_of(r.a),
-        value::float_of(r.b),
-        value::float_of(r.c),
-        value::float_of(r.d),
+        layout::float_of(r.a),
+        layout::float_of(r.b),
+        layout::float_of(r.c),
+        layout::float_of(r.d),
     )
 }
 
@@ -55,10 +54,10 @@ pub fn black_put(r: Record) -> Price
     ensures { λ p. ⌜ outcomeOf p ≡ blackPutCall r ⌝ }
 {
     quotes::black_put(
-        value::float_of(r.a),
-        value::float_of(r.b),
-        value::float_of(r.c),
-        value::float_of(r.d),
+        layout::float_of(r.a),
+        layout::float_of(r.b),
+        layout::float_of(r.c),
+        layout::float_of(r.d),
     )
 }
 
@@ -66,10 +65,10 @@ pub fn bachelier_call(r: Record) -> Price
     ensures { λ p. ⌜ outcomeOf p ≡ bachelierCallCall r ⌝ }
 {
     quotes::bachelier_call(
-        value::float_of(r.a),
-        value::float_of(r.b),
-        value::float_of(r.c),
-        value::float_of(r.d),
+        layout::float_of(r.a),
+        layout::float_of(r.b),
+        layout::float_of(r.c),
+        layout::float_of(r.d),
     )
 }
 
@@ -77,9 +76,9 @@ pub fn d1_d2(r: Record) -> Pair
     ensures { λ p. ⌜ pairOutcome p ≡ d1d2Call r ⌝ }
 {
     quotes::d1_d2(
-        value::float_of(r.a),
-        value::float_of(r.b),
-        value::float_of(r.c),
-        value::float_of(r.d),
+        layout::float_of(r.a),
+        layout::float_of(r.b),
+        layout::float_of(r.c),
+        layout::float_of(r.d),
     )
 }

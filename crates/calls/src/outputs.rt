@@ -49,6 +49,8 @@ pub fn holds(out: &[f64], expected: &[f64]) -> bool
     expected.len() <= out.len()
 }
 
+// Whether the call answers and writes as the record says. `functions::agrees` has turned down a record
+// with more room.
 pub fn transition_variances(r: Record, s: &[f64]) -> bool
     requires { ⌜ r .room ≤ 1026 ⌝ }
     ensures { λ ok. ⌜ ok ≡ writesOf (transitionCall r (now (s .entry)) (r .room)) r (now (s .entry)) output ⌝ }
@@ -57,6 +59,7 @@ pub fn transition_variances(r: Record, s: &[f64]) -> bool
     transitions(r, s, &mut out)
 }
 
+// The same with a path, kind 12.
 pub fn generate(r: Record, s: &[f64]) -> bool
     requires { ⌜ r .room ≤ 1026 ⌝ }
     ensures { λ ok. ⌜ ok ≡ writesOf (generateCall r (now (s .entry)) (r .room)) r (now (s .entry)) output ⌝ }
@@ -65,31 +68,31 @@ pub fn generate(r: Record, s: &[f64]) -> bool
     path(r, s, &mut out)
 }
 
-// The transition variances into the front of the output.
+// The transition variances into the front of the output, which has 1,026 places.
 fn transitions(r: Record, s: &[f64], out: &mut [f64]) -> bool
     requires { ⌜ r .room ≤ length (now out) ⌝ }
     ensures { λ ok. ⌜ ok ≡ writesOf (transitionCall r (now (s .entry)) (r .room)) r (now (s .entry)) (now (out .entry)) ⌝ }
 {
     let room = r.room as usize;
     let answer = paths::transition_variances(
-        value::float_of(r.a),
+        layout::float_of(r.a),
         store::part(s, r.pillars),
         store::part(s, r.sigmas),
         r.b as usize,
-        value::float_of(r.c),
+        layout::float_of(r.c),
         &mut out[..room],
     );
     (number(answer) == r.answer) & store::has(s, r.first) & holds(out, store::part(s, r.first))
 }
 
-// A path into the front of the output.
+// A path into the front of the output, which has 1,026 places.
 fn path(r: Record, s: &[f64], out: &mut [f64]) -> bool
     requires { ⌜ r .room ≤ length (now out) ⌝ }
     ensures { λ ok. ⌜ ok ≡ writesOf (generateCall r (now (s .entry)) (r .room)) r (now (s .entry)) (now (out .entry)) ⌝ }
 {
     let room = r.room as usize;
     let answer = paths::generate(
-        value::float_of(r.a),
+        layout::float_of(r.a),
         store::part(s, r.pillars),
         store::part(s, r.sigmas),
         store::part(s, r.times),

@@ -4,18 +4,17 @@ ghost use Rattle.lists.specs.Refusals.{outcomeOf};
 ghost use Rattle.calls.specs.Calls.{varianceCall, volatilityCall, reachedCall};
 use crate::record::Record;
 use crate::store;
-use crate::value;
 use lists::Price;
 
 pub fn piecewise_variance(r: Record, s: &[f64]) -> Price
     ensures { λ p. ⌜ outcomeOf p ≡ varianceCall r (now (s .entry)) ⌝ }
 {
     schedules::piecewise_variance(
-        value::float_of(r.a),
+        layout::float_of(r.a),
         store::part(s, r.pillars),
         store::part(s, r.sigmas),
-        value::float_of(r.b),
-        value::float_of(r.c),
+        layout::float_of(r.b),
+        layout::float_of(r.c),
     )
 }
 
@@ -25,7 +24,7 @@ pub fn volatility(r: Record, s: &[f64]) -> Price
     schedules::volatility(
         store::part(s, r.pillars),
         store::part(s, r.sigmas),
-        value::float_of(r.a),
+        layout::float_of(r.a),
     )
 }
 
@@ -35,6 +34,6 @@ pub fn pillars_reached(r: Record, s: &[f64]) -> &[f64]
     schedules::pillars_reached(
         store::part(s, r.pillars),
         store::part(s, r.sigmas),
-        value::float_of(r.a),
+        layout::float_of(r.a),
     )
 }

@@ -3,8 +3,6 @@ ghost use mathlib.Core.Path.{_≡_};
 ghost use Prim.Native.Nat.{_*_, _≤_};
 ghost use lib.ListN.{length};
 ghost use Rattle.calls.specs.Store.{numbersOf, hasOf, partOf};
-use crate::record;
-use crate::value;
 
 // Whether the store has the list.
 pub fn has(store: &[f64], list: u64) -> bool
@@ -29,14 +27,14 @@ pub fn part(store: &[f64], list: u64) -> &[f64]
     }
 }
 
-// Puts the numbers whose bits stand in s into the store.
+// Puts the numbers whose bits stand in s into the store. `main` lends eight bytes for each of its places.
 pub fn load(s: &[u8], store: &mut [f64])
     requires { ⌜ 8 * length (now store) ≤ length (now s) ⌝ }
     ensures { λ _. ⌜ now (store .exit) ≡ numbersOf (length (now (store .entry))) 0 (now (s .entry)) ⌝ }
 {
     let mut i = 0;
     while i < store.len() {
-        store[i] = value::float_of(record::word(s, 8 * i));
+        store[i] = layout::float_of(layout::word(s, 8 * i));
         i += 1;
     }
 }

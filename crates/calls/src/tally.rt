@@ -21,8 +21,10 @@ pub struct Tally {
     pub first: [u64; 22],
 }
 
-// The tally before the first record, of which `missing` bytes of the store are missing.
-pub fn nothing(missing: usize) -> Tally {
+// The tally before the first record, where `missing` bytes of the store are missing.
+pub fn nothing(missing: usize) -> Tally
+    ensures { λ r. ⌜ (r .records ≡ 0) × (r .differing ≡ countedIf (eqb missing 0) 0) × (r .rest ≡ missing) ⌝ }
+{
     Tally {
         records: 0,
         differing: if missing == 0 { 0 } else { 1 },
@@ -72,7 +74,7 @@ fn after(t: Tally, r: Record, store: &[f64]) -> Tally
     }
 }
 
-// One record more that the place counts.
+// One record more that the place counts, which `slot_of` keeps within the lists.
 fn seen(t: Tally, slot: usize) -> Tally
     requires { ⌜ slot < 22 ⌝ }
     ensures { λ next. ⌜ next .differing ≡ t .differing ⌝ }
@@ -83,7 +85,7 @@ fn seen(t: Tally, slot: usize) -> Tally
     next
 }
 
-// One difference more that the place counts.
+// One difference more that the place counts; `slot_of` keeps it within the lists too.
 fn differing(t: Tally, slot: usize) -> Tally
     requires { ⌜ slot < 22 ⌝ }
     ensures { λ next. ⌜ next .differing ≡ oneMore (t .differing) ⌝ }

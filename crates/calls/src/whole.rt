@@ -1,6 +1,5 @@
 // Document 01's whole case: alpha 0.5, the curve (1, 1) (2, 1), and a bond put and a bond call with
 // option time 1, bond time 2, strike 0.5 and sigma 0.
-use crate::value;
 use lists::Price;
 
 pub fn write() {
@@ -17,5 +16,5 @@ fn write_price(price: Price) {
     let reply = lists::told(price);
     io::print_decimal(1, reply.answer);
     io::write_all(1, b" ");
-    io::print_hex(1, value::bits_of(reply.value), 16);
+    io::print_hex(1, lines::bits_of(reply.value), 16);
 }

@@ -3,10 +3,9 @@ use mathlib.Core.Path.{_≡_, refl, sym, ap, _∙_}
 use mathlib.Core.Bool.{Bool, true, false, cond, _&&_, _||_, true≢false, false≢true}
 use Prim.Native.Nat.{ℕ, zero, suc, _+_, _-_, _*_, _^_, _<_, _≤_}
 use native.Mathlib.Omega.{arith}
-use native.Mathlib.Nat.{eq-or-lt-of-le, mul-one, one-mul, mul-assoc, pow-suc, zero-mul}
+use native.Mathlib.Nat.{mul-one, one-mul, mul-assoc, pow-suc, zero-mul}
 use native.Mathlib.Numerals.{sub-one}
-use mathlib.Core.Logic.{inl, inr}
-use borrow.Author.Tests.{leb-true, leb-false, ltb-true, ltb-false, eq-eqb}
+use borrow.Author.Tests.{leb-true, leb-false, ltb-true, ltb-false}
 use lib.Dec.{T, leb, ltb, eqb, ltb→lt, lt→ltb}
 use lib.Pow.{pow-add}
 use lib.IntN.{ℤ, pos, negsuc, subℕ, _+ℤ_}
@@ -15,6 +14,7 @@ use lib.Ieee.Digits.{size-lt}
 use lib.Ieee.Positive.{positive}
 use Rattle.ieee.specs.Decimal.{decimal}
 use Rattle.elementary.specs.Ln.{places, significandOf, exponentOf, ExactSplit}
+use Rattle.elementary.proofs.AtMost.{le-or}
 use Rattle.elementary.proofs.Ints.{subℕ-le, subℕ-lt}
 use Rattle.elementary.proofs.Digits53.{size-from, size-pos}
 use Rattle.elementary.proofs.Splits.{down-place}
@@ -45,17 +45,6 @@ bounds n pn = go (leb (3 * 2 ^ size n) (4 * n)) refl
     go true h = (leb-true (3 * 2 ^ size n) (4 * n) h, omega (arith, size-lt n))
     go false h = (omega (arith, size-from n pn), omega (arith, leb-false (3 * 2 ^ size n) (4 * n) h, lower (size n) (size-pos n pn)))
 
-or-l : (a b : Bool) → T a → T (a || b)
-or-l true b t = tt
-or-l false b t = absurd t
-
-or-r : (a b : Bool) → T b → T (a || b)
-or-r true b t = tt
-or-r false b t = t
-
-at-least : (a b : ℕ) → a ≤ b → T (ltb a b || (eqb a b && true))
-at-least a b h = elim (eq-or-lt-of-le h) [ inl p ↦ or-r (ltb a b) (eqb a b && true) (rw (eq-eqb a b p) tt) | inr q ↦ or-l (ltb a b) (eqb a b && true) (lt→ltb a b q) ]
-
 exact-fin : (n : ℕ) (e : ℤ) → 0 < n → ExactSplit (fin false n e) (significandOf (fin false n e)) (exponentOf (fin false n e))
 unfolding significandOf exponentOf le lt decimal
 exact-fin n e pn =
@@ -63,7 +52,7 @@ exact-fin n e pn =
     let w = down-place p in
     let b = bounds n pn in
     record {
-      from = at-least (3 * down (minus 0 p)) (n * up (minus 0 p) * 4) (rw (w .0, w .1) (omega (arith, b .0)));
+      from = le-or (3 * down (minus 0 p)) (n * up (minus 0 p) * 4) (rw (w .0, w .1) (omega (arith, b .0)));
       below = lt→ltb (n * up (minus 0 p) * 2) (3 * down (minus 0 p)) (rw (w .0, w .1) (omega (arith, b .1)));
       exact =
           rw (w .0, w .1)

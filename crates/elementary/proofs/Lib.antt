@@ -1,5 +1,6 @@
 -- What the functions' proofs cite.
 pub mod Literals
+pub mod AtMost
 pub mod Floats
 pub mod Ints
 pub mod Powers

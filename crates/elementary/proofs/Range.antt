@@ -1,11 +1,11 @@
 -- Between -746 and 710 the product with log2e is of moderate size: the rounding keeps the order.
 use mathlib.Core.Path.{_≡_, refl, sym, ap, _∙_, subst}
-use mathlib.Core.Bool.{Bool, true, false, cond, _&&_, _||_, true≢false}
+use mathlib.Core.Bool.{Bool, true, false, cond, true≢false}
 use Prim.Native.Nat.{ℕ, zero, suc, _+_, _*_, _^_, _<_, _≤_}
 use native.Mathlib.Omega.{arith}
 use native.Mathlib.Nat.{le-trans, le-of-eq, mul-pos, mul-one}
 use borrow.Author.Tests.{ltb-false}
-use lib.Dec.{T, ltb, eqb, ltb→lt, eqb→eq, le→leb, lit<}
+use lib.Dec.{T, ltb, le→leb, lit<}
 use lib.IntN.{ℤ, pos}
 use lib.Ieee.{Float, nan, inf, fin, Format, binary64, prec, emax, low, up, down, odd, units, round, mul, neg, lt, le, ne, ofBits}
 use lib.Ieee.Fits.{round-is, down-pos}
@@ -13,6 +13,7 @@ use lib.Ieee.Order.{round-mono, drop, kept}
 use Rattle.ieee.specs.Decimal.{decimal}
 use Rattle.elementary.specs.Constants.{log2e}
 use Rattle.elementary.specs.Exp.{moderate}
+use Rattle.elementary.proofs.AtMost.{or-le}
 use Rattle.elementary.proofs.Nearest.{sgn}
 
 -- ---- the sign of what is rounded
@@ -49,14 +50,6 @@ pub round-sgn : (f : Format) (a c : ℕ) → sgn (round f false a c) ≡ false
 round-sgn f a c = ap sgn (round-is f false a c) ∙ units-sgn f (kept (prec f) (a * 2 ^ low f) c) (drop (prec f) (a * 2 ^ low f) c)
 
 -- ---- what is not above 1077
-or-le : (a b : ℕ) (t : Bool) → T (ltb a b || (eqb a b && t)) → a ≤ b
-or-le a b t h = go (ltb a b) (eqb a b) (ltb→lt a b) (eqb→eq a b) h
-  where
-    go : (x y : Bool) → (T x → a < b) → (T y → a ≡ b) → T (x || (y && t)) → a ≤ b
-    go true y p q u = omega (arith, p tt)
-    go false true p q u = le-of-eq (q tt)
-    go false false p q u = absurd u
-
 below-moderate : (y : Float) → sgn y ≡ false → T (le y (fin false 1077 (pos 0))) → T (moderate y)
 unfolding le
 below-moderate nan s h = absurd h

@@ -1,5 +1,5 @@
 -- Demand 1, "the FIRST refusal in document 01's order": the rules of every call stand in the order of document 01's numbers, so that the first of them that applies has the smallest number of all that apply.
-use mathlib.Core.Path.{_≡_, _∙_, ap, sym, subst}
+use mathlib.Core.Path.{_≡_, refl, _∙_, ap, sym, subst}
 use mathlib.Core.Logic.{inl, inr}
 use mathlib.Core.Bool.{Bool, true, false, _&&_, true≢false}
 use mathlib.Core.List.{List, [], _∷_, List·Memᴰ, List·Memᴰ·cases-cons, List·Memᴰ·not-nil}
@@ -9,10 +9,11 @@ use lib.Dec.{T, ltb, ltb→lt}
 use lib.Ieee.{Float}
 use lib.Ieee.Fits.{and-l, and-r}
 use Rattle.lists.specs.declared.refusals.Refusal.{Refusal}
+use Rattle.lists.specs.declared.refusals.Answer.{Answer}
 use Rattle.lists.specs.declared.refusals.Answer.the-variants as A
 use Rattle.lists.specs.declared.curves.Faults.{Faults}
-use Rattle.lists.specs.Refusals.{numberOf, Rule, firstOf}
-use Rattle.lists.specs.Order.{First, first-applies}
+use Rattle.lists.specs.Refusals.{Outcome, refused, numberOf, answerNumber, answerOf, Rule, firstOf, after, unless}
+use Rattle.lists.specs.Order.{First, NoneApplies, first-applies, none-applies}
 use Rattle.quotes.specs.Rules.{quoteRules, annuityRules}
 use Rattle.schedules.specs.Rules.{varianceRules, volatilityRules}
 use Rattle.models.specs.Rules.{optionRules, thetaRules, forwardRules}
@@ -55,6 +56,26 @@ least r n (y ∷ ys) k (inr h) x m a = elim (List·Memᴰ·cases-cons m) [
 
 pub smallest : (rules : List Rule) → InOrder rules → (r : Refusal) → firstOf rules ≡ A.Refused r → (x : Rule) → List·Memᴰ x rules → x .applies ≡ true → numberOf r ≤ numberOf (x .refusal)
 smallest rules k r e x m a = least r 0 rules k (first-applies r rules .0 e) x m a
+
+-- ---- the same of a call: whether a rule refuses it or what comes behind the rules, where none of them applies
+none-of : (rules : List Rule) → NoneApplies rules → (x : Rule) → List·Memᴰ x rules → x .applies ≡ true → ⊥
+none-of [] k x m a = List·Memᴰ·not-nil m
+none-of (y ∷ ys) k x m a = elim (List·Memᴰ·cases-cons m) [
+  | inl e ↦ true≢false (sym a ∙ ap (λ (z : Rule). z .applies) e ∙ k .0)
+  | inr t ↦ none-of ys (k .1) x t a
+]
+
+by-answer : {B : Type 0} (answer : Answer) (rules : List Rule) → InOrder rules → firstOf rules ≡ answer → (rest : Outcome B) (r : Refusal) → after answer rest ≡ refused r
+    → (x : Rule) → List·Memᴰ x rules → x .applies ≡ true → numberOf r ≤ numberOf (x .refusal)
+by-answer A.Served rules k e rest r h x m a = absurd (none-of rules (none-applies rules .0 e) x m a)
+by-answer {B = B} (A.Refused q) rules k e rest r h x m a =
+    let n = ap (λ (o : Outcome B). answerNumber (answerOf o)) h in
+    let l = smallest rules k q e x m a in
+    omega arith
+
+pub call-smallest : {B : Type 0} (rules : List Rule) → InOrder rules → (rest : Outcome B) (r : Refusal) → unless rules rest ≡ refused r
+    → (x : Rule) → List·Memᴰ x rules → x .applies ≡ true → numberOf r ≤ numberOf (x .refusal)
+call-smallest rules k rest r h = by-answer (firstOf rules) rules k refl rest r h
 
 -- ---- the rules of every call
 pub option-rules : (curve : Faults) (alpha t T sigma other : Float) → InOrder (optionRules curve alpha t T sigma other)

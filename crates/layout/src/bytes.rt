@@ -4,7 +4,7 @@ ghost use Prim.Native.Nat.{_+_, _<_, _≤_};
 ghost use lib.ListN.{length};
 ghost use Rattle.layout.specs.Bytes.{fourBytes, eightBytes, floatOf, floatAt};
 
-// The float at place `at`.
+// The float at place `at`. The records of `records.rt` lie within the file.
 pub fn float_at(s: &[u8], at: usize) -> f64
     requires { ⌜ at + 8 ≤ length (now s) ⌝ }
     ensures { λ r. ⌜ r ≡ floatAt (now (s .entry)) at ⌝ }
@@ -13,7 +13,7 @@ pub fn float_at(s: &[u8], at: usize) -> f64
 }
 
 // The float with the bits b; a NaN is a NaN whatever its pattern.
-fn float_of(b: u64) -> f64
+pub fn float_of(b: u64) -> f64
     ensures { λ r. ⌜ r ≡ floatOf b ⌝ }
 {
     if b % 0x8000_0000_0000_0000 <= 0x7ff0_0000_0000_0000 {
@@ -23,7 +23,7 @@ fn float_of(b: u64) -> f64
     }
 }
 
-// The u64 at place `at`.
+// The u64 at place `at`. Whoever calls has its eight bytes: of a record, or of a store of numbers.
 pub fn word(s: &[u8], at: usize) -> u64
     requires { ⌜ at + 8 ≤ length (now s) ⌝ }
     ensures { λ r. ⌜ r ≡ eightBytes (now (s .entry)) at ⌝ }
@@ -31,7 +31,8 @@ pub fn word(s: &[u8], at: usize) -> u64
     half(s, at) + 0x1_0000_0000 * half(s, at + 4)
 }
 
-// The u32 at place `at`.
+// The u32 at place `at`. Whoever calls has its four bytes: of a u64, of a record, or of the pairs, for which
+// `lay_out` has asked for 48.
 pub fn half(s: &[u8], at: usize) -> u64
     requires { ⌜ at + 4 ≤ length (now s) ⌝ }
     ensures { λ r. ⌜ r < 0x1_0000_0000 ⌝ }

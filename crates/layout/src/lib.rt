@@ -1,8 +1,12 @@
-// A run file, lent as bytes: whether it keeps document 01's layout, and its floats and jobs.
+// A run file, lent as bytes: whether it keeps document 01's layout, and its floats and jobs. The numbers in
+// a list of bytes are read here for the test programs too.
 mod bytes;
 mod parts;
 mod records;
 
+pub use bytes::float_of;
+pub use bytes::half;
+pub use bytes::word;
 pub use parts::Laid;
 pub use parts::Layout;
 pub use parts::Part;

@@ -23,7 +23,8 @@ pub fn counted(part: u64, rows: usize, dual: bool) -> Count
     c
 }
 
-// Whether the function meets the part's i-th row, the rows counted round and round.
+// Whether the function meets the part's i-th row, the rows counted round and round, so that each function
+// below is given a row of its table.
 fn met_at(part: u64, i: usize, negative: bool, dual: bool) -> bool
     ensures { λ r. ⌜ r ≡ partMet part dual i negative ⌝ }
 {

@@ -1,5 +1,4 @@
 // A row that is not met, on a line of its own.
-ghost use Prim.Native.Nat.{_<_};
 
 pub fn row(argument: u64, scale: u64, digits: u64, unit: u64, negative: bool, dual: bool) {
     if dual {

@@ -1,10 +1,10 @@
 -- From what the path's call answered and left in its list to the lines of the path, and from a job's answer to the lines of the job. Assumes nothing.
 use mathlib.Core.Path.{_≡_, refl, sym, _∙_}
-use mathlib.Core.List.{List, [], _∷_, _++_, append-nil}
+use mathlib.Core.List.{List, [], _∷_, append-nil}
 use Prim.Native.Nat.{ℕ, _≤_}
 use native.Mathlib.Omega.{arith}
 use borrow.Author.Tests.{eq-eqb, ne-eqb}
-use lib.ListN.{length, take, drop, drop-of-length-le}
+use lib.ListN.{length, take, drop-of-length-le}
 use lib.Ieee.{Float}
 use Rattle.ieee.specs.Numbers as Numbers
 use Rattle.lists.specs.declared.refusals.Refusal.{Refusal}

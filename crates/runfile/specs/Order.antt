@@ -1,12 +1,12 @@
 -- The output of a file that keeps its layout is the header, and then the lines of its jobs 0, 1, .. in order: the header with the lines of each job k of the file behind it, as `job_lines` writes them, is `outputOf`.
-use mathlib.Core.Path.{_≡_, refl, sym, _∙_, ap}
-use mathlib.Core.List.{List, [], _∷_, _++_, append-assoc, append-nil}
-use Prim.Native.Nat.{ℕ, zero, suc, _+_, _*_, _/_, _≤_, _<_}
+use mathlib.Core.Path.{_≡_}
+use mathlib.Core.List.{List, _++_, append-assoc, append-nil}
+use Prim.Native.Nat.{ℕ, zero, suc, _+_, _*_, _/_}
 use native.Mathlib.Omega.{arith}
 use Rattle.layout.specs.declared.parts.Layout.{Layout}
 use Rattle.layout.specs.declared.parts.Laid.the-variants.{Parts, Broken}
 use Rattle.layout.specs.Layout.{layoutOf}
-use Rattle.layout.specs.Request.{Request, requestOf, jobAt, jobsFrom}
+use Rattle.layout.specs.Request.{requestOf, jobAt, jobsFrom}
 use Rattle.lines.specs.Lines.{header, refusedLine}
 use Rattle.runfile.specs.Output.{jobLines, linesFrom, outputOf}
 

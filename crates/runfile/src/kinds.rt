@@ -215,7 +215,7 @@ fn fit_told(
     ))
 }
 
-// A job of kinds 1 to 11.
+// A job of kinds 1 to 11. `job_lines` is given the curve's faults; the three above have them from here.
 pub fn told_of(
     curve: Faults,
     alpha: f64,

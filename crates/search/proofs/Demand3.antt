@@ -11,6 +11,7 @@ use lib.Ieee.{Float, nan, inf, fin, binary64, isNan, lt, le, eq, fits, up, down,
 use lib.Ieee.Bits.{is-false}
 use lib.Ieee.Fits.{and-l, and-r, up-pos, down-pos, eq→eqb}
 use Rattle.ieee.specs.Numbers.{one}
+use Rattle.elementary.proofs.AtMost.{or-l}
 use Rattle.search.specs.declared.Bracket.{Bracket}
 use Rattle.search.specs.declared.Critical.{Critical}
 use Rattle.search.specs.declared.ladder.Ladder.{Ladder}
@@ -27,10 +28,6 @@ use Rattle.search.proofs.LadderSteps.{ladder-zero, ladder-suc}
 use Rattle.search.proofs.HalvingSteps.{mid, clash, onward, halvings-zero, halvings-suc}
 
 -- ---- a number that is not above 1 is at most 1
-or-l : (a b : Bool) → T a → T (a || b)
-or-l true b t = tt
-or-l false b t = absurd t
-
 T-of : (b : Bool) → b ≡ true → T b
 T-of b e = subst T (sym e) tt
 

@@ -15,6 +15,7 @@ use lib.Ieee.Digits.{back}
 use lib.Ieee.Fits.{and-l, and-r, up-pos, down-pos, eq→eqb, and-i}
 use lib.Ieee.Exact.{HasValue}
 use lib.Ieee.Scale.{finite, overflow}
+use Rattle.elementary.proofs.AtMost.{or-l, or-r}
 use Rattle.search.specs.Line.{shift, mag, from, place}
 use Rattle.search.proofs.Near.{Short}
 use Rattle.search.proofs.Narrowing.{Point, right, left}
@@ -108,14 +109,6 @@ same-order a b c x y l L p q h = lt-of-mul-lt-mul-right c (subst (λ (z : ℕ). 
 
 same-level : (a b c x y l : ℕ) → 0 < l → a * l ≡ x * c → b * l ≡ y * c → x ≡ y → a ≡ b
 same-level a b c x y l L p q h = eq-of-mul-eq-mul-right l L a b (p ∙ ap (λ (z : ℕ). z * c) h ∙ sym q)
-
-or-l : (a b : Bool) → T a → T (a || b)
-or-l true b t = tt
-or-l false b t = absurd t
-
-or-r : (a b : Bool) → T b → T (a || b)
-or-r true b t = tt
-or-r false b t = t
 
 or-split : (a b : Bool) → T (a || b) → T a ⊎ T b
 or-split true b t = inl tt

@@ -1,5 +1,5 @@
-// Each list of the terms from the lists before it, an entry for each coupon; whoever calls has them of
-// one length.
+// Each list of the terms from the lists before it, an entry for each coupon. Whoever prices or fits a
+// swaption has asked rule 1: its coupons' lists are of one length, and each list it lends has that length.
 ghost use mathlib.Core.Path.{_≡_};
 ghost use lib.ListN.{length};
 ghost use Rattle.search.specs.Sum.{weightsOf};
@@ -16,6 +16,7 @@ fn coefficient(last: bool, accrual: f64, strike: f64) -> f64
     }
 }
 
+// The coefficients of the coupons. Whoever calls lends a place for each.
 pub fn coefficients(strike: f64, accruals: &[f64], out: &mut [f64])
     requires { ⌜ length (now out) ≡ length (now accruals) ⌝ }
     ensures { λ _. ⌜ now (out .exit) ≡ coefficientsOf strike (now (accruals .entry)) ⌝ }
@@ -27,6 +28,7 @@ pub fn coefficients(strike: f64, accruals: &[f64], out: &mut [f64])
     }
 }
 
+// B from t to each payment time. Whoever calls lends a place for each.
 pub fn bs(alpha: f64, t: f64, payments: &[f64], out: &mut [f64])
     requires { ⌜ length (now out) ≡ length (now payments) ⌝ }
     ensures { λ _. ⌜ now (out .exit) ≡ bsOf alpha t (now (payments .entry)) ⌝ }
@@ -38,7 +40,7 @@ pub fn bs(alpha: f64, t: f64, payments: &[f64], out: &mut [f64])
     }
 }
 
-// Of each ln A what does not depend on sigma.
+// Of each ln A what does not depend on sigma. Whoever calls has worked `bs` and `fetch` on the same coupons.
 pub fn drifts(forward: f64, p_t: f64, b: &[f64], p: &[f64], out: &mut [f64])
     requires { ⌜ (length (now out) ≡ length (now b)) × (length (now p) ≡ length (now b)) ⌝ }
     ensures { λ _. ⌜ now (out .exit) ≡ driftsOf forward «p_t» (now (b .entry)) (now (p .entry)) ⌝ }
@@ -50,7 +52,7 @@ pub fn drifts(forward: f64, p_t: f64, b: &[f64], p: &[f64], out: &mut [f64])
     }
 }
 
-// A of each term at a sigma.
+// A of each term at a sigma. `swaptions::price_at` is given a drift for each B.
 pub fn affines(alpha: f64, sigma: f64, decay: f64, b: &[f64], drift: &[f64], out: &mut [f64])
     requires { ⌜ (length (now out) ≡ length (now b)) × (length (now drift) ≡ length (now b)) ⌝ }
     ensures { λ _. ⌜ now (out .exit) ≡ affinesOf alpha sigma decay (now (b .entry)) (now (drift .entry)) ⌝ }
@@ -62,7 +64,7 @@ pub fn affines(alpha: f64, sigma: f64, decay: f64, b: &[f64], drift: &[f64], out
     }
 }
 
-// The weight of each term in the coupon sum, coefficient × A.
+// The weight of each term in the coupon sum, coefficient × A. Whoever searches has an A for each coefficient.
 pub fn weights(c: &[f64], a: &[f64], out: &mut [f64])
     requires { ⌜ (length (now out) ≡ length (now c)) × (length (now a) ≡ length (now c)) ⌝ }
     ensures { λ _. ⌜ now (out .exit) ≡ weightsOf (now (c .entry)) (now (a .entry)) ⌝ }

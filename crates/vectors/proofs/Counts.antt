@@ -6,7 +6,7 @@ use Prim.Native.Nat.{ℕ, suc, _+_, _-_, _/_, _≤_, _<_}
 use native.Mathlib.Omega.{arith}
 use lib.Dec.{eqb}
 use lib.ListN.{getD, set}
-use Rattle.vectors.specs.Bytes.{eightBytes}
+use Rattle.layout.specs.Bytes.{eightBytes}
 use Rattle.vectors.specs.Match.{agreesOf}
 use Rattle.vectors.specs.Counting.{oneMore, Seen, Counted, agreesAt, recordsFrom, differingFrom}
 

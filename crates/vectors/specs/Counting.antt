@@ -5,7 +5,7 @@ use mathlib.Core.List.{List}
 use Prim.Native.Nat.{ℕ, zero, suc, _+_, min}
 use lib.Dec.{ltb, eqb}
 use lib.ListN.{getD, set}
-use Rattle.vectors.specs.Bytes.{eightBytes}
+use Rattle.layout.specs.Bytes.{eightBytes}
 use Rattle.vectors.specs.Match.{agreesOf}
 
 -- one more, up to the greatest number of 64 bits

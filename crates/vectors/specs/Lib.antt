@@ -1,5 +1,4 @@
 -- What the vectors' bytes and bits mean, and how records are counted. Definitions only.
-pub mod Bytes
 pub mod Named
 pub mod Match
 pub mod Counting

@@ -20,9 +20,9 @@ pub fn agrees(r: Record) -> bool
     if function > 14 {
         return false;
     }
-    let a = value::float_of(r.a);
-    let b = value::float_of(r.b);
-    let c = value::float_of(r.c);
+    let a = layout::float_of(r.a);
+    let b = layout::float_of(r.b);
+    let c = layout::float_of(r.c);
     value::matches(result(function, a, b, c), r.expected)
 }
 

@@ -62,7 +62,7 @@ fn after(t: Tally, r: Record) -> Tally
     }
 }
 
-// One record more.
+// One record more at a place, which `slot_of` keeps within the lists, as for the two below.
 fn seen(t: Tally, slot: usize) -> Tally
     requires { ⌜ slot < 15 ⌝ }
     ensures { λ n. ⌜ Seen slot (t .records) (t .seen) (n .records) (n .seen) ⌝ }

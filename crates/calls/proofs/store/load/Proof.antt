@@ -6,7 +6,7 @@ use mathlib.Core.List.{_++_}
 use native.Mathlib.Numerals.{unary-clauses}
 use denote.Ref.{now}
 use lib.ListN.{length, take, length-set}
-use Rattle.calls.specs.Match.{floatOf}
+use Rattle.layout.specs.Bytes.{floatOf}
 use Rattle.calls.specs.Store.{numbersOf}
 use Rattle.calls.proofs.Walks.{load-turn, load-end}
 use Rattle.calls.proofs.store.load.Statement.{statement}

@@ -1,6 +1,6 @@
 -- `runfile::jobs::job_lines` meets its contract: job k of the file is a path, or is told in one line. Assumes nothing.
 use borrow.Author.Needs.{needs}
-use mathlib.Core.Path.{_≡_, _∙_, ap}
+use mathlib.Core.Path.{_∙_, ap}
 use mathlib.Core.List.{List}
 use Prim.Native.Nat.{_+_, _*_}
 use denote.Ref.{now}
