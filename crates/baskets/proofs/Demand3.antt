@@ -13,7 +13,7 @@ use Rattle.lists.specs.declared.refusals.Answer.the-variants as A
 use Rattle.lists.specs.declared.refusals.Refusal.the-variants as R
 use Rattle.lists.specs.Refusals.{Outcome, served, refused, answerNumber, answerOf, valueOr, following}
 use Rattle.lists.proofs.Outcomes.{not-both, served-is}
-use Rattle.search.proofs.Callers.{past-rules, ends-so, ends-otherwise}
+use Rattle.terms.proofs.Callers.{past-rules, ends-so, ends-otherwise}
 use Rattle.bisection.specs.declared.result.Fit.{Fit}
 use Rattle.baskets.specs.declared.call.Basket.{Basket}
 use Rattle.baskets.specs.declared.call.BasketFit.{BasketFit}

@@ -10,9 +10,9 @@ use lib.IntN.{pos}
 use lib.Ieee.{Float, binary64, inFloat}
 use Rattle.lists.specs.declared.refusals.Refusal.the-variants as R
 use Rattle.lists.specs.Refusals.{Outcome, served, refused, answerNumber, answerOf, following}
-use Rattle.lists.specs.Lookups.{Maybe, just, nothing, factorAt, needing}
+use Rattle.lookups.specs.Lookups.{Maybe, just, nothing, factorAt, needing}
 use Rattle.lists.proofs.Outcomes.{not-both}
-use Rattle.search.proofs.Callers.{ends-so, ends-otherwise}
+use Rattle.terms.proofs.Callers.{ends-so, ends-otherwise}
 use Rattle.bisection.specs.declared.result.Fit.{Fit}
 use Rattle.bisection.specs.Result.{finishingFit}
 use Rattle.bisection.specs.Solve.{solveOf}

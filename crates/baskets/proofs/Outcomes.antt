@@ -17,7 +17,7 @@ use Rattle.lists.specs.Order.{none-applies}
 use Rattle.lists.specs.Checks.{inOrder}
 use Rattle.lists.specs.Faults.{curveFaults}
 use Rattle.lists.proofs.Outcomes.{neither}
-use Rattle.lists.proofs.Laws.{curve-rises}
+use Rattle.lists.proofs.CurveLaws.{curve-rises}
 use Rattle.baskets.specs.declared.call.BasketFit.{BasketFit}
 use Rattle.baskets.specs.Entries.{Entry, entriesOf, sizeWrong, basketRules, rulesOn}
 use Rattle.baskets.specs.Basket.{Records, fitsOf, Bumps, bumpsOf, padded, basketTold, fittedBasket, basketOf}

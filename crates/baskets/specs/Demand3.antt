@@ -10,7 +10,7 @@ use Rattle.ieee.specs.Numbers.{zero}
 use Rattle.lists.specs.declared.refusals.Answer.the-variants as A
 use Rattle.lists.specs.declared.refusals.Refusal.the-variants as R
 use Rattle.lists.specs.Refusals.{served}
-use Rattle.lists.specs.Lookups.{just, factorAt}
+use Rattle.lookups.specs.Lookups.{just, factorAt}
 use Rattle.bisection.specs.declared.result.Fit.{Fit}
 use Rattle.bisection.specs.Demand3.{Assured}
 use Rattle.objectives.specs.Objective.{capletObjective}

@@ -6,10 +6,10 @@ use lib.Ieee.{Float}
 use Rattle.lists.specs.declared.refusals.Answer.the-variants as A
 use Rattle.lists.specs.declared.refusals.Refusal.the-variants as R
 use Rattle.lists.specs.Refusals.{Outcome, served, refused, firstOf, following}
-use Rattle.lists.specs.Lookups.{just, factorAt}
+use Rattle.lookups.specs.Lookups.{just, factorAt}
 use Rattle.lists.specs.Faults.{curveFaults}
 use Rattle.lists.proofs.Outcomes.{not-both}
-use Rattle.search.proofs.Callers.{Late, past-rules, past-lookups, ends-so, ends-otherwise}
+use Rattle.terms.proofs.Callers.{Late, past-rules, past-lookups, ends-so, ends-otherwise}
 use Rattle.terms.proofs.Begun.{Searches, searches, begins}
 use Rattle.bisection.specs.declared.result.Fit.{Fit}
 use Rattle.bisection.specs.Result.{finishingFit}

@@ -17,7 +17,7 @@ use Rattle.lists.specs.Order.{none-applies}
 use Rattle.lists.specs.Checks.{inOrder}
 use Rattle.lists.specs.Faults.{curveFaults, couponFaults}
 use Rattle.lists.proofs.Outcomes.{neither}
-use Rattle.lists.proofs.Laws.{curve-rises}
+use Rattle.lists.proofs.CurveLaws.{curve-rises}
 use Rattle.objectives.specs.declared.market.Quote.{Quote}
 use Rattle.calibration.specs.Fits.{capletRules, swaptionRules, swaptionRulesOn, capletFitted, capletFitOutcome, swaptionFitted, swaptionFitOutcome}
 

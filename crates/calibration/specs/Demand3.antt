@@ -6,7 +6,7 @@ use lib.Ieee.{Float}
 use Rattle.lists.specs.declared.refusals.Answer.the-variants as A
 use Rattle.lists.specs.declared.refusals.Refusal.the-variants as R
 use Rattle.lists.specs.Refusals.{Outcome, served, refused, firstOf}
-use Rattle.lists.specs.Lookups.{just, factorAt}
+use Rattle.lookups.specs.Lookups.{just, factorAt}
 use Rattle.lists.specs.Faults.{curveFaults}
 use Rattle.search.specs.Reached.{Unbracketed}
 use Rattle.search.specs.Facts.{Located}

@@ -12,7 +12,7 @@ use Rattle.lists.specs.declared.checks.Test.the-variants.{Above}
 use Rattle.lists.specs.declared.refusals.Refusal.the-variants as R
 use Rattle.lists.specs.Refusals.{Outcome, Rule, rule, unless, following}
 use Rattle.lists.specs.Checks.{allOf}
-use Rattle.lists.specs.Lookups.{factorAt, needing}
+use Rattle.lookups.specs.Lookups.{factorAt, needing}
 use Rattle.lists.specs.Faults.{curveFaults, couponFaults}
 use Rattle.formulas.specs.HullWhite.{h}
 use Rattle.terms.specs.Terms.{factorsAt}

@@ -15,9 +15,9 @@ use super::solve;
 use bisection::Fitted;
 use lists::Answer;
 use lists::Faults;
-use lists::Found;
 use lists::Refusal;
 use lists::Test;
+use lookups::Found;
 use objectives::Instrument;
 use objectives::Quote;
 
@@ -117,10 +117,10 @@ pub fn caplet_fitted(
     requires { ⌜ inOrder true (now times) ≡ true ⌝ }
     ensures { λ r. ⌜ fittedOutcome r ≡ capletFitted quote alpha (now (times .entry)) (now (factors .entry)) strike t end vol ⌝ }
 {
-    let Found::At(p_t) = lists::factor(times, factors, t) else {
+    let Found::At(p_t) = lookups::factor(times, factors, t) else {
         return Fitted::Refused(Refusal::OffCurve);
     };
-    let Found::At(p_end) = lists::factor(times, factors, end) else {
+    let Found::At(p_end) = lookups::factor(times, factors, end) else {
         return Fitted::Refused(Refusal::OffCurve);
     };
     caplet_worked(quote, alpha, strike, t, end, vol, p_t, p_end)
@@ -275,10 +275,10 @@ fn swaption_fitted(
     requires { ⌜ (0 < length (now payments)) × (length (now payments) ≤ 64) × (length (now accruals) ≡ length (now payments)) × (inOrder true (now times) ≡ true) ⌝ }
     ensures { λ r. ⌜ fittedOutcome r ≡ swaptionFitted quote alpha (now (times .entry)) (now (factors .entry)) (now (payments .entry)) (now (accruals .entry)) strike t vol ⌝ }
 {
-    let Found::At(p_t) = lists::factor(times, factors, t) else {
+    let Found::At(p_t) = lookups::factor(times, factors, t) else {
         return Fitted::Refused(Refusal::OffCurve);
     };
-    let Found::At(p_plus) = lists::factor(times, factors, t + formulas::day()) else {
+    let Found::At(p_plus) = lookups::factor(times, factors, t + formulas::day()) else {
         return Fitted::Refused(Refusal::OffCurve);
     };
     let n = payments.len();

@@ -15,7 +15,7 @@ use Rattle.lists.specs.declared.refusals.Refusal.the-variants as R
 use Rattle.lists.specs.declared.refusals.Answer.{Answer}
 use Rattle.lists.specs.declared.refusals.Answer.the-variants as A
 use Rattle.lists.specs.Refusals.{Outcome, served, refused, numberOf, Rule, firstOf, after, unless, following, prepend, finishing}
-use Rattle.lists.specs.Lookups.{Maybe, just, nothing, factorAt, volatilityAt, required, upTo}
+use Rattle.lookups.specs.Lookups.{Maybe, just, nothing, factorAt, volatilityAt, required, upTo}
 use Rattle.lists.specs.Checks.{allOf}
 use Rattle.lists.specs.declared.checks.Test.the-variants.{Finite}
 use Rattle.formulas.specs.HullWhite.{h, bOf, forwardOf, aOf, zcbOf, volatilityOf, slopeOf, thetaOf, shortRateVarianceOf, optionletStrikeOf, optionletOf}

@@ -1,7 +1,6 @@
 -- What the functions' proofs cite, and the laws for callers.
 pub mod Walks
 pub mod Outcomes
-pub mod Laws
+pub mod CurveLaws
 pub mod Order
-pub mod Halves
 pub mod Refusing

@@ -1,30 +1,20 @@
--- What callers may use of answers and lookups: a rule that let the call through did not apply, and a lookup that the code took apart is what its definition says.
+-- What callers may use of answers: a rule that let the call through did not apply, and what a call promises follows from its rules.
 use mathlib.Core.Path.{_≡_, refl, sym, _∙_, ap}
 use mathlib.Core.Bool.{Bool, true, false, _||_}
 use Prim.Native.Nat.{ℕ}
 use native.Mathlib.Omega.{arith}
 use lib.Ieee.{Float}
-use Rattle.lists.specs.declared.lookups.Found.{Found}
-use Rattle.lists.specs.declared.lookups.Found.the-variants as F
 use Rattle.lists.specs.declared.refusals.Refusal.{Refusal}
 use Rattle.lists.specs.declared.refusals.Answer.{Answer}
 use Rattle.lists.specs.declared.refusals.Answer.the-variants as A
 use Rattle.lists.specs.declared.refusals.Price.{Price}
 use Rattle.lists.specs.declared.refusals.Price.the-variants as P
 use Rattle.lists.specs.Refusals.{Outcome, served, refused, after, outcomeOf, toldOutcome, Priced}
-use Rattle.lists.specs.Lookups.{Maybe, just, nothing, foundOf}
 
 -- ---- neither of two rules applies
 pub neither : (a b : Bool) → (a || b) ≡ false → (a ≡ false) × (b ≡ false)
 neither true b h = let z : _≡_ {A = ℕ} 0 1 = cc in absurd (let y : ⊥ = omega arith in y)
 neither false b h = (refl, h)
-
--- ---- a lookup: `m` is what it finds by specs/
-pub at : (found : Found) {m : Maybe} {p : Float} → found ≡ F.At p → foundOf found ≡ m → m ≡ just p
-at found e h = rw (← h, e) refl
-
-pub missing : (found : Found) {m : Maybe} → found ≡ F.Missing → foundOf found ≡ m → m ≡ nothing
-missing found e h = rw (← h, e) refl
 
 -- ---- an answer: `a` is what it is by specs/
 pub turned-down : {B : Type 0} (answer : Answer) {a : Answer} {q : Refusal} (rest : Outcome B) → answer ≡ A.Refused q → answer ≡ a → after a rest ≡ refused q

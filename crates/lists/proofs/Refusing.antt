@@ -10,7 +10,7 @@ use Rattle.lists.specs.Refusals.{Rule, firstOf}
 use Rattle.lists.specs.Order.{NoneApplies, none-applies}
 use Rattle.lists.specs.Checks.{inOrder}
 use Rattle.lists.specs.Faults.{curveFaults}
-use Rattle.lists.proofs.Laws.{curve-rises}
+use Rattle.lists.proofs.CurveLaws.{curve-rises}
 
 -- `fourth` takes the line of rule 4 among those that did not apply
 pub rises : (curve : Faults) (ts fs : List Float) (answer : Answer) (rules : List Rule) → curve ≡ curveFaults ts fs → answer ≡ A.Served → answer ≡ firstOf rules

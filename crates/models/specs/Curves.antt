@@ -6,7 +6,7 @@ use Rattle.ieee.specs.Rounded.{_⊕_, _⊖_}
 use Rattle.ieee.specs.Numbers.{zero, two}
 use Rattle.ieee.specs.Fused.{fusedOf}
 use Rattle.lists.specs.Refusals.{Outcome, unless, finishing}
-use Rattle.lists.specs.Lookups.{factorAt, needing}
+use Rattle.lookups.specs.Lookups.{factorAt, needing}
 use Rattle.lists.specs.Faults.{curveFaults}
 use Rattle.formulas.specs.HullWhite.{h, bOf, forwardOf, aOf, zcbOf, volatilityOf, slopeOf, thetaOf, shortRateVarianceOf}
 use Rattle.models.specs.Rules.{noFaults, optionRules, forwardRules, thetaRules}

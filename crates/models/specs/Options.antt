@@ -2,7 +2,7 @@
 use mathlib.Core.List.{List}
 use lib.Ieee.{Float}
 use Rattle.lists.specs.Refusals.{Outcome, unless, finishing}
-use Rattle.lists.specs.Lookups.{factorAt, needing}
+use Rattle.lookups.specs.Lookups.{factorAt, needing}
 use Rattle.lists.specs.Faults.{curveFaults}
 use Rattle.formulas.specs.HullWhite.{volatilityOf, bondPutOf, bondCallOf, optionletStrikeOf, optionletOf}
 use Rattle.models.specs.declared.options.BondOption.{BondOption}

@@ -7,9 +7,9 @@ ghost use Rattle.lists.specs.Refusals.{Priced, outcomeOf};
 ghost use Rattle.models.specs.Curves.{bOutcome, volatilityOutcome, shortRateVarianceOutcome, aPriced, aOutcome, zcbPriced, zcbOutcome, forwardPriced, forwardOutcome, thetaPriced, thetaFrom, thetaOutcome};
 use super::rules;
 use lists::Answer;
-use lists::Found;
 use lists::Price;
 use lists::Refusal;
+use lookups::Found;
 
 pub fn B(alpha: f64, t: f64, bond: f64) -> Price
     ensures { λ r. ⌜ Priced r (bOutcome alpha t bond) ⌝ }
@@ -56,13 +56,13 @@ fn a_priced(alpha: f64, times: &[f64], factors: &[f64], t: f64, bond: f64, sigma
     requires { ⌜ inOrder true (now times) ≡ true ⌝ }
     ensures { λ r. ⌜ outcomeOf r ≡ aPriced alpha (now (times .entry)) (now (factors .entry)) t bond sigma ⌝ }
 {
-    let Found::At(p_t) = lists::factor(times, factors, t) else {
+    let Found::At(p_t) = lookups::factor(times, factors, t) else {
         return Price::Refused(Refusal::OffCurve);
     };
-    let Found::At(p_bond) = lists::factor(times, factors, bond) else {
+    let Found::At(p_bond) = lookups::factor(times, factors, bond) else {
         return Price::Refused(Refusal::OffCurve);
     };
-    let Found::At(p_plus) = lists::factor(times, factors, t + formulas::day()) else {
+    let Found::At(p_plus) = lookups::factor(times, factors, t + formulas::day()) else {
         return Price::Refused(Refusal::OffCurve);
     };
     let b = formulas::b_of(alpha, t, bond);
@@ -101,13 +101,13 @@ fn zcb_priced(
     requires { ⌜ inOrder true (now times) ≡ true ⌝ }
     ensures { λ r. ⌜ outcomeOf r ≡ zcbPriced alpha (now (times .entry)) (now (factors .entry)) rate t bond sigma ⌝ }
 {
-    let Found::At(p_t) = lists::factor(times, factors, t) else {
+    let Found::At(p_t) = lookups::factor(times, factors, t) else {
         return Price::Refused(Refusal::OffCurve);
     };
-    let Found::At(p_bond) = lists::factor(times, factors, bond) else {
+    let Found::At(p_bond) = lookups::factor(times, factors, bond) else {
         return Price::Refused(Refusal::OffCurve);
     };
-    let Found::At(p_plus) = lists::factor(times, factors, t + formulas::day()) else {
+    let Found::At(p_plus) = lookups::factor(times, factors, t + formulas::day()) else {
         return Price::Refused(Refusal::OffCurve);
     };
     let b = formulas::b_of(alpha, t, bond);
@@ -131,10 +131,10 @@ fn forward_priced(times: &[f64], factors: &[f64], t: f64) -> Price
     requires { ⌜ inOrder true (now times) ≡ true ⌝ }
     ensures { λ r. ⌜ outcomeOf r ≡ forwardPriced (now (times .entry)) (now (factors .entry)) t ⌝ }
 {
-    let Found::At(p) = lists::factor(times, factors, t) else {
+    let Found::At(p) = lookups::factor(times, factors, t) else {
         return Price::Refused(Refusal::OffCurve);
     };
-    let Found::At(p_plus) = lists::factor(times, factors, t + formulas::day()) else {
+    let Found::At(p_plus) = lookups::factor(times, factors, t + formulas::day()) else {
         return Price::Refused(Refusal::OffCurve);
     };
     lists::served(formulas::forward_of(p, p_plus))
@@ -155,10 +155,10 @@ fn theta_priced(alpha: f64, times: &[f64], factors: &[f64], t: f64, sigma: f64) 
     requires { ⌜ inOrder true (now times) ≡ true ⌝ }
     ensures { λ r. ⌜ outcomeOf r ≡ thetaPriced alpha (now (times .entry)) (now (factors .entry)) t sigma ⌝ }
 {
-    let Found::At(p) = lists::factor(times, factors, t) else {
+    let Found::At(p) = lookups::factor(times, factors, t) else {
         return Price::Refused(Refusal::OffCurve);
     };
-    let Found::At(p_plus) = lists::factor(times, factors, t + formulas::day()) else {
+    let Found::At(p_plus) = lookups::factor(times, factors, t + formulas::day()) else {
         return Price::Refused(Refusal::OffCurve);
     };
     theta_from(alpha, times, factors, t, sigma, p, p_plus)
@@ -180,13 +180,13 @@ fn theta_from(
     let h = formulas::day();
     let forward = formulas::forward_of(p, p_plus);
     if t > h {
-        let Found::At(p_minus) = lists::factor(times, factors, t - h) else {
+        let Found::At(p_minus) = lookups::factor(times, factors, t - h) else {
             return Price::Refused(Refusal::OffCurve);
         };
         let slope = formulas::forward_slope_of(forward, formulas::forward_of(p_minus, p));
         lists::served(formulas::theta_of(alpha, t, sigma, forward, slope))
     } else {
-        let Found::At(p_plus2) = lists::factor(times, factors, ieee::fused(2.0, h, t)) else {
+        let Found::At(p_plus2) = lookups::factor(times, factors, ieee::fused(2.0, h, t)) else {
             return Price::Refused(Refusal::OffCurve);
         };
         let slope = formulas::forward_slope_of(formulas::forward_of(p_plus, p_plus2), forward);

@@ -10,9 +10,9 @@ ghost use Rattle.models.specs.declared.options.BondOption.the-variants a
 use super::rules;
 use lists::Answer;
 use lists::Faults;
-use lists::Found;
 use lists::Price;
 use lists::Refusal;
+use lookups::Found;
 
 pub enum BondOption {
     Put,
@@ -182,10 +182,10 @@ fn bond_option_priced(
     requires { ⌜ inOrder true (now times) ≡ true ⌝ }
     ensures { λ r. ⌜ outcomeOf r ≡ bondOptionPriced option alpha (now (times .entry)) (now (factors .entry)) t bond strike sigma ⌝ }
 {
-    let Found::At(p_t) = lists::factor(times, factors, t) else {
+    let Found::At(p_t) = lookups::factor(times, factors, t) else {
         return Price::Refused(Refusal::OffCurve);
     };
-    let Found::At(p_bond) = lists::factor(times, factors, bond) else {
+    let Found::At(p_bond) = lookups::factor(times, factors, bond) else {
         return Price::Refused(Refusal::OffCurve);
     };
     let sigma_p = formulas::volatility_of(alpha, sigma, t, bond);
@@ -205,10 +205,10 @@ fn optionlet_priced(
     requires { ⌜ inOrder true (now times) ≡ true ⌝ }
     ensures { λ r. ⌜ outcomeOf r ≡ optionletPriced option alpha (now (times .entry)) (now (factors .entry)) strike t end sigma ⌝ }
 {
-    let Found::At(p_t) = lists::factor(times, factors, t) else {
+    let Found::At(p_t) = lookups::factor(times, factors, t) else {
         return Price::Refused(Refusal::OffCurve);
     };
-    let Found::At(p_end) = lists::factor(times, factors, end) else {
+    let Found::At(p_end) = lookups::factor(times, factors, end) else {
         return Price::Refused(Refusal::OffCurve);
     };
     let sigma_p = formulas::volatility_of(alpha, sigma, t, end);

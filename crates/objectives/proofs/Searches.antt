@@ -10,7 +10,7 @@ use Rattle.formulas.specs.HullWhite.{forwardOf, decayOf, deviationOf}
 use Rattle.search.specs.Values.{Values}
 use Rattle.search.specs.Reached.{Unbracketed}
 use Rattle.search.specs.Facts.{Located}
-use Rattle.search.proofs.Callers.{root-located, wants-bracket, no-bracket}
+use Rattle.terms.proofs.Callers.{root-located, wants-bracket, no-bracket}
 use Rattle.terms.specs.Terms.{coefficientsOf, bsOf, driftsOf, affinesOf}
 use Rattle.swaptions.specs.Price.{Valued, putsOf, priceAt}
 use Rattle.swaptions.specs.Demand3.{sumOf}

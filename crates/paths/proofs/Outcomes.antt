@@ -17,7 +17,7 @@ use Rattle.lists.specs.Order.{none-applies}
 use Rattle.lists.specs.Checks.{inOrder}
 use Rattle.lists.specs.Faults.{curveFaults, pillarFaults, gridFaults}
 use Rattle.lists.proofs.Outcomes.{neither}
-use Rattle.lists.proofs.Laws.{curve-rises}
+use Rattle.lists.proofs.CurveLaws.{curve-rises}
 use Rattle.paths.specs.Transition.{transitionRules}
 use Rattle.paths.specs.Generate.{pathRules}
 

@@ -15,7 +15,7 @@ use Rattle.lists.specs.declared.refusals.Answer.the-variants as A
 use Rattle.lists.specs.declared.checks.Test.the-variants.{Finite}
 use Rattle.lists.specs.Checks.{allOf}
 use Rattle.lists.specs.Refusals.{Outcome, served, refused, firstOf, after, following, prepend}
-use Rattle.lists.specs.Lookups.{Maybe, just, nothing, factorAt, required, needing, volatilityAt}
+use Rattle.lookups.specs.Lookups.{Maybe, just, nothing, factorAt, required, needing, volatilityAt}
 use Rattle.lists.specs.Faults.{curveFaults, pillarFaults, gridFaults}
 use Rattle.lists.proofs.Outcomes.{not-both, served-is}
 use Rattle.formulas.specs.HullWhite.{h, forwardOf}

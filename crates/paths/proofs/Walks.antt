@@ -12,7 +12,7 @@ use Rattle.ieee.specs.Numbers as Numbers
 use Rattle.ieee.specs.Rounded.{_⊕_}
 use Rattle.lists.specs.declared.refusals.Refusal.the-variants as R
 use Rattle.lists.specs.Refusals.{Outcome, served, refused, prepend}
-use Rattle.lists.specs.Lookups.{Maybe, just, nothing, factorAt, needing, volatilityAt}
+use Rattle.lookups.specs.Lookups.{Maybe, just, nothing, factorAt, needing, volatilityAt}
 use Rattle.formulas.specs.HullWhite.{h, forwardOf}
 use Rattle.paths.specs.declared.path.State.{State}
 use Rattle.paths.specs.Transition.{stepVariance, variancesOf}

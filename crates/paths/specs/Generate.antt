@@ -14,7 +14,7 @@ use Rattle.elementary.specs.Exp.{expOf}
 use Rattle.lists.specs.declared.curves.Faults.{Faults}
 use Rattle.lists.specs.declared.refusals.Refusal.the-variants as R
 use Rattle.lists.specs.Refusals.{Outcome, served, Rule, rule, unless, following, prepend}
-use Rattle.lists.specs.Lookups.{factorAt, needing, required, volatilityAt}
+use Rattle.lookups.specs.Lookups.{factorAt, needing, required, volatilityAt}
 use Rattle.lists.specs.Faults.{curveFaults, pillarFaults, gridFaults}
 use Rattle.formulas.specs.HullWhite.{h, forwardOf}
 use Rattle.paths.specs.declared.path.State.{State}

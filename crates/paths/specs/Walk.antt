@@ -4,7 +4,7 @@ use lib.Ieee.{Float, neg}
 use Rattle.ieee.specs.Rounded.{_⊕_, _⊖_, _⊗_}
 use Rattle.ieee.specs.Numbers.{two}
 use Rattle.elementary.specs.Exp.{expOf}
-use Rattle.lists.specs.Lookups.{Maybe, just, nothing, factorAt}
+use Rattle.lookups.specs.Lookups.{Maybe, just, nothing, factorAt}
 use Rattle.formulas.specs.HullWhite.{h, forwardOf}
 
 -- the decay of the state's variance from t to u, as `stateAfter` has it: exp(-2 × alpha × (u - t))

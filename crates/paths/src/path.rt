@@ -7,7 +7,7 @@ ghost use lib.ListN.{length};
 ghost use Rattle.ieee.specs.Numbers.{zero};
 ghost use Rattle.lists.specs.Checks.{inOrder};
 ghost use Rattle.lists.specs.Refusals.{served, answerOf, answerNumber, reported, firstOf, after};
-ghost use Rattle.lists.specs.Lookups.{foundOf};
+ghost use Rattle.lookups.specs.Lookups.{foundOf};
 ghost use Rattle.lists.specs.Faults.{curveFaults};
 ghost use Rattle.paths.specs.Written.{storedOf};
 ghost use Rattle.paths.specs.Generate.{pathRules, startsBelow, stateAfter, shiftOf, pathFrom, startState, generateOutcome};
@@ -16,9 +16,9 @@ use super::decays;
 use super::output;
 use lists::Answer;
 use lists::Faults;
-use lists::Found;
 use lists::Refusal;
-use lists::Spot;
+use lookups::Found;
+use lookups::Spot;
 
 // The state of a path: the centred rate, the time, and the state's variance.
 pub struct State {
@@ -179,12 +179,12 @@ fn forward_near(times: &[f64], factors: &[f64], hint: usize, t: f64) -> Spot
     requires { ⌜ inOrder true (now times) ≡ true ⌝ }
     ensures { λ r. ⌜ foundOf (r .found) ≡ forwardAt (now (times .entry)) (now (factors .entry)) t ⌝ }
 {
-    let first = lists::factor_near(times, factors, hint, t);
+    let first = lookups::factor_near(times, factors, hint, t);
     let found = first.found;
     let Found::At(p) = found else {
         return first;
     };
-    let second = lists::factor_near(times, factors, first.next, t + formulas::day());
+    let second = lookups::factor_near(times, factors, first.next, t + formulas::day());
     let found_plus = second.found;
     let Found::At(p_plus) = found_plus else {
         return second;
@@ -239,7 +239,7 @@ fn walk_points(
     let mut i = 0;
     while i < grid.len() {
         let t = grid[i];
-        let volatility = lists::volatility_near(pillars, sigmas, reached, t);
+        let volatility = lookups::volatility_near(pillars, sigmas, reached, t);
         let found = volatility.found;
         let Found::At(sigma) = found else {
             return Answer::Refused(Refusal::Empty);

@@ -20,7 +20,7 @@ use Rattle.search.specs.Sum.{couponSum}
 use Rattle.search.specs.Values.{Values}
 use Rattle.search.specs.Reached.{Unbracketed}
 use Rattle.search.specs.Facts.{Located}
-use Rattle.search.proofs.Callers.{root-located, wants-bracket, no-bracket, ends-so, ends-otherwise}
+use Rattle.terms.proofs.Callers.{root-located, wants-bracket, no-bracket, ends-so, ends-otherwise}
 use Rattle.terms.specs.Terms.{coefficientsOf, bsOf}
 use Rattle.terms.specs.Begun.{RootFound, WantsBracket}
 use Rattle.terms.proofs.Begun.{searches, begins}

@@ -17,11 +17,11 @@ use Rattle.lists.specs.declared.refusals.Answer.the-variants as A
 use Rattle.lists.specs.declared.checks.Test.the-variants.{Zero}
 use Rattle.lists.specs.Refusals.{Outcome, served, refused, firstOf}
 use Rattle.lists.specs.Order.{none-applies}
-use Rattle.lists.specs.Lookups.{just, nothing, factorAt}
+use Rattle.lookups.specs.Lookups.{just, nothing, factorAt}
 use Rattle.lists.specs.Checks.{allOf, inOrder}
 use Rattle.lists.specs.Faults.{curveFaults, pillarFaults, couponFaults}
 use Rattle.lists.proofs.Outcomes.{neither}
-use Rattle.lists.proofs.Laws.{curve-rises}
+use Rattle.lists.proofs.CurveLaws.{curve-rises}
 use Rattle.formulas.specs.HullWhite.{h, forwardOf}
 use Rattle.schedules.specs.Variance.{varianceOf}
 use Rattle.search.specs.declared.Bracket.{Bracket}

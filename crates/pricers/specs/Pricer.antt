@@ -12,7 +12,7 @@ use Rattle.lists.specs.declared.checks.Test.the-variants.{Finite, Zero, Above}
 use Rattle.lists.specs.declared.refusals.Refusal.the-variants as R
 use Rattle.lists.specs.Refusals.{Outcome, served, refused, Rule, rule, unless, following}
 use Rattle.lists.specs.Checks.{allOf}
-use Rattle.lists.specs.Lookups.{factorAt, needing}
+use Rattle.lookups.specs.Lookups.{factorAt, needing}
 use Rattle.lists.specs.Faults.{curveFaults, pillarFaults, couponFaults}
 use Rattle.formulas.specs.HullWhite.{h, forwardOf}
 use Rattle.schedules.specs.Variance.{varianceOf}

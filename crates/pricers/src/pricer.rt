@@ -12,9 +12,9 @@ use closedform::Step;
 use closedform::SwaptionType;
 use lists::Answer;
 use lists::Faults;
-use lists::Found;
 use lists::Refusal;
 use lists::Test;
+use lookups::Found;
 use search::Bracket;
 use search::Critical;
 
@@ -203,10 +203,10 @@ fn pricer_priced(
     requires { ⌜ (length (now payments) ≤ 64) × (length (now accruals) ≡ length (now payments)) × (length (now «own_dfs») ≡ length (now payments)) × (inOrder true (now times) ≡ true) ⌝ }
     ensures { λ r. ⌜ valuationOutcome r ≡ pricerPriced option alpha (now (pillars .entry)) (now (sigmas .entry)) (now (times .entry)) (now (factors .entry)) (now (payments .entry)) (now (accruals .entry)) (now («own_dfs» .entry)) strike t notional side ⌝ }
 {
-    let Found::At(p_t) = lists::factor(times, factors, t) else {
+    let Found::At(p_t) = lookups::factor(times, factors, t) else {
         return Valuation::Refused(Refusal::OffCurve);
     };
-    let Found::At(p_plus) = lists::factor(times, factors, t + formulas::day()) else {
+    let Found::At(p_plus) = lookups::factor(times, factors, t + formulas::day()) else {
         return Valuation::Refused(Refusal::OffCurve);
     };
     let n = payments.len();

@@ -6,7 +6,7 @@ use lib.ListN.{length, getD, drop}
 use lib.Ieee.{Float, nan}
 use Rattle.lists.specs.declared.refusals.Refusal.the-variants as R
 use Rattle.lists.specs.Refusals.{refused, finishing}
-use Rattle.lists.specs.Lookups.{just, nothing, factorAt}
+use Rattle.lookups.specs.Lookups.{just, nothing, factorAt}
 use Rattle.lists.proofs.Walks.{next, done}
 use Rattle.quotes.specs.Formulas.{annuityStep}
 use Rattle.quotes.specs.Utils.{annuityFrom}

@@ -6,7 +6,7 @@ use lib.Ieee.Scale.{finite}
 use Rattle.ieee.specs.Numbers.{zero}
 use Rattle.lists.specs.declared.refusals.Refusal.the-variants as R
 use Rattle.lists.specs.Refusals.{Outcome, served, refused, unless, finishing}
-use Rattle.lists.specs.Lookups.{factorAt, needing}
+use Rattle.lookups.specs.Lookups.{factorAt, needing}
 use Rattle.lists.specs.Faults.{curveFaults, couponFaults}
 use Rattle.quotes.specs.Formulas.{d1Of, d2Of, blackCallOf, blackPutOf, bachelierCallOf, annuityStep}
 use Rattle.quotes.specs.declared.utils.Pair.{Pair}

@@ -7,9 +7,9 @@ ghost use Rattle.quotes.specs.Utils.{noTwo, pairOutcome, d1d2Worked, d1d
 use super::formulas;
 use super::rules;
 use lists::Answer;
-use lists::Found;
 use lists::Price;
 use lists::Refusal;
+use lookups::Found;
 
 // The answer of a call with two values.
 pub enum Pair {
@@ -94,7 +94,7 @@ fn annuity_priced(times: &[f64], factors: &[f64], payments: &[f64], accruals: &[
         if accruals.len() <= i {
             return lists::served(sum);
         }
-        let Found::At(p) = lists::factor(times, factors, payments[i]) else {
+        let Found::At(p) = lookups::factor(times, factors, payments[i]) else {
             return Price::Refused(Refusal::OffCurve);
         };
         sum = formulas::annuity_step(sum, accruals[i], p);

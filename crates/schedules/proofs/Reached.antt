@@ -16,8 +16,8 @@ use Rattle.lists.specs.Checks.{allOf}
 use Rattle.lists.specs.Faults.{pillarFaults}
 use Rattle.lists.proofs.Order.{both}
 use Rattle.lists.proofs.Outcomes.{neither}
-use Rattle.lists.proofs.Walks.{volatility-first}
-use Rattle.lists.proofs.Laws.{volatility-passes}
+use Rattle.lookups.proofs.Walks.{volatility-first}
+use Rattle.lookups.proofs.Laws.{volatility-passes}
 use Rattle.schedules.specs.Parameters.{rulesAt, volatilityFound, volatilityOutcome, reachedOutcome, SameAnswer}
 
 -- two calls under the same rules, which answer alike where the rules let them through

@@ -6,7 +6,7 @@ use lib.ListN.{length}
 use lib.Ieee.{Float}
 use Rattle.lists.specs.declared.refusals.Refusal.the-variants as R
 use Rattle.lists.specs.Refusals.{Outcome, served, answerOf, Rule, unless, finishing}
-use Rattle.lists.specs.Lookups.{required, volatilityAt, upTo}
+use Rattle.lookups.specs.Lookups.{required, volatilityAt, upTo}
 use Rattle.lists.specs.Faults.{pillarFaults}
 use Rattle.schedules.specs.Variance.{varianceOf}
 use Rattle.schedules.specs.Rules.{volatilityRules, varianceRules}

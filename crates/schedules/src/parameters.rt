@@ -7,9 +7,9 @@ ghost use Rattle.schedules.specs.Parameters.{volatilityFound, volatility
 use super::rules;
 use super::variance;
 use lists::Answer;
-use lists::Found;
 use lists::Price;
 use lists::Refusal;
+use lookups::Found;
 
 pub fn volatility(times: &[f64], sigmas: &[f64], t: f64) -> Price
     ensures { λ r. ⌜ Priced r (volatilityOutcome (now (times .entry)) (now (sigmas .entry)) t) ⌝ }
@@ -25,7 +25,7 @@ pub fn volatility(times: &[f64], sigmas: &[f64], t: f64) -> Price
 fn volatility_found(times: &[f64], sigmas: &[f64], t: f64) -> Price
     ensures { λ r. ⌜ outcomeOf r ≡ volatilityFound (now (times .entry)) (now (sigmas .entry)) t ⌝ }
 {
-    let Found::At(sigma) = lists::volatility(times, sigmas, t) else {
+    let Found::At(sigma) = lookups::volatility(times, sigmas, t) else {
         return Price::Refused(Refusal::Empty);
     };
     lists::served(sigma)
@@ -41,7 +41,7 @@ pub fn pillars_reached<'a>(times: &'a [f64], sigmas: &[f64], t: f64) -> &'a [f64
     let answer = rules::volatility_rules(pillars, times.len() == 0, t);
     match answer {
         Answer::Refused(_) => &times[..0],
-        Answer::Served => lists::reached(times, t),
+        Answer::Served => lookups::reached(times, t),
     }
 }
 

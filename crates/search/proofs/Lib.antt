@@ -16,4 +16,3 @@ pub mod Joining
 pub mod Demand3
 pub mod Reaching
 pub mod Answers
-pub mod Callers

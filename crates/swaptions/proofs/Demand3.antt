@@ -18,7 +18,7 @@ use Rattle.search.specs.Rate.{criticalOf}
 use Rattle.search.specs.Values.{Values, criticalOutcome}
 use Rattle.search.specs.Reached.{Unbracketed}
 use Rattle.search.specs.Facts.{Located}
-use Rattle.search.proofs.Callers.{Late, past-rules, searching, root-located, wants-bracket, no-bracket, ends-so, ends-otherwise}
+use Rattle.terms.proofs.Callers.{Late, past-rules, searching, root-located, wants-bracket, no-bracket, ends-so, ends-otherwise}
 use Rattle.terms.specs.Terms.{coefficientsOf, bsOf, driftsOf, affinesOf}
 use Rattle.terms.specs.Begun.{Begun, RootFound, WantsBracket}
 use Rattle.terms.proofs.Begun.{Searches, looked-up, looks-up}

@@ -18,7 +18,7 @@ use Rattle.lists.specs.Order.{none-applies}
 use Rattle.lists.specs.Checks.{inOrder}
 use Rattle.lists.specs.Faults.{curveFaults, couponFaults}
 use Rattle.lists.proofs.Outcomes.{neither}
-use Rattle.lists.proofs.Laws.{curve-rises}
+use Rattle.lists.proofs.CurveLaws.{curve-rises}
 use Rattle.formulas.specs.HullWhite.{forwardOf, decayOf, deviationOf}
 use Rattle.search.specs.declared.Critical.{Critical}
 use Rattle.search.specs.Sum.{weightsOf, weightedSum}

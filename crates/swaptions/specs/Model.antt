@@ -12,7 +12,7 @@ use Rattle.lists.specs.declared.checks.Test.the-variants.{Above}
 use Rattle.lists.specs.declared.refusals.Refusal.the-variants as R
 use Rattle.lists.specs.Refusals.{Outcome, served, Rule, rule, unless, following}
 use Rattle.lists.specs.Checks.{allOf}
-use Rattle.lists.specs.Lookups.{factorAt, needing}
+use Rattle.lookups.specs.Lookups.{factorAt, needing}
 use Rattle.lists.specs.Faults.{curveFaults, couponFaults}
 use Rattle.formulas.specs.HullWhite.{h, forwardOf, decayOf, deviationOf}
 use Rattle.terms.specs.Terms.{coefficientsOf, bsOf, driftsOf, factorsAt}

@@ -14,9 +14,9 @@ use super::price::Root;
 use super::price::Swaption;
 use lists::Answer;
 use lists::Faults;
-use lists::Found;
 use lists::Refusal;
 use lists::Test;
+use lookups::Found;
 use search::Bracket;
 
 // Kind 5: the coupons are payment times and accruals.
@@ -142,10 +142,10 @@ fn model_priced(
     requires { ⌜ (length (now payments) ≤ 64) × (length (now accruals) ≡ length (now payments)) × (inOrder true (now times) ≡ true) ⌝ }
     ensures { λ r. ⌜ swaptionOutcome r ≡ modelPriced alpha (now (times .entry)) (now (factors .entry)) (now (payments .entry)) (now (accruals .entry)) strike t sigma ⌝ }
 {
-    let Found::At(p_t) = lists::factor(times, factors, t) else {
+    let Found::At(p_t) = lookups::factor(times, factors, t) else {
         return Swaption::Refused(Refusal::OffCurve);
     };
-    let Found::At(p_plus) = lists::factor(times, factors, t + formulas::day()) else {
+    let Found::At(p_plus) = lookups::factor(times, factors, t + formulas::day()) else {
         return Swaption::Refused(Refusal::OffCurve);
     };
     let n = payments.len();

@@ -7,9 +7,9 @@ use Rattle.ieee.specs.Rounded.{_⊕_}
 use Rattle.lists.specs.declared.refusals.Refusal.{Refusal}
 use Rattle.lists.specs.declared.refusals.Answer.the-variants as A
 use Rattle.lists.specs.Refusals.{Outcome, refused, Rule, firstOf, after, unless}
-use Rattle.lists.specs.Lookups.{factorAt}
+use Rattle.lookups.specs.Lookups.{factorAt}
 use Rattle.formulas.specs.HullWhite.{h}
-use Rattle.search.proofs.Callers.{early, allEarly, Late, past-rules, looking, past-lookups, through-lookups}
+use Rattle.terms.proofs.Callers.{early, allEarly, Late, past-rules, looking, past-lookups, through-lookups}
 use Rattle.terms.specs.Terms.{factorsAt}
 use Rattle.terms.specs.Begun.{Begun}
 use Rattle.terms.proofs.Fetched.{off-curve}

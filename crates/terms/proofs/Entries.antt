@@ -11,7 +11,7 @@ use lib.Ieee.{Float, nan}
 use Rattle.ieee.specs.Rounded.{_⊗_}
 use Rattle.search.specs.Sum.{weightsOf}
 use Rattle.lists.specs.Refusals.{Outcome, served, refused, prepend}
-use Rattle.lists.specs.Lookups.{Maybe, just, nothing, factorAt, needing}
+use Rattle.lookups.specs.Lookups.{Maybe, just, nothing, factorAt, needing}
 use Rattle.lists.proofs.Outcomes.{not-both, served-is}
 use Rattle.formulas.specs.HullWhite.{bOf, driftOf, aAt}
 use Rattle.terms.specs.Terms.{coefficientAt, coefficientsOf, bsOf, driftsOf, affinesOf, factorsAt}

@@ -7,7 +7,7 @@ use Rattle.lists.specs.declared.refusals.Refusal.the-variants as R
 use Rattle.lists.specs.declared.refusals.Answer.{Answer}
 use Rattle.lists.specs.declared.refusals.Answer.the-variants as A
 use Rattle.lists.specs.Refusals.{Outcome, served, refused, after, prepend}
-use Rattle.lists.specs.Lookups.{Maybe, just, nothing, factorAt, needing}
+use Rattle.lookups.specs.Lookups.{Maybe, just, nothing, factorAt, needing}
 use Rattle.lists.proofs.Outcomes.{not-both}
 use Rattle.terms.specs.Terms.{factorsAt}
 

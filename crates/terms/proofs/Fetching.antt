@@ -9,7 +9,7 @@ use lib.Seq.{take-suc-set, take-all}
 use lib.Ieee.{Float, nan}
 use Rattle.lists.specs.declared.refusals.Refusal.the-variants as R
 use Rattle.lists.specs.Refusals.{Outcome, served, refused, prepend}
-use Rattle.lists.specs.Lookups.{just, nothing, factorAt}
+use Rattle.lookups.specs.Lookups.{just, nothing, factorAt}
 use Rattle.lists.proofs.Walks.{next, done}
 use Rattle.terms.specs.Terms.{factorsAt}
 

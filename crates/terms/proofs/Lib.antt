@@ -3,4 +3,5 @@ pub mod Filling
 pub mod Entries
 pub mod Fetching
 pub mod Fetched
+pub mod Callers
 pub mod Begun

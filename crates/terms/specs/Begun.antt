@@ -5,7 +5,7 @@ use lib.Ieee.{Float}
 use Rattle.ieee.specs.Rounded.{_⊕_}
 use Rattle.lists.specs.declared.refusals.Answer.the-variants as A
 use Rattle.lists.specs.Refusals.{Rule, served, firstOf}
-use Rattle.lists.specs.Lookups.{just, factorAt}
+use Rattle.lookups.specs.Lookups.{just, factorAt}
 use Rattle.formulas.specs.HullWhite.{h}
 use Rattle.search.specs.Values.{Values}
 use Rattle.search.specs.Reached.{Unbracketed}

@@ -6,7 +6,7 @@ use Rattle.ieee.specs.Rounded.{_⊗_}
 use Rattle.ieee.specs.Numbers.{one}
 use Rattle.ieee.specs.Fused.{fusedOf}
 use Rattle.lists.specs.Refusals.{Outcome, served, prepend}
-use Rattle.lists.specs.Lookups.{factorAt, needing}
+use Rattle.lookups.specs.Lookups.{factorAt, needing}
 use Rattle.formulas.specs.HullWhite.{bOf, driftOf, aAt}
 
 -- accrual × K; the last coupon's is accrual × K + 1, fused

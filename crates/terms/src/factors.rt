@@ -6,8 +6,8 @@ ghost use Rattle.lists.specs.Checks.{inOrder};
 ghost use Rattle.lists.specs.Refusals.{served, after};
 ghost use Rattle.terms.specs.Terms.{factorsAt};
 use lists::Answer;
-use lists::Found;
 use lists::Refusal;
+use lookups::Found;
 
 // Fetches the factor at every payment time, or says why one is not there. Whoever prices a swaption has
 // asked rule 4: the curve's times strictly rise. Beside a refusal the list holds what was fetched before it.
@@ -17,7 +17,7 @@ pub fn fetch(times: &[f64], factors: &[f64], payments: &[f64], out: &mut [f64]) 
 {
     let mut i = 0;
     while i < payments.len() {
-        let Found::At(p) = lists::factor(times, factors, payments[i]) else {
+        let Found::At(p) = lookups::factor(times, factors, payments[i]) else {
             return Answer::Refused(Refusal::OffCurve);
         };
         out[i] = p;

@@ -1,5 +1,5 @@
 -- `calibration::fits::caplet_fitted` meets its contract: each factor is found or the call is refused by rule 8, and then the volatility is fitted. Assumes nothing.
-use Rattle.lists.proofs.Outcomes.{at, missing}
+use Rattle.lookups.proofs.Outcomes.{at, missing}
 use Rattle.calibration.specs.Fits.{capletFitted}
 use borrow.Author.Needs.{needs}
 use Rattle.calibration.proofs.fits.caplet_fitted.Statement.{statement}

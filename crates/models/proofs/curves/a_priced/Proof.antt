@@ -1,7 +1,7 @@
 -- `models::a_priced` meets its contract: each factor is found or the call is refused by rule 8, and then the formula is worked. Assumes nothing.
 use borrow.Author.Needs.{needs}
 use Rattle.models.specs.Curves.{aPriced}
-use Rattle.lists.proofs.Outcomes.{at, missing}
+use Rattle.lookups.proofs.Outcomes.{at, missing}
 use Rattle.models.proofs.curves.a_priced.Statement.{statement}
 use Rattle.models.proofs.curves.a_priced.Tie as tie
 

@@ -1,7 +1,7 @@
 -- `models::theta_from` meets its contract: the test of t against a day picks the third factor, which is found or refused by rule 8. Assumes nothing.
 use borrow.Author.Needs.{needs}
 use Rattle.models.specs.Curves.{thetaFrom}
-use Rattle.lists.proofs.Outcomes.{at, missing}
+use Rattle.lookups.proofs.Outcomes.{at, missing}
 use Rattle.models.proofs.curves.theta_from.Statement.{statement}
 use Rattle.models.proofs.curves.theta_from.Tie as tie
 

@@ -1,7 +1,7 @@
 -- `models::theta_priced` meets its contract: each factor is found or the call is refused by rule 8, and then the formula is worked. Assumes nothing.
 use borrow.Author.Needs.{needs}
 use Rattle.models.specs.Curves.{thetaPriced}
-use Rattle.lists.proofs.Outcomes.{at, missing}
+use Rattle.lookups.proofs.Outcomes.{at, missing}
 use Rattle.models.proofs.curves.theta_priced.Statement.{statement}
 use Rattle.models.proofs.curves.theta_priced.Tie as tie
 

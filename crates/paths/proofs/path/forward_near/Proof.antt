@@ -3,8 +3,8 @@ use mathlib.Core.Path.{sym, ap, _∙_}
 use denote.Ref.{now}
 use lib.Ieee.{Float}
 use Rattle.ieee.specs.Rounded.{_⊕_}
-use Rattle.lists.specs.Lookups.{just, factorAt}
-use Rattle.lists.proofs.Outcomes.{at, missing}
+use Rattle.lookups.specs.Lookups.{just, factorAt}
+use Rattle.lookups.proofs.Outcomes.{at, missing}
 use Rattle.paths.proofs.Walks.{no-first, no-second, both-found}
 use borrow.Author.Needs.{needs}
 use Rattle.paths.proofs.path.forward_near.Statement.{statement}

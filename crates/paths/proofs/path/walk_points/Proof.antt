@@ -8,7 +8,7 @@ use lib.ListN.{length, take, drop, length-set}
 use mir.Syntax.{w64}
 use mir.Val.{Fits}
 use Rattle.ieee.specs.Numbers.{zero}
-use Rattle.lists.proofs.Outcomes.{at, missing}
+use Rattle.lookups.proofs.Outcomes.{at, missing}
 use Rattle.paths.specs.Walk.{decaysFrom}
 use Rattle.paths.specs.Generate.{startState, pathFrom}
 use Rattle.paths.proofs.Walks.{prependAll, prepend-none, no-volatility, no-forward, path-turn, path-end, decays-length, decay-here, decays-left}

@@ -1,6 +1,6 @@
 -- `pricers::priced_by` meets its contract: refused by the search or by the Newton step, or the components at the stepped rate. Assumes nothing.
 use mathlib.Core.Path.{sym, ap, _∙_}
-use Rattle.search.proofs.Callers.{nothing-found}
+use Rattle.terms.proofs.Callers.{nothing-found}
 use Rattle.terms.proofs.Entries.{weights-length}
 use Rattle.closedform.specs.Newton.{stepOutcome}
 use Rattle.pricers.proofs.Parts.{within, sized, lent}

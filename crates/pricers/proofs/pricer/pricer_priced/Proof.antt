@@ -3,7 +3,7 @@ use mathlib.Core.Path.{sym, _∙_, subst}
 use mathlib.Core.List.{List}
 use Prim.Native.Nat.{ℕ, _≤_}
 use lib.Ieee.{Float}
-use Rattle.lists.proofs.Outcomes.{at, missing}
+use Rattle.lookups.proofs.Outcomes.{at, missing}
 use Rattle.terms.proofs.Entries.{coefficients-length, bs-length}
 use Rattle.terms.proofs.Fetched.{fetch-refused, fetch-all}
 use Rattle.closedform.proofs.Entries.{affines-length}

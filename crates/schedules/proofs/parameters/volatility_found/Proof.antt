@@ -1,7 +1,7 @@
 -- `schedules::volatility_found` meets its contract: the volatility that is found, or rule 7. Assumes nothing.
 use borrow.Author.Needs.{needs}
 use Rattle.schedules.specs.Parameters.{volatilityFound}
-use Rattle.lists.proofs.Outcomes.{at, missing}
+use Rattle.lookups.proofs.Outcomes.{at, missing}
 use Rattle.schedules.proofs.parameters.volatility_found.Statement.{statement}
 use Rattle.schedules.proofs.parameters.volatility_found.Tie as tie
 

@@ -2,7 +2,7 @@
 use mathlib.Core.Path.{sym}
 use mathlib.Core.List.{List}
 use lib.Ieee.{Float}
-use Rattle.lists.proofs.Outcomes.{at, missing}
+use Rattle.lookups.proofs.Outcomes.{at, missing}
 use Rattle.terms.proofs.Fetched.{fetch-refused, fetch-all}
 use Rattle.swaptions.specs.Model.{modelPriced}
 use Rattle.swaptions.proofs.Lending.{lent-is, back-fits, back-is, values-are}

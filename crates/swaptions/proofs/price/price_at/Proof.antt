@@ -3,7 +3,7 @@ use mathlib.Core.Path.{sym, _∙_}
 use mathlib.Core.List.{List}
 use lib.Ieee.{Float}
 use Rattle.search.specs.declared.Critical.{Critical}
-use Rattle.search.proofs.Callers.{nothing-found}
+use Rattle.terms.proofs.Callers.{nothing-found}
 use Rattle.swaptions.proofs.Lending.{lent-is, back-fits, back-is, values-are}
 use Rattle.swaptions.proofs.Outcomes.{price-is}
 use borrow.Author.Needs.{needs}

@@ -2,7 +2,7 @@
 use borrow.Author.Needs.{needs}
 use Prim.Native.Nat.{_-_}
 use lib.ListN.{length}
-use Rattle.lists.proofs.Outcomes.{at, missing}
+use Rattle.lookups.proofs.Outcomes.{at, missing}
 use Rattle.terms.proofs.Fetching.{Fetching, start, turn, stop, end}
 use Rattle.terms.proofs.factors.fetch.Statement.{statement}
 use Rattle.terms.proofs.factors.fetch.Tie as tie

@@ -1,11 +1,11 @@
 -- `factor_at` meets its contract: the scan passes over the times before the place, and where t does not stand there it stands nowhere.
 use mathlib.Core.Path.{sym, _∙_}
-use Rattle.lists.proofs.Laws.{unequal-missing}
-use Rattle.lists.proofs.Halves.{nowhere, skipped}
-use Rattle.lists.proofs.Walks.{factor-hit, factor-short, factor-end}
+use Rattle.lookups.proofs.Laws.{unequal-missing}
+use Rattle.lookups.proofs.Halves.{nowhere, skipped}
+use Rattle.lookups.proofs.Walks.{factor-hit, factor-short, factor-end}
 use borrow.Author.Needs.{needs}
-use Rattle.lists.proofs.lookups.factor_at.Statement.{statement}
-use Rattle.lists.proofs.lookups.factor_at.Tie as tie
+use Rattle.lookups.proofs.lookups.factor_at.Statement.{statement}
+use Rattle.lookups.proofs.lookups.factor_at.Tie as tie
 
 returns : tie.Need-returns
 returns c = sym (factor-end _ _ _ _ (c .if1 .taken)) ∙ skipped _ _ _ _ (c .before .pre .1 .1)

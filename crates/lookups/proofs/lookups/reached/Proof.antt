@@ -2,8 +2,8 @@
 use mathlib.Core.Path.{sym}
 use lib.Seq.{length-take-le}
 use borrow.Author.Needs.{needs}
-use Rattle.lists.proofs.lookups.reached.Statement.{statement}
-use Rattle.lists.proofs.lookups.reached.Tie as tie
+use Rattle.lookups.proofs.lookups.reached.Statement.{statement}
+use Rattle.lookups.proofs.lookups.reached.Tie as tie
 
 count-reached-requires : tie.Need-count-reached-requires
 count-reached-requires c κs = search needs

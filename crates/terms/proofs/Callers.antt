@@ -16,16 +16,16 @@ use Rattle.lists.specs.declared.refusals.Answer.{Answer}
 use Rattle.lists.specs.declared.refusals.Answer.the-variants as A
 use Rattle.lists.specs.Refusals.{Outcome, served, refused, numberOf, answerNumber, answerOf, Rule, firstOf, after, unless, following}
 use Rattle.lists.specs.Order.{First, first-applies}
-use Rattle.lists.specs.Lookups.{Maybe, just, nothing, needing}
+use Rattle.lookups.specs.Lookups.{Maybe, just, nothing, needing}
 use Rattle.lists.proofs.Outcomes.{not-both, served-is}
 use Rattle.search.specs.declared.Critical.{Critical}
 use Rattle.search.specs.Rate.{criticalOf}
 use Rattle.search.specs.Values.{Values, criticalOutcome}
 use Rattle.search.specs.Reached.{Unbracketed}
 use Rattle.search.specs.Facts.{Located}
 use Rattle.search.proofs.Critical as made
 use Rattle.search.proofs.Demand3.{accepted}
 use Rattle.search.proofs.Reaching.{exactly}
 
 -- ---- the refusals of rules 1 to 8, and the outcomes beyond them
 abbrev pub early : Refusal → Bool

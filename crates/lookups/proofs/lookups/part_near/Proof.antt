@@ -1,7 +1,7 @@
 -- `part_near` meets its contract: both sides of the hint are asked, and else the list is searched.
 use borrow.Author.Needs.{needs}
-use Rattle.lists.proofs.lookups.part_near.Statement.{statement}
-use Rattle.lists.proofs.lookups.part_near.Tie as tie
+use Rattle.lookups.proofs.lookups.part_near.Statement.{statement}
+use Rattle.lookups.proofs.lookups.part_near.Tie as tie
 
 reaches-requires : tie.Need-reaches-requires
 reaches-requires c κs = search needs

@@ -2,10 +2,10 @@
 use mathlib.Core.Path.{sym, _∙_}
 use denote.Ref.{now}
 use borrow.Author.Tests.{not-true}
-use Rattle.lists.proofs.Halves.{back-none, back}
+use Rattle.lookups.proofs.Halves.{back-none, back}
 use borrow.Author.Needs.{needs}
-use Rattle.lists.proofs.lookups.stops.Statement.{statement}
-use Rattle.lists.proofs.lookups.stops.Tie as tie
+use Rattle.lookups.proofs.lookups.stops.Statement.{statement}
+use Rattle.lookups.proofs.lookups.stops.Tie as tie
 
 returns : tie.Need-returns
 returns c =

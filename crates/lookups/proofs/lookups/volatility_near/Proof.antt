@@ -1,10 +1,10 @@
 -- `volatility_near` meets its contract: the sigma of the last pillar that is reached, or the first, and nothing where there is no pillar.
 use mathlib.Core.Path.{sym}
-use Rattle.lists.proofs.Walks.{volatility-none}
-use Rattle.lists.proofs.Halves.{volatility-parted}
+use Rattle.lookups.proofs.Walks.{volatility-none}
+use Rattle.lookups.proofs.Halves.{volatility-parted}
 use borrow.Author.Needs.{needs}
-use Rattle.lists.proofs.lookups.volatility_near.Statement.{statement}
-use Rattle.lists.proofs.lookups.volatility_near.Tie as tie
+use Rattle.lookups.proofs.lookups.volatility_near.Statement.{statement}
+use Rattle.lookups.proofs.lookups.volatility_near.Tie as tie
 
 part-near-requires : tie.Need-part-near-requires
 part-near-requires c κs = search needs

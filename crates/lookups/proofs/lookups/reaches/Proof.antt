@@ -1,10 +1,10 @@
 -- `reaches` meets its contract: in rising times the last of n is the greatest.
 use mathlib.Core.Path.{sym, _∙_}
 use denote.Ref.{now}
-use Rattle.lists.proofs.Halves.{front-none, front-last}
+use Rattle.lookups.proofs.Halves.{front-none, front-last}
 use borrow.Author.Needs.{needs}
-use Rattle.lists.proofs.lookups.reaches.Statement.{statement}
-use Rattle.lists.proofs.lookups.reaches.Tie as tie
+use Rattle.lookups.proofs.lookups.reaches.Statement.{statement}
+use Rattle.lookups.proofs.lookups.reaches.Tie as tie
 
 returns : tie.Need-returns
 returns c =

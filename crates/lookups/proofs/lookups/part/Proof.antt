@@ -4,10 +4,10 @@ use mathlib.Core.Path.{sym, _∙_}
 use Prim.Native.Nat.{_≤_, _+_, _-_, _/_}
 use denote.Ref.{now}
 use lib.ListN.{length}
-use Rattle.lists.specs.Lookups.{Front, Back}
-use Rattle.lists.proofs.Halves.{front-none, back-none, front, back}
-use Rattle.lists.proofs.lookups.part.Statement.{statement}
-use Rattle.lists.proofs.lookups.part.Tie as tie
+use Rattle.lookups.specs.Lookups.{Front, Back}
+use Rattle.lookups.proofs.Halves.{front-none, back-none, front, back}
+use Rattle.lookups.proofs.lookups.part.Statement.{statement}
+use Rattle.lookups.proofs.lookups.part.Tie as tie
 
 abbrev Inv-loop : tie.InvT-loop
 Inv-loop times t strictly low₀ high₀ low high = (low ≤ high) × (high ≤ length times) × Front strictly times t low × Back strictly times t high

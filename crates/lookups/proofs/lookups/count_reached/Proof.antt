@@ -4,10 +4,10 @@ use mathlib.Core.Path.{_≡_, sym, _∙_}
 use mathlib.Core.List.{_++_}
 use Prim.Native.Nat.{_≤_, _-_}
 use lib.ListN.{length, drop, take}
-use Rattle.lists.specs.Lookups.{upTo}
-use Rattle.lists.proofs.Walks.{front-turn, front-stop, front-end}
-use Rattle.lists.proofs.lookups.count_reached.Statement.{statement}
-use Rattle.lists.proofs.lookups.count_reached.Tie as tie
+use Rattle.lookups.specs.Lookups.{upTo}
+use Rattle.lookups.proofs.Walks.{front-turn, front-stop, front-end}
+use Rattle.lookups.proofs.lookups.count_reached.Statement.{statement}
+use Rattle.lookups.proofs.lookups.count_reached.Tie as tie
 
 abbrev Inv-loop : tie.InvT-loop
 Inv-loop times t n₀ n = (n ≤ length times) × (take n times ++ upTo t (drop n times) ≡ upTo t times)

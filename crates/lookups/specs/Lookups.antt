@@ -5,12 +5,12 @@ use mathlib.Core.List.{List, [], _∷_}
 use Prim.Native.Nat.{ℕ, _≤_, _<_}
 use lib.ListN.{length, getD}
 use lib.Ieee.{Float, nan, eq, le}
-use Rattle.lists.specs.declared.lookups.Found.{Found}
-use Rattle.lists.specs.declared.lookups.Found.the-variants as F
+use Rattle.lookups.specs.declared.lookups.Found.{Found}
+use Rattle.lookups.specs.declared.lookups.Found.the-variants as F
 use Rattle.lists.specs.declared.refusals.Refusal.{Refusal}
 use Rattle.lists.specs.declared.refusals.Refusal.the-variants as R
 use Rattle.lists.specs.Checks.{stepOf}
 use Rattle.lists.specs.Refusals.{Outcome, refused}
 
 -- ---- where a rising list parts in two at t
 

@@ -7,10 +7,10 @@ use denote.Ref.{now}
 use Prim.Native.Nat.{_≤_, _-_, _+_}
 use lib.ListN.{length, drop, getD}
 use lib.Ieee.{Float, nan, le}
-use Rattle.lists.specs.Lookups.{just, lastAt}
-use Rattle.lists.proofs.Walks.{last-turn, last-short, last-end, volatility-first, volatility-none, volatility-short}
-use Rattle.lists.proofs.lookups.volatility.Statement.{statement}
-use Rattle.lists.proofs.lookups.volatility.Tie as tie
+use Rattle.lookups.specs.Lookups.{just, lastAt}
+use Rattle.lookups.proofs.Walks.{last-turn, last-short, last-end, volatility-first, volatility-none, volatility-short}
+use Rattle.lookups.proofs.lookups.volatility.Statement.{statement}
+use Rattle.lookups.proofs.lookups.volatility.Tie as tie
 
 abbrev Inv-loop : tie.InvT-loop
 Inv-loop times sigmas t best₀ i₀ best i = (i ≤ length times) × (lastAt best (drop i times) (drop i sigmas) t ≡ lastAt (getD sigmas 0 nan) times sigmas t)

@@ -9,11 +9,11 @@ use native.Mathlib.Nat.{not-suc-le-zero, le-of-suc-le-suc, zero-lt-suc, eq-or-lt
 use lib.Dec.{T}
 use lib.ListN.{length, getD, drop}
 use lib.Ieee.{Float, nan, lt, le, eq}
 use Rattle.lists.specs.Checks.{stepOf, inOrderFrom, inOrder}
-use Rattle.lists.specs.Lookups.{Front, Back, PartsAt, just, nothing, factorAt, lastAt, volatilityAt}
-use Rattle.lists.proofs.Laws.{Unequal}
-use Rattle.lists.proofs.Walks.{volatility-first}
+use Rattle.lookups.specs.Lookups.{Front, Back, PartsAt, just, nothing, factorAt, lastAt, volatilityAt}
+use Rattle.lookups.proofs.Laws.{Unequal}
+use Rattle.lookups.proofs.Walks.{volatility-first}
 use Rattle.lists.proofs.Order.{both, holds, held, refuted, lt-le, le-of-lt, le-of-eq, lt-unequal}
 
 -- ---- in a strictly rising list the earlier number is below the later one
 from-before : (before : Float) (xs : List Float) (k : ℕ) → inOrderFrom true before xs ≡ true → k < length xs → T (lt before (getD xs k nan))

@@ -1,24 +1,21 @@
--- What callers may use of the lookups: a factor or a volatility that is found passes every test that its list passes, no factor is found exactly where no time equals t, and what a curve without faults shows.
+-- What callers may use of the lookups: a factor or a volatility that is found passes every test that its list passes, and no factor is found exactly where no time equals t.
 use mathlib.Core.Path.{_≡_, refl}
 use mathlib.Core.Logic.{_⊎_, inl, inr, ⊎-elim}
-use mathlib.Core.Bool.{Bool, true, false, not, _&&_, _||_, cond}
+use mathlib.Core.Bool.{Bool, true, false, cond}
 use mathlib.Core.List.{List, [], _∷_}
 use Prim.Native.Nat.{ℕ, zero, suc, _≤_, _<_, suc-le-suc}
 use native.Mathlib.Omega.{arith}
 use native.Mathlib.Nat.{not-suc-le-zero, le-of-suc-le-suc, zero-lt-suc}
-use borrow.Author.Tests.{ltb-false, eqb-true, not-false}
-use lib.Dec.{T, ltb, eqb}
+use lib.Dec.{T}
 use lib.ListN.{length, getD}
 use lib.Ieee.{Float, nan, lt, le, eq}
 use lib.Ieee.Scale.{finite}
 use Rattle.ieee.specs.Numbers as Numbers
 use Rattle.lists.specs.declared.checks.Test.{Test}
 use Rattle.lists.specs.declared.checks.Test.the-variants.{Finite, Above}
-use Rattle.lists.specs.Checks.{passesOf, allOf, inOrder}
-use Rattle.lists.specs.Lookups.{Maybe, just, nothing, factorAt, lastAt, volatilityAt}
-use Rattle.lists.specs.Faults.{curveFaults}
+use Rattle.lists.specs.Checks.{passesOf, allOf}
+use Rattle.lookups.specs.Lookups.{Maybe, just, nothing, factorAt, lastAt, volatilityAt}
 use Rattle.lists.proofs.Order.{both, holds}
-use Rattle.lists.proofs.Outcomes.{neither}
 
 -- ---- taking answers apart
 none-found : {p : Float} → nothing ≡ just p → ⊥
@@ -89,23 +86,3 @@ missing-unequal (x ∷ ts) [] t l h k b = absurd (let z : ⊥ = omega arith in z
 missing-unequal (x ∷ ts) (f ∷ fs) t l h zero b = not-here (eq x t) f (factorAt ts fs t) h .0
 missing-unequal (x ∷ ts) (f ∷ fs) t l h (suc k) b =
     missing-unequal ts fs t (omega arith) (not-here (eq x t) f (factorAt ts fs t) h .1) k (le-of-suc-le-suc b)
-
--- ---- what a curve shows that breaks none of rules 1, 2, 4, 6
-module _ (ts fs : List Float) where
-  -- rule 1: its lists are within the limit, and of equal length
-  pub curve-paired : curveFaults ts fs .size ≡ false → (length ts ≤ 2048) × (length ts ≡ length fs)
-  curve-paired h =
-      let r = neither (ltb 2048 (length ts)) (not (eqb (length ts) (length fs))) h in
-      (ltb-false 2048 (length ts) (r .0), eqb-true (length ts) (length fs) (not-false (eqb (length ts) (length fs)) (r .1)))
-
-  -- rule 2: its times and its factors are finite
-  pub curve-finite : curveFaults ts fs .«not_finite» ≡ false → (allOf Finite ts ≡ true) × (allOf Finite fs ≡ true)
-  curve-finite h = both (allOf Finite ts) (allOf Finite fs) (not-false (allOf Finite ts && allOf Finite fs) h)
-
-  -- rule 4: its times strictly rise, which `factor` requires
-  pub curve-rises : curveFaults ts fs .order ≡ false → inOrder true ts ≡ true
-  curve-rises h = not-false (inOrder true ts) h
-
-  -- rule 6: its factors are above 0
-  pub curve-above : curveFaults ts fs .domain ≡ false → allOf (Above Numbers.zero) fs ≡ true
-  curve-above h = not-false (allOf (Above Numbers.zero) fs) h

@@ -3,9 +3,8 @@ ghost use mathlib.Core.Path.{_≡_};
 ghost use mathlib.Core.Bool.{true};
 ghost use Prim.Native.Nat.{_≤_, _-_};
 ghost use lib.ListN.{length, take};
 ghost use Rattle.lists.specs.Checks.{inOrder};
-ghost use Rattle.lists.specs.Lookups.{Front, Back, PartsAt, foundOf, factorAt, volatilityAt, upTo};
-use super::checks;
+ghost use Rattle.lookups.specs.Lookups.{Front, Back, PartsAt, foundOf, factorAt, volatilityAt, upTo};
 
 pub enum Found {
     At(f64),
@@ -69,7 +68,7 @@ fn part(times: &[f64], t: f64, strictly: bool) -> usize
     let mut high = times.len();
     while low < high {
         let middle = low + (high - low) / 2;
-        if checks::follows(strictly, times[middle], t) {
+        if lists::follows(strictly, times[middle], t) {
             low = middle + 1;
         } else {
             high = middle;
@@ -102,7 +101,7 @@ fn reaches(times: &[f64], n: usize, t: f64, strictly: bool) -> bool
     if times.len() < n {
         return false;
     }
-    checks::follows(strictly, times[n - 1], t)
+    lists::follows(strictly, times[n - 1], t)
 }
 
 // Whether none from place n on is: the first of them shows it.
@@ -113,7 +112,7 @@ fn stops(times: &[f64], n: usize, t: f64, strictly: bool) -> bool
     if times.len() <= n {
         return true;
     }
-    !checks::follows(strictly, times[n], t)
+    !lists::follows(strictly, times[n], t)
 }
 
 // The volatility of the last pillar at or before t, else of the first.

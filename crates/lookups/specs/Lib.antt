@@ -1,0 +1,2 @@
+-- What the contracts of the lookups say.
+pub mod Lookups
