@@ -5,8 +5,8 @@ use mathlib.Core.List.{List, []}
 use lib.Dec.{eqb}
 use lib.Ieee.{Float}
 use Rattle.lists.specs.Refusals.{Outcome, valueOr}
-use Rattle.models.specs.declared.options.BondOption.the-variants.{Put, Call}
-use Rattle.models.specs.Options.{bondOptionOutcome, optionletOutcome}
+use Rattle.options.specs.declared.options.BondOption.the-variants.{Put, Call}
+use Rattle.options.specs.Options.{bondOptionOutcome, optionletOutcome}
 use Rattle.models.specs.Curves.{bOutcome, volatilityOutcome, shortRateVarianceOutcome, aOutcome, zcbOutcome, thetaOutcome, forwardOutcome}
 use Rattle.quotes.specs.Utils.{Two, d1d2Outcome, blackCallOutcome, blackPutOutcome, bachelierCallOutcome, annuityOutcome}
 use Rattle.schedules.specs.Parameters as Schedules

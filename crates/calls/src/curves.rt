@@ -58,7 +58,7 @@ pub fn forward_rate(r: Record, s: &[f64]) -> Price
 pub fn bond_put_price(r: Record, s: &[f64]) -> Price
     ensures { λ p. ⌜ outcomeOf p ≡ bondPutCall r (now (s .entry)) ⌝ }
 {
-    models::bond_put_price(
+    options::bond_put_price(
         layout::float_of(r.a),
         store::part(s, r.times),
         store::part(s, r.factors),
@@ -72,7 +72,7 @@ pub fn bond_put_price(r: Record, s: &[f64]) -> Price
 pub fn bond_call_price(r: Record, s: &[f64]) -> Price
     ensures { λ p. ⌜ outcomeOf p ≡ bondCallCall r (now (s .entry)) ⌝ }
 {
-    models::bond_call_price(
+    options::bond_call_price(
         layout::float_of(r.a),
         store::part(s, r.times),
         store::part(s, r.factors),
@@ -86,7 +86,7 @@ pub fn bond_call_price(r: Record, s: &[f64]) -> Price
 pub fn caplet_price(r: Record, s: &[f64]) -> Price
     ensures { λ p. ⌜ outcomeOf p ≡ capletCall r (now (s .entry)) ⌝ }
 {
-    models::caplet_price(
+    options::caplet_price(
         layout::float_of(r.a),
         store::part(s, r.times),
         store::part(s, r.factors),
@@ -100,7 +100,7 @@ pub fn caplet_price(r: Record, s: &[f64]) -> Price
 pub fn floorlet_price(r: Record, s: &[f64]) -> Price
     ensures { λ p. ⌜ outcomeOf p ≡ floorletCall r (now (s .entry)) ⌝ }
 {
-    models::floorlet_price(
+    options::floorlet_price(
         layout::float_of(r.a),
         store::part(s, r.times),
         store::part(s, r.factors),

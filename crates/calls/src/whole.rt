@@ -6,9 +6,9 @@ pub fn write() {
     let times = [1.0, 2.0];
     let factors = [1.0, 1.0];
     io::write_all(1, b"whole case: bond put ");
-    write_price(models::bond_put_price(0.5, &times, &factors, 1.0, 2.0, 0.5, 0.0));
+    write_price(options::bond_put_price(0.5, &times, &factors, 1.0, 2.0, 0.5, 0.0));
     io::write_all(1, b", bond call ");
-    write_price(models::bond_call_price(0.5, &times, &factors, 1.0, 2.0, 0.5, 0.0));
+    write_price(options::bond_call_price(0.5, &times, &factors, 1.0, 2.0, 0.5, 0.0));
     io::write_all(1, b"\n");
 }
 

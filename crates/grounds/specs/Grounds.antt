@@ -21,9 +21,9 @@ use Rattle.lists.specs.declared.checks.Test.the-variants.{Finite}
 use Rattle.formulas.specs.HullWhite.{h, bOf, forwardOf, aOf, zcbOf, volatilityOf, slopeOf, thetaOf, shortRateVarianceOf, optionletStrikeOf, optionletOf}
 use Rattle.quotes.specs.Formulas.{d1Of, d2Of, blackCallOf, blackPutOf, bachelierCallOf, annuityStep}
 use Rattle.schedules.specs.Variance.{varianceOf}
-use Rattle.models.specs.declared.options.BondOption.{BondOption}
+use Rattle.options.specs.declared.options.BondOption.{BondOption}
 use Rattle.quotes.specs.Utils.{d1d2Worked, d1d2Outcome, blackCallOutcome, blackPutOutcome, bachelierCallOutcome, annuityFrom, annuityPriced, annuityOutcome}
-use Rattle.models.specs.Options.{bondOptionOf, bondOptionPriced, bondOptionOutcome, optionletPriced, optionletOutcome}
+use Rattle.options.specs.Options.{bondOptionOf, bondOptionPriced, bondOptionOutcome, optionletPriced, optionletOutcome}
 use Rattle.models.specs.Curves as Curves
 use Rattle.schedules.specs.Parameters as Schedules
 use Rattle.paths.specs.declared.path.State.{State}

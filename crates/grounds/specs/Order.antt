@@ -16,7 +16,8 @@ use Rattle.lists.specs.Refusals.{Outcome, refused, numberOf, answerNumber, answ
 use Rattle.lists.specs.Order.{First, NoneApplies, first-applies, none-applies}
 use Rattle.quotes.specs.Rules.{quoteRules, annuityRules}
 use Rattle.schedules.specs.Rules.{varianceRules, volatilityRules}
-use Rattle.models.specs.Rules.{optionRules, thetaRules, forwardRules}
+use Rattle.options.specs.Rules.{optionRules}
+use Rattle.models.specs.Rules.{thetaRules, forwardRules}
 use Rattle.paths.specs.Generate.{pathRules}
 use Rattle.paths.specs.Transition.{transitionRules}
 use Rattle.swaptions.specs.Model.{modelRules}

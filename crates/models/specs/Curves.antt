@@ -9,7 +9,8 @@ use Rattle.lists.specs.Refusals.{Outcome, unless, finishing}
 use Rattle.lookups.specs.Lookups.{factorAt, needing}
 use Rattle.lists.specs.Faults.{curveFaults}
 use Rattle.formulas.specs.HullWhite.{h, bOf, forwardOf, aOf, zcbOf, volatilityOf, slopeOf, thetaOf, shortRateVarianceOf}
-use Rattle.models.specs.Rules.{noFaults, optionRules, forwardRules, thetaRules}
+use Rattle.models.specs.Rules.{noFaults, forwardRules, thetaRules}
+use Rattle.options.specs.Rules.{optionRules}
 
 unfoldable pub bOutcome : Float → Float → Float → Outcome Float
 bOutcome alpha t T = unless (optionRules noFaults alpha t T zero zero) (finishing (bOf alpha t T))

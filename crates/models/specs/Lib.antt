@@ -1,4 +1,3 @@
--- What the contracts of the model's calls say: the rules on the inputs of each sort of call, and the outcome of each call.
+-- What the contracts of the model's other calls say: the rules on the inputs of each sort of call, and the outcome of each call.
 pub mod Rules
-pub mod Options
 pub mod Curves

@@ -12,17 +12,6 @@ use Rattle.lists.specs.Refusals.{Rule, rule}
 abbrev pub noFaults : Faults
 noFaults = record { size = false; «not_finite» = false; order = false; domain = false }
 
--- Kinds 1 to 4, and B, A, zcb_price, zcb_price_volatility, short_rate_variance: an option time t and a bond or end time T. `other` is a further number that the call uses, 0 where there is none.
-abbrev pub optionRules : Faults → Float → Float → Float → Float → Float → List Rule
-optionRules curve alpha t T sigma other =
-    rule R.Size (curve .size)
-    ∷ rule R.NotFinite (curve .«not_finite» || not (finite alpha && finite t && finite T && finite sigma && finite other))
-    ∷ rule R.MeanReversion (le alpha zero)
-    ∷ rule R.Order (curve .order)
-    ∷ rule R.Times (lt t zero || le T t)
-    ∷ rule R.Domain (lt sigma zero || curve .domain)
-    ∷ []
-
 -- theta: an option time alone
 abbrev pub thetaRules : Faults → Float → Float → Float → List Rule
 thetaRules curve alpha t sigma =

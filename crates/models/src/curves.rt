@@ -14,7 +14,7 @@ use lookups::Found;
 pub fn B(alpha: f64, t: f64, bond: f64) -> Price
     ensures { λ r. ⌜ Priced r (bOutcome alpha t bond) ⌝ }
 {
-    let answer = rules::option_rules(rules::no_faults(), alpha, t, bond, 0.0, 0.0);
+    let answer = options::option_rules(rules::no_faults(), alpha, t, bond, 0.0, 0.0);
     match answer {
         Answer::Refused(refusal) => Price::Refused(refusal),
         Answer::Served => lists::served(formulas::b_of(alpha, t, bond)),
@@ -24,7 +24,7 @@ pub fn B(alpha: f64, t: f64, bond: f64) -> Price
 pub fn zcb_price_volatility(alpha: f64, sigma: f64, t: f64, bond: f64) -> Price
     ensures { λ r. ⌜ Priced r (volatilityOutcome alpha sigma t bond) ⌝ }
 {
-    let answer = rules::option_rules(rules::no_faults(), alpha, t, bond, sigma, 0.0);
+    let answer = options::option_rules(rules::no_faults(), alpha, t, bond, sigma, 0.0);
     match answer {
         Answer::Refused(refusal) => Price::Refused(refusal),
         Answer::Served => lists::served(formulas::volatility_of(alpha, sigma, t, bond)),
@@ -34,7 +34,7 @@ pub fn zcb_price_volatility(alpha: f64, sigma: f64, t: f64, bond: f64) -> Price
 pub fn short_rate_variance(alpha: f64, t: f64, bond: f64, sigma: f64) -> Price
     ensures { λ r. ⌜ Priced r (shortRateVarianceOutcome alpha t bond sigma) ⌝ }
 {
-    let answer = rules::option_rules(rules::no_faults(), alpha, t, bond, sigma, 0.0);
+    let answer = options::option_rules(rules::no_faults(), alpha, t, bond, sigma, 0.0);
     match answer {
         Answer::Refused(refusal) => Price::Refused(refusal),
         Answer::Served => lists::served(formulas::short_rate_variance_of(alpha, t, bond, sigma)),
@@ -45,7 +45,7 @@ pub fn A(alpha: f64, times: &[f64], factors: &[f64], t: f64, bond: f64, sigma: f
     ensures { λ r. ⌜ Priced r (aOutcome alpha (now (times .entry)) (now (factors .entry)) t bond sigma) ⌝ }
 {
     let curve = lists::curve_faults(times, factors);
-    let answer = rules::option_rules(curve, alpha, t, bond, sigma, 0.0);
+    let answer = options::option_rules(curve, alpha, t, bond, sigma, 0.0);
     match answer {
         Answer::Refused(refusal) => Price::Refused(refusal),
         Answer::Served => a_priced(alpha, times, factors, t, bond, sigma),
@@ -82,7 +82,7 @@ pub fn zcb_price(
     ensures { λ r. ⌜ Priced r (zcbOutcome alpha (now (times .entry)) (now (factors .entry)) rate t bond sigma) ⌝ }
 {
     let curve = lists::curve_faults(times, factors);
-    let answer = rules::option_rules(curve, alpha, t, bond, sigma, rate);
+    let answer = options::option_rules(curve, alpha, t, bond, sigma, rate);
     match answer {
         Answer::Refused(refusal) => Price::Refused(refusal),
         Answer::Served => zcb_priced(alpha, times, factors, rate, t, bond, sigma),

@@ -1,7 +1,7 @@
-// Rules 1 to 7 for each sort of call: whether each applies, in document 01's order.
+// Rules 1 to 7 for theta and the forward rate: whether each applies, in document 01's order.
 ghost use mathlib.Core.Path.{_≡_};
 ghost use Rattle.lists.specs.Refusals.{firstOf};
-ghost use Rattle.models.specs.Rules.{noFaults, optionRules, thetaRules, forwardRules};
+ghost use Rattle.models.specs.Rules.{noFaults, thetaRules, forwardRules};
 use lists::Answer;
 use lists::Faults;
 use lists::Refusal;
@@ -16,24 +16,6 @@ pub fn no_faults() -> Faults
         order: false,
         domain: false,
     }
-}
-
-// Calls with an option time t and a bond or end time; `other` is a further number that the call uses, 0
-// where there is none.
-pub fn option_rules(curve: Faults, alpha: f64, t: f64, end: f64, sigma: f64, other: f64) -> Answer
-    ensures { λ r. ⌜ r ≡ firstOf (optionRules curve alpha t end sigma other) ⌝ }
-{
-    let finite = elementary::is_finite(alpha)
-        & elementary::is_finite(t)
-        & elementary::is_finite(end)
-        & elementary::is_finite(sigma)
-        & elementary::is_finite(other);
-    let mut answer = lists::and_rule(Answer::Served, Refusal::Size, curve.size);
-    answer = lists::and_rule(answer, Refusal::NotFinite, curve.not_finite | !finite);
-    answer = lists::and_rule(answer, Refusal::MeanReversion, alpha <= 0.0);
-    answer = lists::and_rule(answer, Refusal::Order, curve.order);
-    answer = lists::and_rule(answer, Refusal::Times, (t < 0.0) | (end <= t));
-    lists::and_rule(answer, Refusal::Domain, (sigma < 0.0) | curve.domain)
 }
 
 pub fn theta_rules(curve: Faults, alpha: f64, t: f64, sigma: f64) -> Answer

@@ -6,8 +6,8 @@ use lib.Dec.{eqb}
 use lib.Ieee.{Float}
 use Rattle.ieee.specs.Numbers.{zero}
 use Rattle.lists.specs.Refusals.{Outcome, served, refused, numberOf, answerOf, answerNumber, valueOr, following}
-use Rattle.models.specs.declared.options.BondOption.the-variants.{Put, Call}
-use Rattle.models.specs.Options.{optionletOutcome, bondOptionOutcome}
+use Rattle.options.specs.declared.options.BondOption.the-variants.{Put, Call}
+use Rattle.options.specs.Options.{optionletOutcome, bondOptionOutcome}
 use Rattle.swaptions.specs.Price as Model
 use Rattle.swaptions.specs.Model.{modelOutcome}
 use Rattle.closedform.specs.declared.bond_option.SwaptionType.the-variants.{Payer, Receiver}

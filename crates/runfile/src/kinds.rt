@@ -9,7 +9,7 @@ use super::told::Told;
 use calibration::Quote;
 use layout::Job;
 use lists::Faults;
-use models::BondOption;
+use options::BondOption;
 use pricers::SwaptionType;
 
 // Kinds 1 to 4: caplet, floorlet, bond put, bond call.
@@ -29,7 +29,7 @@ fn option_told(
     ensures { λ r. ⌜ r ≡ optionTold (listsOf alpha (now (pillars .entry)) (now (sigmas .entry)) (now (times .entry)) (now (factors .entry)) (now (payments .entry)) (now (accruals .entry)) (now (owns .entry)) [] [] []) j ⌝ }
 {
     if j.kind == 1 {
-        return told::price(models::optionlet_on(
+        return told::price(options::optionlet_on(
             BondOption::Put,
             curve,
             alpha,
@@ -42,7 +42,7 @@ fn option_told(
         ));
     }
     if j.kind == 2 {
-        return told::price(models::optionlet_on(
+        return told::price(options::optionlet_on(
             BondOption::Call,
             curve,
             alpha,
@@ -55,7 +55,7 @@ fn option_told(
         ));
     }
     if j.kind == 3 {
-        return told::price(models::bond_option_on(
+        return told::price(options::bond_option_on(
             BondOption::Put,
             curve,
             alpha,
@@ -67,7 +67,7 @@ fn option_told(
             j.d,
         ));
     }
-    told::price(models::bond_option_on(
+    told::price(options::bond_option_on(
         BondOption::Call,
         curve,
         alpha,

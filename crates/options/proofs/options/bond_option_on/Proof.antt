@@ -1,10 +1,10 @@
--- `models::bond_option_on` meets its contract: turned down by its rules, or what `bond_option_priced` finds. Assumes nothing.
+-- `options::bond_option_on` meets its contract: turned down by its rules, or what `bond_option_priced` finds. Assumes nothing.
 use borrow.Author.Needs.{needs}
-use Rattle.models.specs.Options.{bondOptionOutcome}
+use Rattle.options.specs.Options.{bondOptionOutcome}
 use Rattle.lists.proofs.Outcomes.{priced-refused, priced-served}
 use Rattle.lists.proofs.Refusing.{rises}
-use Rattle.models.proofs.options.bond_option_on.Statement.{statement}
-use Rattle.models.proofs.options.bond_option_on.Tie as tie
+use Rattle.options.proofs.options.bond_option_on.Statement.{statement}
+use Rattle.options.proofs.options.bond_option_on.Tie as tie
 
 option-rules-requires : tie.Need-option-rules-requires
 option-rules-requires c κs = search needs

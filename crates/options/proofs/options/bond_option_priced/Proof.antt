@@ -1,9 +1,9 @@
--- `models::bond_option_priced` meets its contract: each factor is found or the call is refused by rule 8, and then the formula is worked. Assumes nothing.
+-- `options::bond_option_priced` meets its contract: each factor is found or the call is refused by rule 8, and then the formula is worked. Assumes nothing.
 use borrow.Author.Needs.{needs}
-use Rattle.models.specs.Options.{bondOptionPriced}
+use Rattle.options.specs.Options.{bondOptionPriced}
 use Rattle.lookups.proofs.Outcomes.{at, missing}
-use Rattle.models.proofs.options.bond_option_priced.Statement.{statement}
-use Rattle.models.proofs.options.bond_option_priced.Tie as tie
+use Rattle.options.proofs.options.bond_option_priced.Statement.{statement}
+use Rattle.options.proofs.options.bond_option_priced.Tie as tie
 
 factor-requires : tie.Need-factor-requires
 factor-requires c κs = search needs

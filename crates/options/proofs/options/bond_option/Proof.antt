@@ -1,7 +1,7 @@
--- `models::bond_option` meets its contract: a put or a call, as asked. Assumes nothing.
+-- `options::bond_option` meets its contract: a put or a call, as asked. Assumes nothing.
 use borrow.Author.Needs.{needs}
-use Rattle.models.proofs.options.bond_option.Statement.{statement}
-use Rattle.models.proofs.options.bond_option.Tie as tie
+use Rattle.options.proofs.options.bond_option.Statement.{statement}
+use Rattle.options.proofs.options.bond_option.Tie as tie
 
 enum-told : tie.Need-enum-told
 enum-told c = search needs

@@ -1,10 +1,10 @@
--- `models::optionlet_on` meets its contract: turned down by its rules, or what `optionlet_priced` finds. Assumes nothing.
+-- `options::optionlet_on` meets its contract: turned down by its rules, or what `optionlet_priced` finds. Assumes nothing.
 use borrow.Author.Needs.{needs}
-use Rattle.models.specs.Options.{optionletOutcome}
+use Rattle.options.specs.Options.{optionletOutcome}
 use Rattle.lists.proofs.Outcomes.{priced-refused, priced-served}
 use Rattle.lists.proofs.Refusing.{rises}
-use Rattle.models.proofs.options.optionlet_on.Statement.{statement}
-use Rattle.models.proofs.options.optionlet_on.Tie as tie
+use Rattle.options.proofs.options.optionlet_on.Statement.{statement}
+use Rattle.options.proofs.options.optionlet_on.Tie as tie
 
 option-rules-requires : tie.Need-option-rules-requires
 option-rules-requires c κs = search needs

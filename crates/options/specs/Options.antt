@@ -5,9 +5,9 @@ use Rattle.lists.specs.Refusals.{Outcome, unless, finishing}
 use Rattle.lookups.specs.Lookups.{factorAt, needing}
 use Rattle.lists.specs.Faults.{curveFaults}
 use Rattle.formulas.specs.HullWhite.{volatilityOf, bondPutOf, bondCallOf, optionletStrikeOf, optionletOf}
-use Rattle.models.specs.declared.options.BondOption.{BondOption}
-use Rattle.models.specs.declared.options.BondOption.the-variants.{Put, Call}
-use Rattle.models.specs.Rules.{optionRules}
+use Rattle.options.specs.declared.options.BondOption.{BondOption}
+use Rattle.options.specs.declared.options.BondOption.the-variants.{Put, Call}
+use Rattle.options.specs.Rules.{optionRules}
 
 abbrev pub bondOptionOf : BondOption → Float → Float → Float → Float → Float
 bondOptionOf Put sigmaP strike pt pT = bondPutOf sigmaP strike pt pT

@@ -1,8 +1,8 @@
--- `models::option_rules` meets its contract: whether each rule applies is what specs/ says, line by line. Assumes nothing.
+-- `options::option_rules` meets its contract: whether each rule applies is what specs/ says, line by line. Assumes nothing.
 use borrow.Author.Needs.{needs}
 use Rattle.lists.specs.Order.{end, ask, asked}
-use Rattle.models.proofs.rules.option_rules.Statement.{statement}
-use Rattle.models.proofs.rules.option_rules.Tie as tie
+use Rattle.options.proofs.rules.option_rules.Statement.{statement}
+use Rattle.options.proofs.rules.option_rules.Tie as tie
 
 is-finite-requires : tie.Need-is-finite-requires
 is-finite-requires c κs = search needs
