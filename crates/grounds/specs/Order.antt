@@ -18,7 +18,7 @@ use Rattle.quotes.specs.Rules.{quoteRules, annuityRules}
 use Rattle.schedules.specs.Rules.{varianceRules, volatilityRules}
 use Rattle.models.specs.Rules.{optionRules, thetaRules, forwardRules}
 use Rattle.paths.specs.Generate.{pathRules}
-use Rattle.paths.specs.Transition.{transitionRules}
+use Rattle.transitions.specs.Transition.{transitionRules}
 use Rattle.swaptions.specs.Model.{modelRules}
 use Rattle.pricers.specs.Pricer.{pricerRules}
 use Rattle.objectives.specs.declared.market.Quote.{Quote}
