@@ -8,7 +8,7 @@ use lib.Dec.{ltb, eqb}
 use lib.ListN.{take, drop}
 use lib.Ieee.{Float}
 use Rattle.lists.specs.Refusals.{Outcome, answerNumber, answerOf}
-use Rattle.paths.specs.Written.{storedOf}
+use Rattle.transitions.specs.Written.{storedOf}
 use Rattle.calls.specs.declared.record.Record.{Record}
 use Rattle.calls.specs.Match.{holdsOf}
 use Rattle.calls.specs.Store.{hasOf, partOf}

@@ -7,7 +7,7 @@ use lib.ListN.{length, take, drop, replicate}
 use lib.Ieee.{Float}
 use Rattle.lists.specs.Refusals.{Outcome, served, refused, numberOf, answerNumber, answerOf, toldOutcome}
 use Rattle.quotes.specs.Utils.{Two}
-use Rattle.paths.specs.Written.{storedOf}
+use Rattle.transitions.specs.Written.{storedOf}
 use Rattle.calls.specs.declared.record.Record.{Record}
 use Rattle.calls.specs.Match.{matchesOf, untouched, holdsOf}
 use Rattle.calls.specs.Store.{hasOf, partOf}

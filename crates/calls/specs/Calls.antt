@@ -10,7 +10,7 @@ use Rattle.options.specs.Options.{bondOptionOutcome, optionletOutcome}
 use Rattle.models.specs.Curves.{bOutcome, volatilityOutcome, shortRateVarianceOutcome, aOutcome, zcbOutcome, thetaOutcome, forwardOutcome}
 use Rattle.quotes.specs.Utils.{Two, d1d2Outcome, blackCallOutcome, blackPutOutcome, bachelierCallOutcome, annuityOutcome}
 use Rattle.schedules.specs.Parameters as Schedules
-use Rattle.paths.specs.Transition.{transitionOutcome}
+use Rattle.transitions.specs.Transition.{transitionOutcome}
 use Rattle.paths.specs.Generate.{generateOutcome}
 use Rattle.calls.specs.declared.record.Record.{Record}
 use Rattle.layout.specs.Bytes.{floatOf}

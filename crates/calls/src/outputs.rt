@@ -74,7 +74,7 @@ fn transitions(r: Record, s: &[f64], out: &mut [f64]) -> bool
     ensures { λ ok. ⌜ ok ≡ writesOf (transitionCall r (now (s .entry)) (r .room)) r (now (s .entry)) (now (out .entry)) ⌝ }
 {
     let room = r.room as usize;
-    let answer = paths::transition_variances(
+    let answer = transitions::transition_variances(
         layout::float_of(r.a),
         store::part(s, r.pillars),
         store::part(s, r.sigmas),

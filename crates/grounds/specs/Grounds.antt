@@ -1,4 +1,4 @@
--- Demand 3, of refusal 10: "no call is refused so on any other ground". The calls of quotes, schedules, models and paths begin no search, and none of them is refused so, whatever it is given. (The other calls say it in their own contracts, the clause `bracket`: of a search, when it is refused so; of a caplet's fit and a basket, which begin none, that they never are.)
+-- Demand 3, of refusal 10: "no call is refused so on any other ground". The calls of quotes, schedules, models, transitions and paths begin no search, and none of them is refused so, whatever it is given. (The other calls say it in their own contracts, the clause `bracket`: of a search, when it is refused so; of a caplet's fit and a basket, which begin none, that they never are.)
 use mathlib.Core.Path.{_≡_, subst}
 use mathlib.Core.Bool.{Bool, true, false, not, cond, _&&_}
 use mathlib.Core.List.{List, [], _∷_}
@@ -27,9 +27,9 @@ use Rattle.options.specs.Options.{bondOptionOf, bondOptionPriced, bondOptionOut
 use Rattle.models.specs.Curves as Curves
 use Rattle.schedules.specs.Parameters as Schedules
 use Rattle.paths.specs.declared.path.State.{State}
-use Rattle.paths.specs.Written.{finishingList}
+use Rattle.transitions.specs.Written.{finishingList}
 use Rattle.paths.specs.Generate.{stateAfter, shiftOf, startState, pathFrom, generateOutcome}
-use Rattle.paths.specs.Transition.{variancesOf, transitionOutcome}
+use Rattle.transitions.specs.Transition.{variancesOf, transitionOutcome}
 
 -- not refused for want of a bracket
 abbrev pub NeverSo : {A : Type 0} → Outcome A → Type 0

@@ -19,7 +19,7 @@ use Rattle.schedules.specs.Rules.{varianceRules, volatilityRules}
 use Rattle.options.specs.Rules.{optionRules}
 use Rattle.models.specs.Rules.{thetaRules, forwardRules}
 use Rattle.paths.specs.Generate.{pathRules}
-use Rattle.paths.specs.Transition.{transitionRules}
+use Rattle.transitions.specs.Transition.{transitionRules}
 use Rattle.swaptions.specs.Model.{modelRules}
 use Rattle.pricers.specs.Pricer.{pricerRules}
 use Rattle.objectives.specs.declared.market.Quote.{Quote}

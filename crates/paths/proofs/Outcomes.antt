@@ -1,13 +1,11 @@
--- What a call that its rules let through knows: its lengths, and that the times of its pillars and of its curve rise. And what the part of the working list holds that was lent.
+-- What a path that its rules let through knows: its lengths, and that the times of its pillars and of its curve rise. Assumes nothing.
 use mathlib.Core.Path.{_≡_, sym, _∙_}
 use mathlib.Core.Bool.{Bool, true, not, _||_}
-use mathlib.Core.List.{List, _++_}
+use mathlib.Core.List.{List}
 use Prim.Native.Nat.{ℕ, _≤_}
-use native.Mathlib.Omega.{arith}
 use borrow.Author.Tests.{ltb-false, eqb-true, not-false}
 use lib.Dec.{ltb, eqb}
-use lib.ListN.{length, take, drop, length-append}
-use lib.Seq.{length-take-le, take-at}
+use lib.ListN.{length}
 use lib.Ieee.{Float}
 use Rattle.lists.specs.declared.curves.Faults.{Faults}
 use Rattle.lists.specs.declared.refusals.Answer.{Answer}
@@ -18,17 +16,7 @@ use Rattle.lists.specs.Checks.{inOrder}
 use Rattle.lists.specs.Faults.{curveFaults, pillarFaults, gridFaults}
 use Rattle.lists.proofs.Outcomes.{neither}
 use Rattle.lists.proofs.CurveLaws.{curve-rises}
-use Rattle.paths.specs.Transition.{transitionRules}
 use Rattle.paths.specs.Generate.{pathRules}
-
--- ---- rule 1 did not apply
-pub steps-fit : (pillars : Faults) (empty : Bool) (alpha : Float) (steps room : ℕ) (timeStep : Float) {answer : Answer}
-    → answer ≡ A.Served → answer ≡ firstOf (transitionRules pillars empty alpha steps room timeStep) → (steps ≤ 1024) × (steps ≤ room)
-steps-fit pillars empty alpha steps room timeStep e h =
-    let none = none-applies (transitionRules pillars empty alpha steps room timeStep) .0 (sym h ∙ e) in
-    let two = neither (pillars .size || ltb 1024 steps) (ltb room steps) (none .0) in
-    let one = neither (pillars .size) (ltb 1024 steps) (two .0) in
-    (ltb-false 1024 steps (one .1), ltb-false room steps (two .1))
 
 -- ---- a path's rules on the faults as they were worked; rules 1 and 4 did not apply
 pub rules-of : {schedule schedule′ curve curve′ points points′ : Faults} (empty : Bool) {below below′ : Bool} (short : Bool) (alpha : Float) {answer : Answer}
@@ -50,18 +38,3 @@ grid-fits ps ss ts fs grid draws empty below room alpha e h =
     let orders = neither (schedule .order || curve .order) (points .order) (none .1 .1 .1 .0) in
     let listed = neither (schedule .order) (curve .order) (orders .0) in
     (ltb-false 1024 (length grid) (both .0), sym (eqb-true (length grid) (length draws) (not-false (eqb (length grid) (length draws)) (both .1))), curve-rises ts fs (listed .1), not-false (inOrder true ps) (listed .0), ltb-false room (length grid) (sizes .1))
-
--- ---- the front of the working list, lent as n places and handed back as the values vs
-module _ (work : List Float) (n : ℕ) (fits : n ≤ length work) where
-  pub lent-is : n ≡ length (take n work)
-  lent-is = sym (length-take-le n work fits)
-
-  module _ (vs : List Float) (same : length vs ≡ length (take n work)) where
-    pub back-fits : n ≤ length (vs ++ drop n work)
-    back-fits = rw (length-append, same, length-take-le n work fits) (omega arith)
-
-    pub back-is : n ≡ length (take n (vs ++ drop n work))
-    back-is = sym (length-take-le n (vs ++ drop n work) back-fits)
-
-    pub values-are : take n (vs ++ drop n work) ≡ vs
-    values-are = take-at vs (drop n work) n (same ∙ length-take-le n work fits)

@@ -20,7 +20,7 @@ use Rattle.lists.specs.Faults.{curveFaults, pillarFaults, gridFaults}
 use Rattle.lists.proofs.Outcomes.{not-both, served-is}
 use Rattle.formulas.specs.HullWhite.{h, forwardOf}
 use Rattle.paths.specs.declared.path.State.{State}
-use Rattle.paths.specs.Written.{finishingList}
+use Rattle.transitions.specs.Written.{finishingList}
 use Rattle.paths.specs.Generate.{startsBelow, pathRules, stateAfter, shiftOf, pathFrom, startState, generateOutcome}
 use Rattle.paths.proofs.Outcomes.{grid-fits}
 

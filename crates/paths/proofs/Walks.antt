@@ -1,12 +1,12 @@
--- One turn and the end of each walk along a list: the values stored, the variances, the decays, and the points of a path. Assumes nothing.
+-- One turn and the end of each walk along a grid: the decays, and the points of a path. Assumes nothing.
 use mathlib.Core.Path.{_≡_, refl, sym, ap, _∙_}
 use mathlib.Core.Bool.{false}
 use mathlib.Core.List.{List, [], _∷_, _++_, append-nil}
-use Prim.Native.Nat.{ℕ, zero, suc, _+_, _-_, _≤_, _<_}
+use Prim.Native.Nat.{ℕ, zero, suc, _+_, _≤_, _<_}
 use native.Mathlib.Numerals.{add-one}
 use native.Mathlib.Omega.{arith}
-use lib.ListN.{length, getD, drop, take, set, length-set, length-take, drop-of-length-le}
-use lib.Seq.{append-snoc, drop-cons, set-at, take-all, take-length, take-suc, take-suc-set}
+use lib.ListN.{length, getD, drop, take, set, length-set, drop-of-length-le}
+use lib.Seq.{take-all}
 use lib.Ieee.{Float, nan, lt}
 use Rattle.ieee.specs.Numbers as Numbers
 use Rattle.ieee.specs.Rounded.{_⊕_}
@@ -14,53 +14,19 @@ use Rattle.lists.specs.declared.refusals.Refusal.the-variants as R
 use Rattle.lists.specs.Refusals.{Outcome, served, refused, prepend}
 use Rattle.lookups.specs.Lookups.{Maybe, just, nothing, factorAt, needing, volatilityAt}
 use Rattle.formulas.specs.HullWhite.{h, forwardOf}
+use Rattle.transitions.proofs.Walks.{next, longer}
 use Rattle.paths.specs.declared.path.State.{State}
-use Rattle.paths.specs.Transition.{stepVariance, variancesOf}
-use Rattle.paths.specs.Walk.{decayOf, decaysFrom, forwardOfBoth, forwardAt}
+use Rattle.paths.specs.Walk.{stepDecay, decaysFrom, forwardOfBoth, forwardAt}
 use Rattle.paths.specs.Generate.{startsBelow, stateAfter, shiftOf, pathFrom}
-
--- ---- the list from place i on, and the list up to place i once there is a value at i
-next : (xs : List Float) (i : ℕ) → i < length xs → drop i xs ≡ getD xs i nan ∷ drop (i + 1) xs
-next xs i h = rw (add-one, drop-cons xs i nan)
-
-longer : (out : List Float) (i : ℕ) (v : Float) (rest : List Float) → i < length out → take i out ++ v ∷ rest ≡ take (i + 1) (set out i v) ++ rest
-longer out i v rest h = rw (add-one, take-suc-set, append-snoc)
-
--- ---- the values over the front of the output
-pub store-turn : (xs out₀ out : List Float) (i : ℕ) → i < length xs → i < length out₀ → out ≡ take i xs ++ drop i out₀
-    → set out i (getD xs i nan) ≡ take (i + 1) xs ++ drop (i + 1) out₀
-store-turn xs out₀ out i h k q =
-    let z : length (take i xs) ≡ i = simp length-take (omega arith) in
-    rw (q, next out₀ i k, set-at (take i xs) (getD out₀ i nan) (drop (i + 1) out₀) (getD xs i nan) i z) (sym (rw (add-one, take-suc xs i nan, append-snoc)))
-
-pub store-end : (xs out₀ out : List Float) (i : ℕ) → i ≡ length xs → out ≡ take i xs ++ drop i out₀ → out ≡ xs ++ drop (length xs) out₀
-store-end xs out₀ out i e q = q ∙ rw (e, take-length)
-
--- ---- the variances of the steps from i on, behind those worked
-module _ (alpha : Float) (ts ss : List Float) (timeStep : Float) (out : List Float) (n i : ℕ) (same : length out ≡ n) where
-  pub variances-turn : i < n
-      → take i out ++ variancesOf alpha ts ss timeStep i (n - i) ≡ take (i + 1) (set out i (stepVariance alpha ts ss timeStep i)) ++ variancesOf alpha ts ss timeStep (i + 1) (n - (i + 1))
-  unfolding variancesOf
-  variances-turn h =
-      let e : n - i ≡ suc (n - (i + 1)) = omega arith in
-      let k : i < length out = omega arith in
-      rw (e, ← add-one i, longer out i (stepVariance alpha ts ss timeStep i) (variancesOf alpha ts ss timeStep (i + 1) (n - (i + 1))) k)
-
-  pub variances-end : n ≤ i → take i out ++ variancesOf alpha ts ss timeStep i (n - i) ≡ out
-  unfolding variancesOf
-  variances-end h =
-      let e : n - i ≡ 0 = omega arith in
-      let k : length out ≤ i = omega arith in
-      rw (e, append-nil, take-all i out k)
 
 -- ---- the decays of the grid from place i on, behind those worked: one turn, two, and the end
 module _ (alpha before : Float) (grid out : List Float) (i : ℕ) where
-  pub decays-turn : i < length grid → i < length out → (d : Float) → d ≡ decayOf alpha before (getD grid i nan)
+  pub decays-turn : i < length grid → i < length out → (d : Float) → d ≡ stepDecay alpha before (getD grid i nan)
       → take i out ++ decaysFrom alpha before (drop i grid) ≡ take (i + 1) (set out i d) ++ decaysFrom alpha (getD grid i nan) (drop (i + 1) grid)
   unfolding decaysFrom
   decays-turn h k d e = rw (next grid i h, ← e) (longer out i d (decaysFrom alpha (getD grid i nan) (drop (i + 1) grid)) k)
 
-  pub decays-last : length grid ≡ i + 1 → length out ≡ length grid → (d : Float) → d ≡ decayOf alpha before (getD grid i nan) → take i out ++ decaysFrom alpha before (drop i grid) ≡ set out i d
+  pub decays-last : length grid ≡ i + 1 → length out ≡ length grid → (d : Float) → d ≡ stepDecay alpha before (getD grid i nan) → take i out ++ decaysFrom alpha before (drop i grid) ≡ set out i d
   unfolding decaysFrom
   decays-last h same d e =
       let k : i < length grid = omega arith in
@@ -74,7 +40,7 @@ module _ (alpha before : Float) (grid out : List Float) (i : ℕ) where
   decays-end h k = rw (drop-of-length-le grid h, append-nil, take-all i out k)
 
 pub decays-two : (alpha before : Float) (grid out : List Float) (i : ℕ) → i + 1 < length grid → length out ≡ length grid
-    → (d e : Float) → d ≡ decayOf alpha before (getD grid i nan) → e ≡ decayOf alpha (getD grid i nan) (getD grid (i + 1) nan)
+    → (d e : Float) → d ≡ stepDecay alpha before (getD grid i nan) → e ≡ stepDecay alpha (getD grid i nan) (getD grid (i + 1) nan)
     → take i out ++ decaysFrom alpha before (drop i grid) ≡ take (i + 2) (set (set out i d) (i + 1) e) ++ decaysFrom alpha (getD grid (i + 1) nan) (drop (i + 2) grid)
 decays-two alpha before grid out i h same d e p q =
     let z : i + 1 + 1 ≡ i + 2 = omega arith in
@@ -174,11 +140,11 @@ drop-set (x ∷ xs) zero v = refl
 drop-set (x ∷ xs) (suc i) v = drop-set xs i v
 
 module _ (alpha t : Float) (grid out : List Float) (i : ℕ) (in-grid : i < length grid) (in-out : i < length out) (left : drop i out ≡ decaysFrom alpha t (drop i grid)) where
-  split : getD out i nan ∷ drop (i + 1) out ≡ decayOf alpha t (getD grid i nan) ∷ decaysFrom alpha (getD grid i nan) (drop (i + 1) grid)
+  split : getD out i nan ∷ drop (i + 1) out ≡ stepDecay alpha t (getD grid i nan) ∷ decaysFrom alpha (getD grid i nan) (drop (i + 1) grid)
   unfolding decaysFrom
   split = sym (next out i in-out) ∙ left ∙ rw (next grid i in-grid)
 
-  pub decay-here : getD out i nan ≡ decayOf alpha t (getD grid i nan)
+  pub decay-here : getD out i nan ≡ stepDecay alpha t (getD grid i nan)
   decay-here = heads split .0
 
   pub decays-left : (sigma draw : Float) (s after : State) → after ≡ stateAfter alpha sigma (getD grid i nan) draw s → (v : Float)

@@ -18,7 +18,7 @@ use Rattle.lookups.specs.Lookups.{factorAt, needing, required, volatilityAt}
 use Rattle.lists.specs.Faults.{curveFaults, pillarFaults, gridFaults}
 use Rattle.formulas.specs.HullWhite.{h, forwardOf}
 use Rattle.paths.specs.declared.path.State.{State}
-use Rattle.paths.specs.Written.{finishingList}
+use Rattle.transitions.specs.Written.{finishingList}
 
 -- ---- rules 1 to 7, a line a rule
 

@@ -1,5 +1,3 @@
--- What the contracts of the calls that write a list say.
-pub mod Written
-pub mod Transition
+-- What the contracts of a short-rate path say.
 pub mod Generate
 pub mod Walk

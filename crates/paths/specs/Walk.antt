@@ -8,13 +8,13 @@ use Rattle.lookups.specs.Lookups.{Maybe, just, nothing, factorAt}
 use Rattle.formulas.specs.HullWhite.{h, forwardOf}
 
 -- the decay of the state's variance from t to u, as `stateAfter` has it: exp(-2 × alpha × (u - t))
-abbrev pub decayOf : Float → Float → Float → Float
-decayOf alpha t u = expOf (neg two ⊗ alpha ⊗ (u ⊖ t))
+abbrev pub stepDecay : Float → Float → Float → Float
+stepDecay alpha t u = expOf (neg two ⊗ alpha ⊗ (u ⊖ t))
 
 -- the decay over each step of a grid, the first from the time t
 unfoldable pub decaysFrom : Float → Float → List Float → List Float
 decaysFrom alpha t [] = []
-decaysFrom alpha t (u ∷ grid) = decayOf alpha t u ∷ decaysFrom alpha u grid
+decaysFrom alpha t (u ∷ grid) = stepDecay alpha t u ∷ decaysFrom alpha u grid
 
 -- a forward of two factors, where both are found
 abbrev pub forwardOfBoth : Maybe → Maybe → Maybe

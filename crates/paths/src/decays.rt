@@ -3,7 +3,7 @@
 ghost use mathlib.Core.Path.{_≡_};
 ghost use lib.ListN.{length};
 ghost use Rattle.ieee.specs.Numbers.{zero};
-ghost use Rattle.paths.specs.Walk.{decayOf, decaysFrom};
+ghost use Rattle.paths.specs.Walk.{stepDecay, decaysFrom};
 use elementary::Two;
 
 // Writes the decay over each step of the grid, the first of them from 0.
@@ -27,14 +27,14 @@ pub fn write_decays(alpha: f64, grid: &[f64], out: &mut [f64])
 
 // exp(-2 × alpha × the time passed) from t to u.
 fn decay(alpha: f64, t: f64, u: f64) -> f64
-    ensures { λ r. ⌜ r ≡ decayOf alpha t u ⌝ }
+    ensures { λ r. ⌜ r ≡ stepDecay alpha t u ⌝ }
 {
     elementary::exp(-2.0 * alpha * (u - t))
 }
 
 // The decays from t to u and from u to v.
 fn two_decays(alpha: f64, t: f64, u: f64, v: f64) -> Two
-    ensures { λ r. ⌜ (r .first ≡ decayOf alpha t u) × (r .second ≡ decayOf alpha u v) ⌝ }
+    ensures { λ r. ⌜ (r .first ≡ stepDecay alpha t u) × (r .second ≡ stepDecay alpha u v) ⌝ }
 {
     elementary::exp_two(-2.0 * alpha * (u - t), -2.0 * alpha * (v - u))
 }

@@ -9,11 +9,10 @@ ghost use Rattle.lists.specs.Checks.{inOrder};
 ghost use Rattle.lists.specs.Refusals.{served, answerOf, answerNumber, reported, firstOf, after};
 ghost use Rattle.lookups.specs.Lookups.{foundOf};
 ghost use Rattle.lists.specs.Faults.{curveFaults};
-ghost use Rattle.paths.specs.Written.{storedOf};
+ghost use Rattle.transitions.specs.Written.{storedOf};
 ghost use Rattle.paths.specs.Generate.{pathRules, startsBelow, stateAfter, shiftOf, pathFrom, startState, generateOutcome};
-ghost use Rattle.paths.specs.Walk.{decayOf, decaysFrom, forwardAt};
+ghost use Rattle.paths.specs.Walk.{stepDecay, decaysFrom, forwardAt};
 use super::decays;
-use super::output;
 use lists::Answer;
 use lists::Faults;
 use lists::Refusal;
@@ -104,7 +103,7 @@ pub fn generate_on(
     if let Answer::Refused(refusal) = walk {
         return Answer::Refused(refusal);
     }
-    output::finish(&work[..n], out)
+    transitions::finish(&work[..n], out)
 }
 
 // Whether the first grid time is below 0.
@@ -153,7 +152,7 @@ fn path_rules(
 
 // One Euler step of the state to the time t, with the decay over it.
 fn state_after(alpha: f64, sigma: f64, t: f64, draw: f64, decay: f64, s: State) -> State
-    requires { ⌜ decay ≡ decayOf alpha (s .t) t ⌝ }
+    requires { ⌜ decay ≡ stepDecay alpha (s .t) t ⌝ }
     ensures { λ r. ⌜ r ≡ stateAfter alpha sigma t draw s ⌝ }
 {
     let dt = t - s.t;

@@ -4,7 +4,7 @@ use denote.Ref.{now}
 use lib.ListN.{length, take}
 use lib.Seq.{length-take-le}
 use Rattle.lists.specs.Refusals.{answerNumber}
-use Rattle.paths.specs.Transition.{transitionOutcome}
+use Rattle.transitions.specs.Transition.{transitionOutcome}
 use Rattle.calls.specs.Calls.{transitionCall}
 use Rattle.calls.proofs.Answers.{wrote}
 use borrow.Author.Needs.{needs}

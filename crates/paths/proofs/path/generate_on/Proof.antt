@@ -13,9 +13,10 @@ use Rattle.lists.specs.Checks.{inOrder}
 use Rattle.lists.specs.Refusals.{answerNumber, firstOf, following}
 use Rattle.lists.specs.Faults.{pillarFaults, curveFaults, gridFaults}
 use Rattle.lists.proofs.Outcomes.{turned-down, let-through}
-use Rattle.paths.specs.Written.{finishingList}
+use Rattle.transitions.specs.Written.{finishingList}
 use Rattle.paths.specs.Generate.{startsBelow, startState, pathRules, pathFrom, generateOutcome}
-use Rattle.paths.proofs.Outcomes.{rules-of, grid-fits, lent-is, back-fits, back-is, values-are}
+use Rattle.transitions.proofs.Lent.{lent-is, back-fits, back-is, values-are}
+use Rattle.paths.proofs.Outcomes.{rules-of, grid-fits}
 use Rattle.paths.proofs.path.generate_on.Statement.{statement}
 use Rattle.paths.proofs.path.generate_on.Tie as tie
 

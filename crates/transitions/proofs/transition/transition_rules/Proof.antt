@@ -1,8 +1,8 @@
--- `paths::transition::transition_rules` meets its contract: whether each rule applies is what `transitionRules` says, line by line. Assumes nothing.
+-- `transitions::transition::transition_rules` meets its contract: whether each rule applies is what `transitionRules` says, line by line. Assumes nothing.
 use borrow.Author.Needs.{needs}
 use Rattle.lists.specs.Order.{inTurn, in-turn}
-use Rattle.paths.proofs.transition.transition_rules.Statement.{statement}
-use Rattle.paths.proofs.transition.transition_rules.Tie as tie
+use Rattle.transitions.proofs.transition.transition_rules.Statement.{statement}
+use Rattle.transitions.proofs.transition.transition_rules.Tie as tie
 
 is-finite-requires : tie.Need-is-finite-requires
 is-finite-requires c κs = search needs

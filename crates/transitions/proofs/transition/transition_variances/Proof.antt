@@ -1,4 +1,4 @@
--- `paths::transition::transition_variances` meets its contract: the rules turn the call down, or the variances of all steps are worked and handed to `finish`. Assumes nothing.
+-- `transitions::transition::transition_variances` meets its contract: the rules turn the call down, or the variances of all steps are worked and handed to `finish`. Assumes nothing.
 use mathlib.Core.Path.{_≡_, refl, sym, ap, _∙_}
 use mathlib.Core.List.{List}
 use Prim.Native.Nat.{_≤_}
@@ -12,11 +12,12 @@ use Rattle.lists.specs.declared.curves.Faults.{Faults}
 use Rattle.lists.specs.Refusals.{answerNumber, firstOf}
 use Rattle.lists.specs.Faults.{pillarFaults}
 use Rattle.lists.proofs.Outcomes.{turned-down, let-through}
-use Rattle.paths.specs.Written.{finishingList}
-use Rattle.paths.specs.Transition.{transitionRules, variancesOf, transitionOutcome}
-use Rattle.paths.proofs.Outcomes.{steps-fit, lent-is, back-fits, back-is, values-are}
-use Rattle.paths.proofs.transition.transition_variances.Statement.{statement}
-use Rattle.paths.proofs.transition.transition_variances.Tie as tie
+use Rattle.transitions.specs.Written.{finishingList}
+use Rattle.transitions.specs.Transition.{transitionRules, variancesOf, transitionOutcome}
+use Rattle.transitions.proofs.Outcomes.{steps-fit}
+use Rattle.transitions.proofs.Lent.{lent-is, back-fits, back-is, values-are}
+use Rattle.transitions.proofs.transition.transition_variances.Statement.{statement}
+use Rattle.transitions.proofs.transition.transition_variances.Tie as tie
 
 -- ---- the working list, and what a call that is let through knows of its steps
 abbrev work : List Float

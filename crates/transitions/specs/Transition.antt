@@ -15,7 +15,7 @@ use Rattle.lists.specs.declared.refusals.Refusal.the-variants as R
 use Rattle.lists.specs.Refusals.{Outcome, Rule, rule, unless}
 use Rattle.lists.specs.Faults.{pillarFaults}
 use Rattle.schedules.specs.Variance.{varianceOf}
-use Rattle.paths.specs.Written.{finishingList}
+use Rattle.transitions.specs.Written.{finishingList}
 
 -- rules 1 to 7, a line a rule. Rule 5: a step that is not above 0 ends at or before its start
 abbrev pub transitionRules : Faults → Bool → Float → ℕ → ℕ → Float → List Rule

@@ -4,13 +4,13 @@ ghost use mathlib.Core.List.{_++_};
 ghost use Prim.Native.Nat.{_≤_};
 ghost use lib.ListN.{length, drop};
 ghost use Rattle.lists.specs.Refusals.{answerOf};
-ghost use Rattle.paths.specs.Written.{storedOf, finishingList};
+ghost use Rattle.transitions.specs.Written.{storedOf, finishingList};
 use lists::Answer;
 use lists::Refusal;
 use lists::Test;
 
 // Writes the values over the front of the output, unless one of them is not finite (rule 13). The output
-// has room for them: `generate_on` and `transition_variances` have asked rule 1.
+// has room for them: `transition_variances` and `paths::generate_on` have asked rule 1.
 pub fn finish(values: &[f64], out: &mut [f64]) -> Answer
     requires { ⌜ length (now values) ≤ length (now out) ⌝ }
     ensures answer { λ r. ⌜ r ≡ answerOf (finishingList (now (values .entry))) ⌝ }

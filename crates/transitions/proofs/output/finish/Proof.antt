@@ -1,8 +1,8 @@
--- `paths::output::finish` meets its contract: the list is stored where each value is finite, and else refused by rule 13. Assumes nothing.
+-- `transitions::output::finish` meets its contract: the list is stored where each value is finite, and else refused by rule 13. Assumes nothing.
 use mathlib.Core.Path.{refl, sym, _∙_}
 use borrow.Author.Needs.{needs}
-use Rattle.paths.proofs.output.finish.Statement.{statement}
-use Rattle.paths.proofs.output.finish.Tie as tie
+use Rattle.transitions.proofs.output.finish.Statement.{statement}
+use Rattle.transitions.proofs.output.finish.Tie as tie
 
 all-requires : tie.Need-all-requires
 all-requires c κs = search needs

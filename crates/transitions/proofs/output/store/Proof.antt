@@ -1,4 +1,4 @@
--- `paths::output::store` meets its contract. The loop's invariant: the first i values stand over the front of the output, whose rest is as it was. Assumes nothing.
+-- `transitions::output::store` meets its contract. The loop's invariant: the first i values stand over the front of the output, whose rest is as it was. Assumes nothing.
 use mathlib.Core.Path.{_≡_, refl}
 use mathlib.Core.List.{_++_}
 use Prim.Native.Nat.{_≤_, _-_}
@@ -6,9 +6,9 @@ use native.Mathlib.Nat.{le-antisymm}
 use borrow.Author.Needs.{needs}
 use denote.Ref.{now}
 use lib.ListN.{length, drop, take, length-set}
-use Rattle.paths.proofs.Walks.{store-turn, store-end}
-use Rattle.paths.proofs.output.store.Statement.{statement}
-use Rattle.paths.proofs.output.store.Tie as tie
+use Rattle.transitions.proofs.Walks.{store-turn, store-end}
+use Rattle.transitions.proofs.output.store.Statement.{statement}
+use Rattle.transitions.proofs.output.store.Tie as tie
 
 abbrev Inv-loop : tie.InvT-loop
 Inv-loop values out₀ i₀ out i = (i ≤ length values) × (length out ≡ length out₀) × (out ≡ take i values ++ drop i out₀)

@@ -1,4 +1,4 @@
--- `paths::transition::variances` meets its contract. The loop's invariant: the variances worked, and behind them those of the steps from i on, are the variances of all. Assumes nothing.
+-- `transitions::transition::variances` meets its contract. The loop's invariant: the variances worked, and behind them those of the steps from i on, are the variances of all. Assumes nothing.
 use mathlib.Core.Path.{_≡_, refl, sym, _∙_}
 use mathlib.Core.List.{_++_}
 use Prim.Native.Nat.{_≤_, _-_}
@@ -6,10 +6,10 @@ use native.Mathlib.Numerals.{unary-clauses}
 use borrow.Author.Needs.{needs}
 use denote.Ref.{now}
 use lib.ListN.{length, take, length-set}
-use Rattle.paths.specs.Transition.{variancesOf}
-use Rattle.paths.proofs.Walks.{variances-turn, variances-end}
-use Rattle.paths.proofs.transition.variances.Statement.{statement}
-use Rattle.paths.proofs.transition.variances.Tie as tie
+use Rattle.transitions.specs.Transition.{variancesOf}
+use Rattle.transitions.proofs.Walks.{variances-turn, variances-end}
+use Rattle.transitions.proofs.transition.variances.Statement.{statement}
+use Rattle.transitions.proofs.transition.variances.Tie as tie
 
 abbrev Inv-loop : tie.InvT-loop
 Inv-loop alpha times sigmas time-step out₀ i₀ out i = (i ≤ length out₀) × (length out ≡ length out₀) × (take i out ++ variancesOf alpha times sigmas time-step i (length out₀ - i) ≡ variancesOf alpha times sigmas time-step 0 (length out₀))

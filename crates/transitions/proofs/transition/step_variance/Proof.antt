@@ -1,8 +1,8 @@
--- `paths::transition::step_variance` meets its contract: the variance over the step, from its number times the time step. Assumes nothing.
-use Rattle.paths.specs.Transition.{stepVariance}
+-- `transitions::transition::step_variance` meets its contract: the variance over the step, from its number times the time step. Assumes nothing.
+use Rattle.transitions.specs.Transition.{stepVariance}
 use borrow.Author.Needs.{needs}
-use Rattle.paths.proofs.transition.step_variance.Statement.{statement}
-use Rattle.paths.proofs.transition.step_variance.Tie as tie
+use Rattle.transitions.proofs.transition.step_variance.Statement.{statement}
+use Rattle.transitions.proofs.transition.step_variance.Tie as tie
 
 int-to-float-start : tie.Need-int-to-float-start
 int-to-float-start c = search needs

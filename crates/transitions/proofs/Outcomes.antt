@@ -1,0 +1,23 @@
+-- What transition variances that their rules let through know: the steps fit the working list and the output. Assumes nothing.
+use mathlib.Core.Path.{_≡_, sym, _∙_}
+use mathlib.Core.Bool.{Bool, _||_}
+use Prim.Native.Nat.{ℕ, _≤_}
+use borrow.Author.Tests.{ltb-false}
+use lib.Dec.{ltb}
+use lib.Ieee.{Float}
+use Rattle.lists.specs.declared.curves.Faults.{Faults}
+use Rattle.lists.specs.declared.refusals.Answer.{Answer}
+use Rattle.lists.specs.declared.refusals.Answer.the-variants as A
+use Rattle.lists.specs.Refusals.{firstOf}
+use Rattle.lists.specs.Order.{none-applies}
+use Rattle.lists.proofs.Outcomes.{neither}
+use Rattle.transitions.specs.Transition.{transitionRules}
+
+-- ---- rule 1 did not apply
+pub steps-fit : (pillars : Faults) (empty : Bool) (alpha : Float) (steps room : ℕ) (timeStep : Float) {answer : Answer}
+    → answer ≡ A.Served → answer ≡ firstOf (transitionRules pillars empty alpha steps room timeStep) → (steps ≤ 1024) × (steps ≤ room)
+steps-fit pillars empty alpha steps room timeStep e h =
+    let none = none-applies (transitionRules pillars empty alpha steps room timeStep) .0 (sym h ∙ e) in
+    let two = neither (pillars .size || ltb 1024 steps) (ltb room steps) (none .0) in
+    let one = neither (pillars .size) (ltb 1024 steps) (two .0) in
+    (ltb-false 1024 steps (one .1), ltb-false room steps (two .1))
