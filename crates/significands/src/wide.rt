@@ -151,3 +151,20 @@ pub fn jam_far(hi: u64, lo: u64, d: u64) -> u64
     let out = mark(hi - (high << d)) + mark(lo);
     high / 2 * 2 + mark(high % 2 + out)
 }
+
+// v shifted right by a word and d more, and below it the sticky digit: 1 where a digit 1 was shifted
+// out. `ieee::open::step` shows that there is room for it.
+pub fn jam_below(hi: u64, lo: u64, d: u64) -> u64
+    requires { ⌜ (hi < 2 ^ 63) × (d < 64) ⌝ }
+    ensures { λ r. ⌜ r ≡ jammed (words hi lo) (64 + d) ⌝ }
+{
+    let high = hi >> d;
+    high * 2 + mark_both(hi - (high << d), lo)
+}
+
+// 0 where both words are 0, and 1 for any other number.
+fn mark_both(hi: u64, lo: u64) -> u64
+    ensures { λ r. ⌜ r ≡ min (words hi lo) 1 ⌝ }
+{
+    if lo == 0 { mark(hi) } else { 1 }
+}
