@@ -41,7 +41,8 @@ pub fn step(q: u64, i: u64, y: u64, j: u64, c: f64) -> Open
     let p = i + j;
     let l = o.exp + 1027;
     if p <= l {
-        rounded(o.sig * 8 + wide::jam_below(v.hi, v.lo, l - p), o.exp + 7)
+        let w = wide::jam_below(v.hi, v.lo, l - p);
+        rounded(o.sig * 4 + w.hi, w.lo, o.exp + 8)
     } else {
         let s = wide::plus(
             v.hi,
@@ -49,17 +50,20 @@ pub fn step(q: u64, i: u64, y: u64, j: u64, c: f64) -> Open
             (o.sig * 4) >> (p - l),
             (o.sig * 4) << (64 - (p - l)),
         );
-        rounded(wide::jam_below(s.hi, s.lo, 0), p - 1020)
+        let w = wide::jam_below(s.hi, s.lo, 0);
+        rounded(w.hi, w.lo, p - 1019)
     }
 }
 
-// r * 2^place in units of 2^-1084, to 53 digits. `step` has the bounds from the larger of its terms.
-fn rounded(r: u64, place: u64) -> Open
-    requires { ⌜ (2 ^ 55 ≤ r) × (r < 2 ^ 63) × (62 ≤ place) × (place < 2 ^ 13) ⌝ }
-    ensures { λ o. ⌜ (valueOf (o .sig) (o .exp) ≡ Ieee.round binary64 false (r * 2 ^ (place + 1193)) (2 ^ 2277)) × Digits (o .sig) × (place ≤ o .exp + 7) × (o .exp ≤ place) ⌝ }
+// h * 2^place in units of 2^-1084, and a little more where the sticky digit s is 1, to 53 digits. That
+// digit is put below the others when they stand in their place, so that nothing waits for it. `step`
+// has the bounds from the larger of its terms.
+fn rounded(h: u64, s: u64, place: u64) -> Open
+    requires { ⌜ (2 ^ 54 ≤ h) × (h < 2 ^ 62) × (s ≤ 1) × (62 ≤ place) × (place < 2 ^ 13) ⌝ }
+    ensures { λ o. ⌜ (valueOf (o .sig) (o .exp) ≡ Ieee.round binary64 false ((2 * h + s) * 2 ^ (place + 1192)) (2 ^ 2277)) × Digits (o .sig) × (place ≤ o .exp + 8) × (o .exp + 1 ≤ place) ⌝ }
 {
-    let up = u64::leading_zeros(r) as u64 - 1;
-    let m = r << up;
+    let up = u64::leading_zeros(h) as u64 - 1;
+    let m = (h << up) + s;
     Open {
         sig: (m + 511 + m / 1024 % 2) / 1024,
         exp: place - up,

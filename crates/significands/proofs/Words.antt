@@ -406,23 +406,11 @@ far-is hi lo d m n k h l e f g =
     once : (b t : ℕ) → min (b + t) 1 ≡ min (b + min t 1) 1
     once b t = omega arith
 
--- the same with the sticky digit below it
-pub below-is : (hi lo d k : ℕ) → hi < 2 ^ 64 → lo < 2 ^ 64 → k ≡ min (words (hi - hi / 2 ^ d * 2 ^ d % 2 ^ 64) lo) 1 → hi / 2 ^ d * 2 + k ≡ jammed (words hi lo) (64 + d)
+-- the same with the sticky digit by itself
+pub below-is : (hi lo d k : ℕ) → hi < 2 ^ 64 → lo < 2 ^ 64 → k ≡ min (words (hi - hi / 2 ^ d * 2 ^ d % 2 ^ 64) lo) 1 → 2 * (hi / 2 ^ d) + k ≡ jammed (words hi lo) (64 + d)
 below-is hi lo d k h l e =
-    ap₂ _+_ (mul-comm (hi / 2 ^ d) 2) (e ∙ ap (λ (x : ℕ). min (words x lo) 1) (cut-rest hi d h))
+    ap (λ (x : ℕ). 2 * (hi / 2 ^ d) + x) (e ∙ ap (λ (x : ℕ). min (words x lo) 1) (cut-rest hi d h))
     ∙ ap₂ (λ (q r : ℕ). 2 * q + min r 1) (sym (far-quotient hi lo d l)) (sym (far-rest hi lo d l))
-
-pub below-doubled : (hi d : ℕ) → hi < 2 ^ 63 → Fits w64 (hi / 2 ^ d * 2)
-below-doubled hi d h = go (hi / 2 ^ d) (lt-of-le-of-lt (div-le-self hi (2 ^ d)) h)
-  where
-    go : (q : ℕ) → q < 2 ^ 63 → Fits w64 (q * 2)
-    go q g = omega arith
-
-pub below-fits : (hi d k t : ℕ) → hi < 2 ^ 63 → k ≡ min t 1 → Fits w64 (hi / 2 ^ d * 2 + k)
-below-fits hi d k t h e = go (hi / 2 ^ d) (lt-of-le-of-lt (div-le-self hi (2 ^ d)) h)
-  where
-    go : (q : ℕ) → q < 2 ^ 63 → Fits w64 (q * 2 + k)
-    go q g = omega arith
 
 -- a number of two words is marked by its upper one where the lower one is 0, and else at once
 pub both-low : (hi lo m : ℕ) → m ≡ min hi 1 → lo ≡ 0 → m ≡ min (words hi lo) 1

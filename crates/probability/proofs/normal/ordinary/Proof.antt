@@ -1,6 +1,6 @@
 -- `probability::ordinary` meets its contract: by the two tests of the field, of a number that is above 0. Assumes nothing.
-use mathlib.Core.Path.{_≡_, subst}
-use mathlib.Core.Bool.{Bool, true, false, not}
+use mathlib.Core.Path.{subst}
+use mathlib.Core.Bool.{Bool, not}
 use borrow.Author.Tests.{leb-true}
 use lib.Dec.{T}
 use Rattle.ieee.specs.Open.{field}

@@ -1,7 +1,6 @@
 -- `probability::quotient` meets its contract: each step leaves room for the next, and the two numbers at the end are those of the fused steps. Assumes nothing.
 use mathlib.Core.Path.{_∙_, ap₂}
 use Prim.Native.Nat.{ℕ}
-use borrow.Author.Needs.{needs}
 use lib.Dec.{lit≤}
 use lib.Ieee.{Float, binary64, ofBits}
 use Rattle.ieee.specs.Rounded.{_⊗_, _⊘_}
