@@ -9,3 +9,4 @@ pub mod WholeRoot
 pub mod Sqrt
 -- for private functions' contracts only, as is `stickyRoot` at the end of WholeRoot
 pub mod Terms
+pub mod Open

@@ -1,5 +1,6 @@
 -- What the functions' proofs cite.
 pub mod Literals
+pub mod Chain
 pub mod NonNeg
 pub mod Hart
 pub mod Self

@@ -2,13 +2,14 @@
 // step of the two polynomials fused; the DualFwd one rounds the product and then the sum, so the two
 // differ in the last bits and neither may stand in for the other.
 ghost use mathlib.Core.Path.{_≡_};
-ghost use mathlib.Core.Bool.{cond};
+ghost use mathlib.Core.Bool.{true, cond};
 ghost use lib.Ieee.{neg, lt};
 ghost use Rattle.ieee.specs.Rounded.{_⊖_, _⊗_};
 ghost use Rattle.ieee.specs.Numbers.{zero, half, one};
 ghost use Rattle.ieee.specs.Fused.{fusedOf};
 ghost use Rattle.elementary.specs.Exp.{expOf};
 ghost use Rattle.probability.specs.NormCdf.{productThenSum, stepOf, horner, numFirst, numRest, denFirst, denRest, hartOf, tailOf, upperOf, normCdfOf, normCdfDualOf};
+ghost use Rattle.probability.specs.Ordinary.{Ordinary};
 ghost use Rattle.probability.specs.Between.{Probability};
 ghost use Rattle.probability.specs.AsWritten.{normCdfDualAsWritten};
 
@@ -80,9 +81,49 @@ fn hart(z: f64, e: f64, dual: bool) -> f64
 {
     if dual {
         e * num_dual(z) / den_dual(z)
+    } else if ordinary(z) {
+        quotient(z, e)
     } else {
         e * num(z) / den(z)
     }
+}
+
+// Whether z is at least 2^-20 and below 2^3: the first digits of its pattern are the exponent's field,
+// after a sign that is +.
+fn ordinary(z: f64) -> bool
+    ensures { λ r. ⌜ (r ≡ true → Ordinary z) ⌝ }
+{
+    if z > 0.0 {
+        let field = f64::to_bits(z) / 0x10_0000_0000_0000;
+        if 1003 <= field { field <= 1025 } else { false }
+    } else {
+        false
+    }
+}
+
+// The quotient at an ordinary z, as `hart` has tested: the numbers stay taken apart from step to step.
+// The steps of the two polynomials alternate, so that a processor works on both at once.
+fn quotient(z: f64, e: f64) -> f64
+    requires { ⌜ Ordinary z ⌝ }
+    ensures { λ r. ⌜ r ≡ hartOf fusedOf z e ⌝ }
+{
+    let y = ieee::opened(z);
+    let a = ieee::opened(3.52624965998911e-2);
+    let b = ieee::opened(8.83883476483184e-2);
+    let b = ieee::step(b.sig, b.exp, y.sig, y.exp, 1.75566716318264);
+    let a = ieee::step(a.sig, a.exp, y.sig, y.exp, 0.700383064443688);
+    let b = ieee::step(b.sig, b.exp, y.sig, y.exp, 16.064177579207);
+    let a = ieee::step(a.sig, a.exp, y.sig, y.exp, 6.37396220353165);
+    let b = ieee::step(b.sig, b.exp, y.sig, y.exp, 86.7807322029461);
+    let a = ieee::step(a.sig, a.exp, y.sig, y.exp, 33.912866078383);
+    let b = ieee::step(b.sig, b.exp, y.sig, y.exp, 296.564248779674);
+    let a = ieee::step(a.sig, a.exp, y.sig, y.exp, 112.079291497871);
+    let b = ieee::step(b.sig, b.exp, y.sig, y.exp, 637.333633378831);
+    let a = ieee::step(a.sig, a.exp, y.sig, y.exp, 221.213596169931);
+    let b = ieee::step(b.sig, b.exp, y.sig, y.exp, 793.826512519948);
+    let a = ieee::step(a.sig, a.exp, y.sig, y.exp, 220.206867912376);
+    let b = ieee::step(b.sig, b.exp, y.sig, y.exp, 440.413735824752);
+    e * ieee::closed(a.sig, a.exp) / ieee::closed(b.sig, b.exp)
 }
 
 fn num(z: f64) -> f64

@@ -447,7 +447,7 @@ module _ (n m e : ℕ) (P : 0 < n) (under : n < 2 ^ 63) (S : (j : ℕ) → 2 ^ j
       go : (u j : ℕ) → u + j ≡ 62 → suc j + u ≡ 63
       go u j e = omega arith
 
-  raised-exact : m * 2 ^ up % 2 ^ 64 ≡ m * 2 ^ up
+  pub raised-exact : m * 2 ^ up % 2 ^ 64 ≡ m * 2 ^ up
   raised-exact = mod-eq-of-lt (lt-of-lt-of-le raised-under (lit≤ tt))
 
   pub raised-full : (2 ^ 62 ≤ m * 2 ^ up % 2 ^ 64) × (m * 2 ^ up % 2 ^ 64 < 2 ^ 63) × (1193 ≤ e - up)

@@ -289,6 +289,17 @@ one-more hi d h = mul-assoc hi 2 (2 ^ (63 - d)) ∙ ap (λ (x : ℕ). hi * x) (s
     up : (d : ℕ) → d < 64 → suc (63 - d) ≡ 64 - d
     up d h = omega arith
 
+-- a word shifted right within two words, where what is shifted out of the upper one is kept in the lower one
+pub shifted-in : (n d : ℕ) → d < 64 → words (n / 2 ^ d) (n * 2 ^ (64 - d) % 2 ^ 64) ≡ n * 2 ^ (64 - d)
+shifted-in n d h =
+    let p = 2 ^ d in
+    let u = 2 ^ (64 - d) in
+    ap₂ (λ (b x : ℕ). n / p * b + x) (sym (weight d h)) (near-split p u (2 ^ 64) n 0 (pow-pos d) (weight d h) (pow-pos 64))
+    ∙ regroup (n / p) (n % p) u p ∙ ap (λ (x : ℕ). x * u) (div-add-mod' n p)
+  where
+    regroup : (q r u p : ℕ) → q * (u * p) + r * u ≡ (q * p + r) * u
+    regroup q r u p = omega arith
+
 pub near-low-fits : (hi lo d : ℕ) → lo < 2 ^ 64 → d < 64 → Fits w64 (near-low-of hi lo d)
 near-low-fits hi lo d l h = record {
   fits = subst (λ (x : ℕ). x % 2 ^ 64 + lo / 2 ^ d < 2 ^ 64) (sym (one-more hi d h)) (near-low (2 ^ d) (2 ^ (64 - d)) (2 ^ 64) hi lo (pow-pos d) (weight d h) l);
@@ -370,26 +381,49 @@ marked (suc x) y = one-of (min (suc x) 1 + min y 1) (go x (min y 1)) ∙ sym (on
     go : (x z : ℕ) → 0 < min (suc x) 1 + z
     go x z = omega arith
 
--- a shift by a word and more
+-- a shift by a word and more: what is left, and what is shifted out
+pub far-quotient : (hi lo d : ℕ) → lo < 2 ^ 64 → words hi lo / 2 ^ (64 + d) ≡ hi / 2 ^ d
+far-quotient hi lo d l = sym (shr-shr (words hi lo) 64 d) ∙ ap (λ (x : ℕ). x / 2 ^ d) (digits-div hi l)
+
+far-rest : (hi lo d : ℕ) → lo < 2 ^ 64 → words hi lo % 2 ^ (64 + d) ≡ words (hi % 2 ^ d) lo
+far-rest hi lo d l =
+    ap (λ (x : ℕ). words hi lo % 2 ^ x) (add-comm 64 d)
+    ∙ mod-pow-add (words hi lo) d 64
+    ∙ ap₂ (λ (x y : ℕ). x % 2 ^ d * 2 ^ 64 + y) (digits-div hi l) (digits-mod hi l)
+
 pub far-is : (hi lo d m n k : ℕ) → hi < 2 ^ 64 → lo < 2 ^ 64 → m ≡ min (hi - hi / 2 ^ d * 2 ^ d % 2 ^ 64) 1 → n ≡ min lo 1 → k ≡ min (hi / 2 ^ d % 2 + (m + n)) 1
     → hi / 2 ^ d / 2 * 2 + k ≡ jammed (words hi lo) (64 + d + 1)
 far-is hi lo d m n k h l e f g =
-    let q : words hi lo / 2 ^ (64 + d) ≡ hi / 2 ^ d = sym (shr-shr (words hi lo) 64 d) ∙ ap (λ (x : ℕ). x / 2 ^ d) (digits-div hi l) in
-    let r : words hi lo % 2 ^ (64 + d) ≡ words (hi % 2 ^ d) lo =
-    ap (λ (x : ℕ). words hi lo % 2 ^ x) (add-comm 64 d)
-    ∙ mod-pow-add (words hi lo) d 64
-    ∙ ap₂ (λ (x y : ℕ). x % 2 ^ d * 2 ^ 64 + y) (digits-div hi l) (digits-mod hi l) in
     let out : min (m + n) 1 ≡ min (words hi lo % 2 ^ (64 + d)) 1 =
     ap₂ (λ (x y : ℕ). min (x + y) 1) (e ∙ ap (λ (x : ℕ). min x 1) (cut-rest hi d h)) f
     ∙ marked (hi % 2 ^ d) lo
-    ∙ ap (λ (x : ℕ). min x 1) (sym r) in
+    ∙ ap (λ (x : ℕ). min x 1) (sym (far-rest hi lo d l)) in
     ap (λ (x : ℕ). hi / 2 ^ d / 2 * 2 + x) (g ∙ once (hi / 2 ^ d % 2) (m + n) ∙ ap (λ (x : ℕ). min (hi / 2 ^ d % 2 + x) 1) out)
     ∙ ap (λ (x : ℕ). x + min (hi / 2 ^ d % 2 + min (words hi lo % 2 ^ (64 + d)) 1) 1) (mul-comm (hi / 2 ^ d / 2) 2)
-    ∙ ap (λ (x : ℕ). 2 * (x / 2) + min (x % 2 + min (words hi lo % 2 ^ (64 + d)) 1) 1) (sym q)
+    ∙ ap (λ (x : ℕ). 2 * (x / 2) + min (x % 2 + min (words hi lo % 2 ^ (64 + d)) 1) 1) (sym (far-quotient hi lo d l))
     ∙ next-digit (words hi lo) (64 + d)
   where
     once : (b t : ℕ) → min (b + t) 1 ≡ min (b + min t 1) 1
     once b t = omega arith
+
+-- the same with the sticky digit by itself
+pub below-is : (hi lo d k : ℕ) → hi < 2 ^ 64 → lo < 2 ^ 64 → k ≡ min (words (hi - hi / 2 ^ d * 2 ^ d % 2 ^ 64) lo) 1 → 2 * (hi / 2 ^ d) + k ≡ jammed (words hi lo) (64 + d)
+below-is hi lo d k h l e =
+    ap (λ (x : ℕ). 2 * (hi / 2 ^ d) + x) (e ∙ ap (λ (x : ℕ). min (words x lo) 1) (cut-rest hi d h))
+    ∙ ap₂ (λ (q r : ℕ). 2 * q + min r 1) (sym (far-quotient hi lo d l)) (sym (far-rest hi lo d l))
+
+-- a number of two words is marked by its upper one where the lower one is 0, and else at once
+pub both-low : (hi lo m : ℕ) → m ≡ min hi 1 → lo ≡ 0 → m ≡ min (words hi lo) 1
+both-low hi lo m e z = go hi lo m e z ∙ marked hi lo
+  where
+    go : (hi lo m : ℕ) → m ≡ min hi 1 → lo ≡ 0 → m ≡ min (min hi 1 + min lo 1) 1
+    go hi lo m e z = omega arith
+
+pub both-high : (hi lo : ℕ) → (lo ≡ 0 → ⊥) → 1 ≡ min (words hi lo) 1
+both-high hi lo z = go hi lo z ∙ marked hi lo
+  where
+    go : (hi lo : ℕ) → (lo ≡ 0 → ⊥) → 1 ≡ min (min hi 1 + min lo 1) 1
+    go hi lo z = omega arith
 
 pub far-again : (m d : ℕ) → 64 ≤ d → jammed m (64 + (d - 64) + 1) ≡ jammed m (d + 1)
 far-again m d h = ap (jammed m) (join d h)

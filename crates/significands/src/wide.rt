@@ -46,7 +46,7 @@ fn lower(a: u64, b: u64) -> u64
     std::num::wrapping_add_u64(cross << 32, a0 * b0)
 }
 
-// v + w. `ieee::sum::sum` shows that the sum fits two words.
+// v + w. `ieee::sum::sum` and `ieee::open::step` show that the sum fits two words.
 pub fn plus(vh: u64, vl: u64, wh: u64, wl: u64) -> Pair
     requires { ⌜ words vh vl + words wh wl < 2 ^ 128 ⌝ }
     ensures { λ r. ⌜ words (r .hi) (r .lo) ≡ words vh vl + words wh wl ⌝ }
@@ -150,4 +150,24 @@ pub fn jam_far(hi: u64, lo: u64, d: u64) -> u64
     let high = hi >> d;
     let out = mark(hi - (high << d)) + mark(lo);
     high / 2 * 2 + mark(high % 2 + out)
+}
+
+// v shifted right by a word and d more: what is left of it, and as the lower word the sticky digit, 1
+// where a digit 1 was shifted out. `ieee::open::step` shows that it shifts by less than two words.
+pub fn jam_below(hi: u64, lo: u64, d: u64) -> Pair
+    requires { ⌜ d < 64 ⌝ }
+    ensures { λ r. ⌜ (2 * r .hi + r .lo ≡ jammed (words hi lo) (64 + d)) × (r .lo ≤ 1) ⌝ }
+{
+    let high = hi >> d;
+    Pair {
+        hi: high,
+        lo: mark_both(hi - (high << d), lo),
+    }
+}
+
+// 0 where both words are 0, and 1 for any other number.
+fn mark_both(hi: u64, lo: u64) -> u64
+    ensures { λ r. ⌜ r ≡ min (words hi lo) 1 ⌝ }
+{
+    if lo == 0 { mark(hi) } else { 1 }
 }

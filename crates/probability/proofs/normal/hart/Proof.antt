@@ -9,6 +9,12 @@ num-dual-requires c κs = search needs
 den-dual-requires : tie.Need-den-dual-requires
 den-dual-requires c κs = search needs
 
+ordinary-requires : tie.Need-ordinary-requires
+ordinary-requires c κs = search needs
+
+quotient-requires : tie.Need-quotient-requires
+quotient-requires c κs = c .before .ordinary .ensures (c .if2 .taken)
+
 num-requires : tie.Need-num-requires
 num-requires c κs = search needs
 
@@ -19,7 +25,21 @@ returns : tie.Need-returns
 returns c = rw (c .before .before .if1 .taken) (cc)
 
 returns-2 : tie.Need-returns-2
-returns-2 c = rw (c .before .before .if1 .left) (cc)
+returns-2 c = rw (c .before .before .before .if1 .left) (c .quotient .ensures)
+
+returns-3 : tie.Need-returns-3
+returns-3 c = rw (c .before .before .before .before .if1 .left) (cc)
 
 pub hart-spec : {M : Type 1} → statement M
-hart-spec = tie.close (tie.spec num-dual-requires den-dual-requires num-requires den-requires returns returns-2)
+hart-spec =
+    tie.close
+    (tie.spec
+    num-dual-requires
+    den-dual-requires
+    ordinary-requires
+    quotient-requires
+    num-requires
+    den-requires
+    returns
+    returns-2
+    returns-3)
