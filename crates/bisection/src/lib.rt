@@ -1,5 +1,5 @@
-// bisection.rs: the parts of a volatility fit that know no instrument. The loop itself is in `calibration`,
-// and the objective it asks in `objectives`.
+// bisection.rs: the parts of a volatility fit that know no instrument. The loop itself is in `solver`, and
+// the objective it asks in `objectives`.
 mod halving;
 mod result;
 

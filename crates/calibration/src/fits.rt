@@ -11,7 +11,6 @@ ghost use Rattle.bisection.specs.Solve.{solveOf};
 ghost use Rattle.objectives.specs.Objective.{capletObjective, swaptionObjective};
 ghost use Rattle.calibration.specs.Fits.{strikeWrong, capletRules, swaptionRules, capletFitted, capletFitOutcome, swaptionFitted, swaptionFitOutcome};
 ghost use Rattle.calibration.specs.Demand3.{CapletHeld, CapletNeverSo, SwaptionHeld, RefusedSo};
-use super::solve;
 use bisection::Fitted;
 use lists::Answer;
 use lists::Faults;
@@ -152,7 +151,7 @@ fn caplet_worked(
     let price = objectives::caplet_market(quote, strike, t, end, vol, p_t, p_end);
     let none = [0.0; 1];
     let empty = &none[..0];
-    let fitted = solve::solve(caplet, price, empty, empty, empty, empty);
+    let fitted = solver::solve(caplet, price, empty, empty, empty, empty);
     bisection::finished(fitted)
 }
 
@@ -333,6 +332,6 @@ fn swaption_worked(
         p_t,
     };
     let price = objectives::swaption_market(quote, strike, t, vol, accruals, p_t, p);
-    let fitted = solve::solve(swaption, price, &c[..n], &b[..n], &drift[..n], p);
+    let fitted = solver::solve(swaption, price, &c[..n], &b[..n], &drift[..n], p);
     bisection::finished(fitted)
 }

@@ -1,7 +1,6 @@
 // hullwhitecalibration.rs, the fits: the volatility of a caplet or a swaption, fitted to a quote (kinds 8 to
 // 11).
 mod fits;
-mod solve;
 
 pub use fits::caplet_fitted;
 pub use fits::fit_caplet;

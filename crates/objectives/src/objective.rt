@@ -104,7 +104,7 @@ fn value_of(swaption: Swaption) -> Price
     }
 }
 
-// The residual at a sigma, or why there is none: the model's refusal, or a NaN. `calibration::solve` and its
+// The residual at a sigma, or why there is none: the model's refusal, or a NaN. `solver::solve` and its
 // halvings have the lists of one length of at most 64.
 pub fn residual(
     instrument: Instrument,

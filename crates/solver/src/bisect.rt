@@ -6,7 +6,7 @@ ghost use lib.ListN.{length};
 ghost use Rattle.bisection.specs.Result.{fittedOutcome};
 ghost use Rattle.bisection.specs.Solve.{unconvergedAt, halvingsFrom, solveOf};
 ghost use Rattle.objectives.specs.Objective.{objectiveOf};
-ghost use Rattle.calibration.specs.Turn.{turnAt, solveAbove};
+ghost use Rattle.solver.specs.Turn.{turnAt, solveAbove};
 use bisection::Ends;
 use bisection::Fit;
 use bisection::Fitted;
@@ -151,8 +151,8 @@ fn solve_above(
     }
 }
 
-// The residual at 1e-8 comes first. `swaption_worked` has the lists of one length of at most 64, and those of
-// `caplet_worked` are empty.
+// The residual at 1e-8 comes first. `calibration::swaption_worked` has the lists of one length of at most 64,
+// and those of `calibration::caplet_worked` are empty.
 pub fn solve(
     instrument: Instrument,
     market: f64,

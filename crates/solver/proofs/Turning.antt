@@ -11,8 +11,8 @@ use Rattle.bisection.specs.declared.halving.Ends.{Ends}
 use Rattle.bisection.specs.declared.result.Fit.{Fit}
 use Rattle.bisection.specs.Solve.{closeEnough, residualAt, movedTo, unconvergedAt, halvingsFrom}
 use Rattle.bisection.proofs.Steps.{mid, Met, stopped, close, away, met, halving-stopped, halving-close, halving-away, stays}
-use Rattle.calibration.specs.declared.solve.Turn.the-variants as T
-use Rattle.calibration.specs.Turn.{turned, turnAt}
+use Rattle.solver.specs.declared.bisect.Turn.the-variants as T
+use Rattle.solver.specs.Turn.{turned, turnAt}
 
 -- ---- a turn, by what is met at the midpoint
 module _ (f : Float → Outcome Float) (e : Ends) where

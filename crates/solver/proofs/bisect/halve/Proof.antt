@@ -1,8 +1,8 @@
--- `calibration::solve::halve` meets its contract: a refusal, a residual that is close enough, or ends that are moved. Assumes nothing.
-use Rattle.calibration.proofs.Residuals.{halve-refused, halve-converged, halve-moved}
+-- `solver::bisect::halve` meets its contract: a refusal, a residual that is close enough, or ends that are moved. Assumes nothing.
+use Rattle.solver.proofs.Residuals.{halve-refused, halve-converged, halve-moved}
 use borrow.Author.Needs.{needs}
-use Rattle.calibration.proofs.solve.halve.Statement.{statement}
-use Rattle.calibration.proofs.solve.halve.Tie as tie
+use Rattle.solver.proofs.bisect.halve.Statement.{statement}
+use Rattle.solver.proofs.bisect.halve.Tie as tie
 
 midpoint-requires : tie.Need-midpoint-requires
 midpoint-requires c κs = search needs

@@ -1,8 +1,8 @@
--- `calibration::solve::unconverged` meets its contract: the residual at the midpoint, or its refusal. Assumes nothing.
-use Rattle.calibration.proofs.Residuals.{unconverged-refused, unconverged-there}
+-- `solver::bisect::unconverged` meets its contract: the residual at the midpoint, or its refusal. Assumes nothing.
+use Rattle.solver.proofs.Residuals.{unconverged-refused, unconverged-there}
 use borrow.Author.Needs.{needs}
-use Rattle.calibration.proofs.solve.unconverged.Statement.{statement}
-use Rattle.calibration.proofs.solve.unconverged.Tie as tie
+use Rattle.solver.proofs.bisect.unconverged.Statement.{statement}
+use Rattle.solver.proofs.bisect.unconverged.Tie as tie
 
 midpoint-requires : tie.Need-midpoint-requires
 midpoint-requires c κs = search needs

@@ -7,8 +7,8 @@ use Rattle.lists.specs.Refusals.{Outcome, served, refused, following}
 use Rattle.bisection.specs.declared.halving.Ends.{Ends}
 use Rattle.bisection.specs.declared.result.Fit.{Fit}
 use Rattle.bisection.specs.Solve.{highest, sameSign, closeEnough, residualAt, movedTo, halvingsFrom, endsOf}
-use Rattle.calibration.specs.declared.solve.Turn.{Turn}
-use Rattle.calibration.specs.declared.solve.Turn.the-variants as T
+use Rattle.solver.specs.declared.bisect.Turn.{Turn}
+use Rattle.solver.specs.declared.bisect.Turn.the-variants as T
 
 -- what a residual at the midpoint sigma makes of the ends
 abbrev pub turned : Ends → Float → Outcome Float → Turn

@@ -1,9 +1,9 @@
--- `calibration::solve::solve_above` meets its contract: a refusal at 2.0, residuals of one sign, or the halvings. Assumes nothing.
+-- `solver::bisect::solve_above` meets its contract: a refusal at 2.0, residuals of one sign, or the halvings. Assumes nothing.
 use mathlib.Core.Path.{_∙_}
-use Rattle.calibration.proofs.Residuals.{above-refused, above-alike, above-apart}
+use Rattle.solver.proofs.Residuals.{above-refused, above-alike, above-apart}
 use borrow.Author.Needs.{needs}
-use Rattle.calibration.proofs.solve.solve_above.Statement.{statement}
-use Rattle.calibration.proofs.solve.solve_above.Tie as tie
+use Rattle.solver.proofs.bisect.solve_above.Statement.{statement}
+use Rattle.solver.proofs.bisect.solve_above.Tie as tie
 
 residual-requires : tie.Need-residual-requires
 residual-requires c κs = search needs

@@ -1,12 +1,12 @@
--- `calibration::solve::halvings` meets its contract. The loop's invariant: the halvings left, from the ends so far, give what all 200 give from the start. Assumes nothing.
+-- `solver::bisect::halvings` meets its contract. The loop's invariant: the halvings left, from the ends so far, give what all 200 give from the start. Assumes nothing.
 use mathlib.Core.Path.{_≡_, refl, sym, _∙_}
 use Prim.Native.Nat.{_-_, _≤_}
 use Rattle.bisection.specs.Solve.{halvingsFrom}
 use Rattle.objectives.specs.Objective.{objectiveOf}
-use Rattle.calibration.proofs.Turning.{turn-unmoved, count-refused, count-converged, count-moved, count-done}
+use Rattle.solver.proofs.Turning.{turn-unmoved, count-refused, count-converged, count-moved, count-done}
 use borrow.Author.Needs.{needs}
-use Rattle.calibration.proofs.solve.halvings.Statement.{statement}
-use Rattle.calibration.proofs.solve.halvings.Tie as tie
+use Rattle.solver.proofs.bisect.halvings.Statement.{statement}
+use Rattle.solver.proofs.bisect.halvings.Tie as tie
 
 abbrev Inv-loop : tie.InvT-loop
 Inv-loop instrument market c b drift p ends₀ made₀ ends made = (made ≤ 200) × (halvingsFrom (objectiveOf instrument market c b drift p) (200 - made) made ends ≡ halvingsFrom (objectiveOf instrument market c b drift p) 200 0 ends₀)

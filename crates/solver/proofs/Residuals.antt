@@ -10,9 +10,9 @@ use Rattle.lists.specs.declared.refusals.Price.the-variants as P
 use Rattle.lists.specs.Refusals.{Outcome, served, refused, outcomeOf}
 use Rattle.bisection.specs.declared.halving.Ends.{Ends}
 use Rattle.bisection.specs.Solve.{lowest, highest, sameSign, closeEnough, residualAt, movedTo, unconvergedAt, halvingsFrom, endsOf, solveOf}
-use Rattle.calibration.specs.declared.solve.Turn.the-variants as T
-use Rattle.calibration.specs.Turn.{turnAt, solveAbove}
-use Rattle.calibration.proofs.Literals.{lowest-is, highest-is}
+use Rattle.solver.specs.declared.bisect.Turn.the-variants as T
+use Rattle.solver.specs.Turn.{turnAt, solveAbove}
+use Rattle.solver.proofs.Literals.{lowest-is, highest-is}
 
 -- ---- a turn, and the last midpoint, by the residual there
 module _ (f : Float → Outcome Float) (e : Ends) {sigma : Float} (s : sigma ≡ midpointOf (e .low) (e .high)) (r : Price) (h : outcomeOf r ≡ residualAt f sigma) where

@@ -1,9 +1,9 @@
--- `calibration::solve::solve` meets its contract: a refusal at 1e-8, or what follows the residual there. Assumes nothing.
+-- `solver::bisect::solve` meets its contract: a refusal at 1e-8, or what follows the residual there. Assumes nothing.
 use mathlib.Core.Path.{_∙_}
-use Rattle.calibration.proofs.Residuals.{start-refused, start-goes-on}
+use Rattle.solver.proofs.Residuals.{start-refused, start-goes-on}
 use borrow.Author.Needs.{needs}
-use Rattle.calibration.proofs.solve.solve.Statement.{statement}
-use Rattle.calibration.proofs.solve.solve.Tie as tie
+use Rattle.solver.proofs.bisect.solve.Statement.{statement}
+use Rattle.solver.proofs.bisect.solve.Tie as tie
 
 residual-requires : tie.Need-residual-requires
 residual-requires c κs = search needs
