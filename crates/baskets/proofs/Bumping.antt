@@ -19,10 +19,11 @@ use Rattle.bisection.specs.declared.result.Fitted.the-variants as F
 use Rattle.bisection.specs.Result.{fittedOutcome}
 use Rattle.objectives.specs.declared.market.Quote.{Quote}
 use Rattle.calibration.specs.Fits.{capletFitted}
-use Rattle.baskets.specs.Entries.{quoteOf, entriesOf}
+use Rattle.entries.specs.Entries.{quoteOf, entriesOf}
+use Rattle.entries.proofs.Walks.{from, entryAt, next-entry, no-entries}
 use Rattle.baskets.specs.Basket.{diagonalOf, statusOf, Bumps, bumpOf, withBump, bumpsOf}
 use Rattle.baskets.proofs.Literals.{bump-is}
-use Rattle.baskets.proofs.Walks.{longer, from, entryAt, next-entry, no-entries}
+use Rattle.baskets.proofs.Walks.{longer}
 
 -- ---- one entry's bumped fit
 module _ (alpha : Float) (xs fs : List Float) (strike t S vol sigma : Float) (n : Bool) {quote : Quote} (q : quote ≡ quoteOf n) (fitted : Fitted) (h : fittedOutcome fitted ≡ capletFitted quote alpha xs fs strike t S (vol ⊕ ofBits binary64 0x3eb0_c6f7_a0b5_ed8d)) where

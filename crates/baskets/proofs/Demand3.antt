@@ -15,9 +15,9 @@ use Rattle.lists.specs.Refusals.{Outcome, served, refused, answerNumber, answer
 use Rattle.lists.proofs.Outcomes.{not-both, served-is}
 use Rattle.terms.proofs.Callers.{past-rules, ends-so, ends-otherwise}
 use Rattle.bisection.specs.declared.result.Fit.{Fit}
+use Rattle.entries.specs.Entries.{Entry, entriesOf, rulesOn}
 use Rattle.baskets.specs.declared.call.Basket.{Basket}
 use Rattle.baskets.specs.declared.call.BasketFit.{BasketFit}
-use Rattle.baskets.specs.Entries.{Entry, entriesOf, rulesOn}
 use Rattle.baskets.specs.Basket.{fitOf, bump, diagonalOf, statusOf, countOf, Records, withFit, fitsOf, Bumps, bumpOf, withBump, bumpsOf, padded, basketFrom, noBasket, basketTold, fittedBasket, basketOf}
 use Rattle.baskets.specs.Demand3.{PlaceHeld, BasketHeld, BasketNeverSo}
 use Rattle.baskets.proofs.Held.{fit-held, fit-never-so}

@@ -15,9 +15,10 @@ use Rattle.bisection.specs.declared.result.Fitted.the-variants as F
 use Rattle.bisection.specs.Result.{fittedOutcome}
 use Rattle.objectives.specs.declared.market.Quote.{Quote}
 use Rattle.calibration.specs.Fits.{capletFitted}
-use Rattle.baskets.specs.Entries.{quoteOf, entriesOf}
+use Rattle.entries.specs.Entries.{quoteOf, entriesOf}
+use Rattle.entries.proofs.Walks.{from, entryAt, next-entry, no-entries}
 use Rattle.baskets.specs.Basket.{statusOf, countOf, Records, withFit, fitsOf}
-use Rattle.baskets.proofs.Walks.{longer, from, entryAt, next-entry, no-entries}
+use Rattle.baskets.proofs.Walks.{longer}
 
 -- ---- one entry's fit, as the code takes it apart
 module _ (alpha : Float) (xs fs : List Float) (strike t S vol : Float) {quote asked : Quote} (q : quote ≡ asked) (fitted : Fitted) (h : fittedOutcome fitted ≡ capletFitted quote alpha xs fs strike t S vol) where

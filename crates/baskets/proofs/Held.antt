@@ -22,7 +22,7 @@ use Rattle.bisection.proofs.Demand3.{demand3}
 use Rattle.objectives.specs.declared.market.Quote.{Quote}
 use Rattle.objectives.specs.Objective.{capletObjective}
 use Rattle.calibration.specs.Fits.{capletFitted}
-use Rattle.baskets.specs.Entries.{Entry}
+use Rattle.entries.specs.Entries.{Entry}
 use Rattle.baskets.specs.Basket.{fitOf}
 use Rattle.baskets.specs.Demand3.{FitHeld}
 

@@ -18,8 +18,8 @@ use Rattle.lists.specs.Checks.{inOrder}
 use Rattle.lists.specs.Faults.{curveFaults}
 use Rattle.lists.proofs.Outcomes.{neither}
 use Rattle.lists.proofs.CurveLaws.{curve-rises}
+use Rattle.entries.specs.Entries.{Entry, entriesOf, sizeWrong, basketRules, rulesOn}
 use Rattle.baskets.specs.declared.call.BasketFit.{BasketFit}
-use Rattle.baskets.specs.Entries.{Entry, entriesOf, sizeWrong, basketRules, rulesOn}
 use Rattle.baskets.specs.Basket.{Records, fitsOf, Bumps, bumpsOf, padded, basketTold, fittedBasket, basketOf}
 
 -- ---- lists of one length have an entry a place

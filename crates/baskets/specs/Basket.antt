@@ -13,9 +13,9 @@ use Rattle.lists.specs.declared.refusals.Refusal.the-variants as R
 use Rattle.lists.specs.Refusals.{Outcome, served, refused, answerOf, valueOr, unless, following}
 use Rattle.bisection.specs.declared.result.Fit.{Fit}
 use Rattle.calibration.specs.Fits.{capletFitted}
+use Rattle.entries.specs.Entries.{Entry, entriesOf, rulesOn}
 use Rattle.baskets.specs.declared.call.Basket.{Basket}
 use Rattle.baskets.specs.declared.call.BasketFit.{BasketFit}
-use Rattle.baskets.specs.Entries.{Entry, entriesOf, rulesOn}
 
 -- ---- one entry
 

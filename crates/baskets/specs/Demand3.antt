@@ -14,9 +14,9 @@ use Rattle.lookups.specs.Lookups.{just, factorAt}
 use Rattle.bisection.specs.declared.result.Fit.{Fit}
 use Rattle.bisection.specs.Demand3.{Assured}
 use Rattle.objectives.specs.Objective.{capletObjective}
+use Rattle.entries.specs.Entries.{Entry, entriesOf}
 use Rattle.baskets.specs.declared.call.Basket.{Basket}
 use Rattle.baskets.specs.declared.call.BasketFit.{BasketFit}
-use Rattle.baskets.specs.Entries.{Entry, entriesOf}
 use Rattle.baskets.specs.Basket.{fitOf, bump, statusOf, countOf, diagonalOf}
 
 -- an entry's fit at a quoted volatility

@@ -1,4 +1,3 @@
 -- What the contracts of a basket of caplets say.
-pub mod Entries
 pub mod Basket
 pub mod Demand3

@@ -5,10 +5,9 @@ ghost use Prim.Native.Nat.{_≤_};
 ghost use lib.ListN.{length};
 ghost use Rattle.lists.specs.Checks.{inOrder};
 ghost use Rattle.lists.specs.Refusals.{refused};
-ghost use Rattle.baskets.specs.Entries.{entriesOf};
+ghost use Rattle.entries.specs.Entries.{entriesOf};
 ghost use Rattle.baskets.specs.Basket.{noBasket, basketTold, fittedBasket, basketOf};
 ghost use Rattle.baskets.specs.Demand3.{BasketHeld, BasketNeverSo};
-use super::rules;
 use super::walk;
 use lists::Answer;
 use lists::Refusal;
@@ -71,13 +70,13 @@ pub fn fit_basket(
     ensures bracket { λ r. ⌜ BasketNeverSo r ⌝ }
 {
     let curve = lists::curve_faults(times, factors);
-    let answer = rules::basket_rules(
+    let answer = entries::basket_rules(
         curve,
         alpha,
-        rules::size_wrong(normals, strikes, starts, ends, vols),
-        rules::numbers_wrong(strikes, starts, ends, vols),
-        rules::times_wrong(starts, ends),
-        rules::domain_wrong(normals, strikes, vols),
+        entries::size_wrong(normals, strikes, starts, ends, vols),
+        entries::numbers_wrong(strikes, starts, ends, vols),
+        entries::times_wrong(starts, ends),
+        entries::domain_wrong(normals, strikes, vols),
     );
     if let Answer::Refused(refusal) = answer {
         return turned_down(refusal);

@@ -1,6 +1,5 @@
 // calibrate_to_instruments over a basket of caplets: every entry's fit, then every entry's bumped fit.
 mod call;
-mod rules;
 mod walk;
 
 pub use call::Basket;

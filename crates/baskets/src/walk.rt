@@ -5,9 +5,8 @@ ghost use lib.ListN.{length};
 ghost use Rattle.lists.specs.Checks.{inOrder};
 ghost use Rattle.lists.specs.Refusals.{served, after};
 ghost use Rattle.bisection.specs.Result.{fittedOutcome};
-ghost use Rattle.baskets.specs.Entries.{quoteOf, entriesOf};
+ghost use Rattle.entries.specs.Entries.{quoteOf, entriesOf};
 ghost use Rattle.baskets.specs.Basket.{statusOf, diagonalOf, fitsOf, bumpOf, bumpsOf};
-use super::rules;
 use bisection::Fitted;
 use lists::Answer;
 use lists::Refusal;
@@ -46,7 +45,7 @@ pub fn first_fits(
     let mut i = 0;
     while i < normals.len() {
         let fitted = calibration::caplet_fitted(
-            rules::quote_of(normals[i]),
+            entries::quote_of(normals[i]),
             alpha,
             times,
             factors,
@@ -86,7 +85,7 @@ fn bumped(
     requires { ⌜ inOrder true (now times) ≡ true ⌝ }
     ensures { λ r. ⌜ fittedOutcome r ≡ bumpOf alpha (now (times .entry)) (now (factors .entry)) (record { quote = quoteOf normal; strike = strike; start = start; end = end; vol = vol }) sigma ⌝ }
 {
-    let quote = rules::quote_of(normal);
+    let quote = entries::quote_of(normal);
     let fitted = calibration::caplet_fitted(
         quote,
         alpha,

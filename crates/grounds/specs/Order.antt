@@ -24,7 +24,7 @@ use Rattle.swaptions.specs.Model.{modelRules}
 use Rattle.pricers.specs.Pricer.{pricerRules}
 use Rattle.objectives.specs.declared.market.Quote.{Quote}
 use Rattle.calibration.specs.Fits.{capletRules, swaptionRules}
-use Rattle.baskets.specs.Entries.{basketRules}
+use Rattle.entries.specs.Entries.{basketRules}
 
 -- numbers that rise from rule to rule, all above n
 abbrev rising : ℕ → List Rule → Bool

@@ -2,7 +2,7 @@
 use mathlib.Core.Path.{_≡_}
 use denote.Ref.{now}
 use Rattle.lists.specs.Refusals.{firstOf}
-use Rattle.baskets.specs.Entries.{rulesOn}
+use Rattle.entries.specs.Entries.{rulesOn}
 use Rattle.baskets.proofs.Outcomes.{rules-on, turned-down, let-through, lists-fit}
 use Rattle.baskets.proofs.Demand3.{basket-held, basket-never-so}
 use borrow.Author.Needs.{needs}

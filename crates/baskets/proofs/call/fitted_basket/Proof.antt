@@ -3,7 +3,7 @@ use mathlib.Core.Path.{sym}
 use mathlib.Core.List.{List}
 use denote.Ref.{now}
 use lib.Ieee.{Float}
-use Rattle.baskets.specs.Entries.{entriesOf}
+use Rattle.entries.specs.Entries.{entriesOf}
 use Rattle.baskets.specs.Basket.{Records, Bumps}
 use Rattle.baskets.proofs.Lending.{lent-is, back-fits, back-is, values-are, padded-is}
 use Rattle.baskets.proofs.Outcomes.{counted, fits-refused, bumps-refused, basket-served}

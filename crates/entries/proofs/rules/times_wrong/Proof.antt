@@ -1,12 +1,12 @@
--- `baskets::rules::times_wrong` meets its contract. The loop's invariant: the entries from place i on break rule 5 where some entry does. Assumes nothing.
+-- `entries::rules::times_wrong` meets its contract. The loop's invariant: the entries from place i on break rule 5 where some entry does. Assumes nothing.
 use mathlib.Core.Path.{_≡_, refl, sym, _∙_}
 use Prim.Native.Nat.{_≤_, _-_}
 use lib.ListN.{length, drop}
-use Rattle.baskets.specs.Entries.{timesWrong}
-use Rattle.baskets.proofs.Walks.{times-turn, times-stop, times-short, times-end}
+use Rattle.entries.specs.Entries.{timesWrong}
+use Rattle.entries.proofs.Walks.{times-turn, times-stop, times-short, times-end}
 use borrow.Author.Needs.{needs}
-use Rattle.baskets.proofs.rules.times_wrong.Statement.{statement}
-use Rattle.baskets.proofs.rules.times_wrong.Tie as tie
+use Rattle.entries.proofs.rules.times_wrong.Statement.{statement}
+use Rattle.entries.proofs.rules.times_wrong.Tie as tie
 
 abbrev Inv-loop : tie.InvT-loop
 Inv-loop starts ends i₀ i = (i ≤ length starts) × (timesWrong (drop i starts) (drop i ends) ≡ timesWrong starts ends)

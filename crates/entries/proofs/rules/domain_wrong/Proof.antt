@@ -1,12 +1,12 @@
--- `baskets::rules::domain_wrong` meets its contract. The loop's invariant: the entries from place i on break rule 6 where some entry does. Assumes nothing.
+-- `entries::rules::domain_wrong` meets its contract. The loop's invariant: the entries from place i on break rule 6 where some entry does. Assumes nothing.
 use mathlib.Core.Path.{_≡_, refl, sym, _∙_}
 use Prim.Native.Nat.{_≤_, _-_}
 use lib.ListN.{length, drop}
-use Rattle.baskets.specs.Entries.{domainWrong}
-use Rattle.baskets.proofs.Walks.{domain-turn, domain-stop, domain-short, domain-shorter, domain-end}
+use Rattle.entries.specs.Entries.{domainWrong}
+use Rattle.entries.proofs.Walks.{domain-turn, domain-stop, domain-short, domain-shorter, domain-end}
 use borrow.Author.Needs.{needs}
-use Rattle.baskets.proofs.rules.domain_wrong.Statement.{statement}
-use Rattle.baskets.proofs.rules.domain_wrong.Tie as tie
+use Rattle.entries.proofs.rules.domain_wrong.Statement.{statement}
+use Rattle.entries.proofs.rules.domain_wrong.Tie as tie
 
 abbrev Inv-loop : tie.InvT-loop
 Inv-loop normals strikes vols i₀ i = (i ≤ length normals) × (domainWrong (drop i normals) (drop i strikes) (drop i vols) ≡ domainWrong normals strikes vols)

@@ -1,8 +1,8 @@
--- `baskets::rules::basket_rules` meets its contract: whether each rule applies is what specs/ says, line by line. Assumes nothing.
+-- `entries::rules::basket_rules` meets its contract: whether each rule applies is what specs/ says, line by line. Assumes nothing.
 use Rattle.lists.specs.Order.{inTurn, in-turn}
 use borrow.Author.Needs.{needs}
-use Rattle.baskets.proofs.rules.basket_rules.Statement.{statement}
-use Rattle.baskets.proofs.rules.basket_rules.Tie as tie
+use Rattle.entries.proofs.rules.basket_rules.Statement.{statement}
+use Rattle.entries.proofs.rules.basket_rules.Tie as tie
 
 is-finite-requires : tie.Need-is-finite-requires
 is-finite-requires c κs = search needs

@@ -1,7 +1,7 @@
 // Rules 1 to 7 over all entries of a basket.
 ghost use mathlib.Core.Path.{_≡_};
 ghost use Rattle.lists.specs.Refusals.{firstOf};
-ghost use Rattle.baskets.specs.Entries.{quoteOf, sizeWrong, numbersWrong, timesWrong, domainWrong, basketRules};
+ghost use Rattle.entries.specs.Entries.{quoteOf, sizeWrong, numbersWrong, timesWrong, domainWrong, basketRules};
 use calibration::Quote;
 use lists::Answer;
 use lists::Faults;

@@ -1,8 +1,8 @@
--- `baskets::rules::numbers_wrong` meets its contract: each list is asked. Assumes nothing.
+-- `entries::rules::numbers_wrong` meets its contract: each list is asked. Assumes nothing.
 
 use borrow.Author.Needs.{needs}
-use Rattle.baskets.proofs.rules.numbers_wrong.Statement.{statement}
-use Rattle.baskets.proofs.rules.numbers_wrong.Tie as tie
+use Rattle.entries.proofs.rules.numbers_wrong.Statement.{statement}
+use Rattle.entries.proofs.rules.numbers_wrong.Tie as tie
 
 all-requires : tie.Need-all-requires
 all-requires c κs = search needs

@@ -1,0 +1,2 @@
+-- What the contracts of the rules over a basket's entries say.
+pub mod Entries
