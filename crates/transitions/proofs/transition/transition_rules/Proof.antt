@@ -1,6 +1,6 @@
 -- `transitions::transition::transition_rules` meets its contract: whether each rule applies is what `transitionRules` says, line by line. Assumes nothing.
 use borrow.Author.Needs.{needs}
-use Rattle.lists.specs.Order.{inTurn, in-turn}
+use Rattle.lists.specs.Order.{end, ask, asked}
 use Rattle.transitions.proofs.transition.transition_rules.Statement.{statement}
 use Rattle.transitions.proofs.transition.transition_rules.Tie as tie
 
@@ -32,8 +32,16 @@ and-rule-requires-7 : tie.Need-and-rule-requires-7
 and-rule-requires-7 c κs = search needs
 
 returns : tie.Need-returns
-unfolding inTurn
-returns c = rw (← in-turn _) cc
+returns c =
+    let six = c .before in
+    let five = six .before in
+    let four = five .before in
+    let three = four .before in
+    let two = three .before in
+    let one = two .before .before in
+    let step = one .before .before in
+    let finite = rw (step .before .is-finite .ensures, step .is-finite2 .ensures) at (two .and-rule2 .ensures) in
+    asked _ _ (ask (one .and-rule .ensures) (ask finite (ask (three .and-rule3 .ensures) (ask (four .and-rule4 .ensures) (ask (five .and-rule5 .ensures) (ask (six .and-rule6 .ensures) (ask (c .and-rule7 .ensures) end)))))))
 
 pub transition-rules-spec : {M : Type 1} → statement M
 transition-rules-spec =
