@@ -9,7 +9,7 @@ fused-requires c κs = search needs
 
 returns : tie.Need-returns
 unfolding shiftOf
-returns c = cc
+returns c = c .fused .ensures
 
 pub shift-of-spec : {M : Type 1} → statement M
 shift-of-spec = tie.close (tie.spec fused-requires returns)

@@ -12,7 +12,7 @@ variance-of-requires c κs = search needs
 
 returns : tie.Need-returns
 unfolding stepVariance
-returns c = cc
+returns c = c .variance-of .ensures
 
 pub step-variance-spec : {M : Type 1} → statement M
 step-variance-spec = tie.close (tie.spec int-to-float-start variance-of-requires returns)
