@@ -4,7 +4,7 @@ ghost use mathlib.Core.Bool.{true};
 ghost use Prim.Native.Nat.{_≤_};
 ghost use lib.ListN.{length};
 ghost use Rattle.lists.specs.Checks.{inOrder};
-ghost use Rattle.lists.specs.Refusals.{refused};
+ghost use Rattle.lists.specs.Refusals.{answerNumber, reported, refused};
 ghost use Rattle.entries.specs.Entries.{entriesOf};
 ghost use Rattle.baskets.specs.Basket.{noBasket, basketTold, fittedBasket, basketOf};
 ghost use Rattle.baskets.specs.Demand3.{BasketHeld, BasketNeverSo};
@@ -68,6 +68,7 @@ pub fn fit_basket(
     ensures answer { λ r. ⌜ r ≡ basketTold (basketOf alpha (now (times .entry)) (now (factors .entry)) (now (normals .entry)) (now (strikes .entry)) (now (starts .entry)) (now (ends .entry)) (now (vols .entry))) ⌝ }
     ensures held { λ r. ⌜ BasketHeld alpha (now (times .entry)) (now (factors .entry)) (now (normals .entry)) (now (strikes .entry)) (now (starts .entry)) (now (ends .entry)) (now (vols .entry)) r ⌝ }
     ensures bracket { λ r. ⌜ BasketNeverSo r ⌝ }
+    ensures number { λ r. ⌜ answerNumber (r .answer) ≡ reported noBasket (basketOf alpha (now (times .entry)) (now (factors .entry)) (now (normals .entry)) (now (strikes .entry)) (now (starts .entry)) (now (ends .entry)) (now (vols .entry))) .answer ⌝ }
 {
     let curve = lists::curve_faults(times, factors);
     let answer = entries::basket_rules(

@@ -1,4 +1,4 @@
--- Demand 3, of refusal 10: "no call is refused so on any other ground". The calls of quotes, schedules, models, transitions and paths begin no search, and none of them is refused so, whatever it is given. (The other calls say it in their own contracts, the clause `bracket`: of a search, when it is refused so; of a caplet's fit and a basket, which begin none, that they never are.)
+-- Demand 3, of refusal 10: "no call is refused so on any other ground". The calls of quotes, schedules, options, models, transitions and paths begin no search, and none of them is refused so, whatever it is given. (The other calls say it in their own contracts, the clause `bracket`: of a search, when it is refused so; of a caplet's fit and a basket, which begin none, that they never are.)
 use mathlib.Core.Path.{_≡_, subst}
 use mathlib.Core.Bool.{Bool, true, false, not, cond, _&&_}
 use mathlib.Core.List.{List, [], _∷_}

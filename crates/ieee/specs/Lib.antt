@@ -7,6 +7,6 @@ pub mod Rows
 pub mod Fused
 pub mod WholeRoot
 pub mod Sqrt
--- for private functions' contracts only, as is `stickyRoot` at the end of WholeRoot
+-- for contracts below the public surface only, as is `stickyRoot` at the end of WholeRoot
 pub mod Terms
 pub mod Open

@@ -15,8 +15,8 @@ pub struct Open {
     pub exp: u64,
 }
 
-// A positive x that is no subnormal, taken apart. `probability::normal::hart` has tested its argument,
-// and the other numbers that it opens are literals.
+// A positive x that is no subnormal, taken apart. `probability::normal::quotient` has an ordinary
+// argument, as `hart` has tested, and the other numbers that it opens are literals.
 pub fn opened(x: f64) -> Open
     requires { ⌜ T (not (isNan x)) × (1 ≤ field x) × (field x ≤ 2046) ⌝ }
     ensures { λ r. ⌜ (valueOf (r .sig) (r .exp) ≡ x) × Digits (r .sig) × (r .exp + 1 ≡ field x) ⌝ }

@@ -25,7 +25,7 @@ module _ (ts fs : List Float) where
   pub curve-finite : curveFaults ts fs .«not_finite» ≡ false → (allOf Finite ts ≡ true) × (allOf Finite fs ≡ true)
   curve-finite h = both (allOf Finite ts) (allOf Finite fs) (not-false (allOf Finite ts && allOf Finite fs) h)
 
-  -- rule 4: its times strictly rise, which `factor` requires
+  -- rule 4: its times strictly rise, which `lookups::factor` requires
   pub curve-rises : curveFaults ts fs .order ≡ false → inOrder true ts ≡ true
   curve-rises h = not-false (inOrder true ts) h
 

@@ -1,4 +1,4 @@
--- The other formulas of hullwhitemodel.rs as calls: B, A, zcb_price, zcb_price_volatility, short_rate_variance, the forward rate and theta. "In the formulas `t` is an option time, `T` or `S` a bond time."
+-- The formulas of hullwhitemodel.rs that are no kind, as calls: B, A, zcb_price, zcb_price_volatility, short_rate_variance, the forward rate and theta. "In the formulas `t` is an option time, `T` or `S` a bond time."
 use mathlib.Core.Bool.{cond}
 use mathlib.Core.List.{List}
 use lib.Ieee.{Float, lt}

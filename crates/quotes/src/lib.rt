@@ -1,4 +1,5 @@
-// utils.rs as calls: a quoted volatility's price, Black's and Bachelier's, and the annuity.
+// utils.rs: a quoted volatility's price, Black's and Bachelier's, and the annuity: the formulas on plain
+// numbers, and as calls.
 mod formulas;
 mod rules;
 mod utils;

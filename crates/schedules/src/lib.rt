@@ -1,5 +1,5 @@
-// parameters.rs as calls: the pillar times up to a time, the piecewise variance, and the volatility at a
-// time.
+// parameters.rs: the piecewise variance on plain lists; that, the pillar times up to a time and the
+// volatility at a time as calls.
 mod parameters;
 mod rules;
 mod variance;

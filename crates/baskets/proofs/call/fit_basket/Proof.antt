@@ -1,8 +1,11 @@
 -- `baskets::call::fit_basket` meets its contract: turned down by its rules, or what `fitted_basket` finds; every place of what it serves is held, and it never wants a bracket. Assumes nothing.
-use mathlib.Core.Path.{_≡_}
+use mathlib.Core.Path.{_≡_, ap}
 use denote.Ref.{now}
-use Rattle.lists.specs.Refusals.{firstOf}
+use Rattle.lists.specs.Refusals.{Outcome, firstOf, answerNumber, answerOf}
 use Rattle.entries.specs.Entries.{rulesOn}
+use Rattle.baskets.specs.declared.call.Basket.{Basket}
+use Rattle.baskets.specs.declared.call.BasketFit.{BasketFit}
+use Rattle.baskets.specs.Basket.{basketTold, basketOf}
 use Rattle.baskets.proofs.Outcomes.{rules-on, turned-down, let-through, lists-fit}
 use Rattle.baskets.proofs.Demand3.{basket-held, basket-never-so}
 use borrow.Author.Needs.{needs}
@@ -15,6 +18,10 @@ start r = r .before .before .before .before .before .before .before .before .bef
 
 rules : (r : tie.After-basket-rules) → let a = start r .args in r .basket-rules .result ≡ firstOf (rulesOn (a .alpha) (now (a .times)) (now (a .factors)) (now (a .normals)) (now (a .strikes)) (now (a .starts)) (now (a .ends)) (now (a .vols)))
 rules r = rules-on (start r .args .alpha) (r .before .before .before .before .before .curve-faults .ensures) (r .before .before .before .before .size-wrong .ensures) (r .before .before .before .numbers-wrong .ensures) (r .before .before .times-wrong .ensures) (r .before .domain-wrong .ensures) (r .basket-rules .ensures)
+
+-- ---- the number of what is told
+number-of : {r : BasketFit} (o : Outcome Basket) → r ≡ basketTold o → answerNumber (r .answer) ≡ answerNumber (answerOf o)
+number-of o e = ap (λ (r : BasketFit). answerNumber (r .answer)) e
 
 -- ---- the needs
 curve-faults-requires : tie.Need-curve-faults-requires
@@ -46,7 +53,7 @@ returns c =
     let r = c .before .before .before .before in
     let a = start r .args in
     let o = turned-down (a .alpha) (now (a .times)) (now (a .factors)) (now (a .normals)) (now (a .strikes)) (now (a .starts)) (now (a .ends)) (now (a .vols)) (rules r) (c .before .before .answer .given .1) (c .turned-down .ensures) in
-    (o, (basket-held (a .alpha) (now (a .times)) (now (a .factors)) (now (a .normals)) (now (a .strikes)) (now (a .starts)) (now (a .ends)) (now (a .vols)) o, basket-never-so (a .alpha) (now (a .times)) (now (a .factors)) (now (a .normals)) (now (a .strikes)) (now (a .starts)) (now (a .ends)) (now (a .vols)) o))
+    (o, (basket-held (a .alpha) (now (a .times)) (now (a .factors)) (now (a .normals)) (now (a .strikes)) (now (a .starts)) (now (a .ends)) (now (a .vols)) o, (basket-never-so (a .alpha) (now (a .times)) (now (a .factors)) (now (a .normals)) (now (a .strikes)) (now (a .starts)) (now (a .ends)) (now (a .vols)) o, number-of (basketOf (a .alpha) (now (a .times)) (now (a .factors)) (now (a .normals)) (now (a .strikes)) (now (a .starts)) (now (a .ends)) (now (a .vols))) o)))
 
 enum-told : tie.Need-enum-told
 enum-told c = search needs
@@ -62,7 +69,7 @@ returns-2 c =
     let r = c .before .before .before in
     let a = start r .args in
     let o = let-through (a .alpha) (now (a .times)) (now (a .factors)) (now (a .normals)) (now (a .strikes)) (now (a .starts)) (now (a .ends)) (now (a .vols)) (rules r) (c .before .enum-told .given .1) (c .fitted-basket .ensures) in
-    (o, (basket-held (a .alpha) (now (a .times)) (now (a .factors)) (now (a .normals)) (now (a .strikes)) (now (a .starts)) (now (a .ends)) (now (a .vols)) o, basket-never-so (a .alpha) (now (a .times)) (now (a .factors)) (now (a .normals)) (now (a .strikes)) (now (a .starts)) (now (a .ends)) (now (a .vols)) o))
+    (o, (basket-held (a .alpha) (now (a .times)) (now (a .factors)) (now (a .normals)) (now (a .strikes)) (now (a .starts)) (now (a .ends)) (now (a .vols)) o, (basket-never-so (a .alpha) (now (a .times)) (now (a .factors)) (now (a .normals)) (now (a .strikes)) (now (a .starts)) (now (a .ends)) (now (a .vols)) o, number-of (basketOf (a .alpha) (now (a .times)) (now (a .factors)) (now (a .normals)) (now (a .strikes)) (now (a .starts)) (now (a .ends)) (now (a .vols))) o)))
 
 pub fit-basket-spec : {M : Type 1} → statement M
 fit-basket-spec =

@@ -1,4 +1,4 @@
--- `schedules::pillars_reached` meets its contract: an empty part where the volatility is refused, else the part that `lists::reached` hands back. Assumes nothing.
+-- `schedules::pillars_reached` meets its contract: an empty part where the volatility is refused, else the part that `lookups::reached` hands back. Assumes nothing.
 use borrow.Author.Needs.{needs}
 use Rattle.schedules.specs.Parameters.{reachedOutcome}
 use Rattle.lists.proofs.Outcomes.{turned-down, let-through}
