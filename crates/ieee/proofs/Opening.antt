@@ -54,7 +54,7 @@ module _ (q k : ℕ) (d : Digits q) (h : k ≤ 2000) where
   closed-is = pattern-is false q k (k * 2 ^ 52 + q) (whole-of q k d) bits
 
   -- as a number, in units of 2 ^ -1074
-  held : HasValue (valueOf q k) false (q * 2 ^ k) (2 ^ 1074)
+  pub held : HasValue (valueOf q k) false (q * 2 ^ k) (2 ^ 1074)
   held =
       units-val binary64 false q k
       (lt-of-le-of-lt (mul-le-mul-right (2 ^ k) (d .1))
@@ -144,7 +144,7 @@ aside h s e u hs hu he = go s hs
         big : (s : ℕ) → suc (suc s) ≤ 1 → ⊥
         big s k = omega arith
 
-module _ (h s place : ℕ) (over : 2 ^ 54 ≤ h) (under : h < 2 ^ 62) (hs : s ≤ 1) (hp : 62 ≤ place) where
+module _ (h s place : ℕ) (over : 2 ^ 53 ≤ h) (under : h < 2 ^ 62) (hs : s ≤ 1) (hp : 62 ≤ place) where
   abbrev up : ℕ
   up = leadingZeros 64 h - 1
 
@@ -166,19 +166,37 @@ module _ (h s place : ℕ) (over : 2 ^ 54 ≤ h) (under : h < 2 ^ 62) (hs : s �
   pub zeros-some : 1 ≤ leadingZeros 64 h
   zeros-some = zeros-pos h h (place + 1193) positive under-63 (λ j k l. (k, l)) far
 
-  -- the leading digit stands at 54 to 61
-  pub up-range : (1 ≤ up) × (up ≤ 8)
+  -- a leading digit at d or above
+  up-from : (d : ℕ) → 2 ^ d ≤ h → up + d ≤ 62
+  up-from d o =
+      let t = leading-top 64 h positive (lt-of-lt-of-le under (lit≤ tt)) in
+      go (leadingZeros 64 h) (t .0) d (t .1) zeros-some (pow-lt-back d (suc (t .0)) (lt-of-le-of-lt o (t .3)))
+    where
+      go : (z j d : ℕ) → z + suc j ≡ 64 → 1 ≤ z → d < suc j → z - 1 + d ≤ 62
+      go z j d e a b = omega arith
+
+  -- the leading digit stands at 53 to 61
+  pub up-range : (1 ≤ up) × (up ≤ 9)
   up-range =
       let t = leading-top 64 h positive (lt-of-lt-of-le under (lit≤ tt)) in
-      go (leadingZeros 64 h) (t .0) (t .1) (pow-lt-back 54 (suc (t .0)) (lt-of-le-of-lt over (t .3))) (pow-lt-back (t .0) 62 (lt-of-le-of-lt (t .2) under))
+      (go (leadingZeros 64 h) (t .0) (t .1) (pow-lt-back (t .0) 62 (lt-of-le-of-lt (t .2) under)), back up (up-from 53 over))
     where
-      go : (z j : ℕ) → z + suc j ≡ 64 → 54 < suc j → j < 62 → (1 ≤ z - 1) × (z - 1 ≤ 8)
-      go z j e a b = (omega arith, omega arith)
+      go : (z j : ℕ) → z + suc j ≡ 64 → j < 62 → 1 ≤ z - 1
+      go z j e b = omega arith
+
+      back : (u : ℕ) → u + 53 ≤ 62 → u ≤ 9
+      back u h = omega arith
+
+  pub up-most : 2 ^ 54 ≤ h → up ≤ 8
+  up-most o = back up (up-from 54 o)
+    where
+      back : (u : ℕ) → u + 54 ≤ 62 → u ≤ 8
+      back u h = omega arith
 
   raised : (2 ^ 62 ≤ h * 2 ^ up % 2 ^ 64) × (h * 2 ^ up % 2 ^ 64 < 2 ^ 63) × (1193 ≤ place + 1193 - up)
   raised = raised-full h h (place + 1193) positive under-63 (λ j k l. (k, l)) far
 
-  exact-shift : h * 2 ^ up % 2 ^ 64 ≡ h * 2 ^ up
+  pub exact-shift : h * 2 ^ up % 2 ^ 64 ≡ h * 2 ^ up
   exact-shift = raised-exact h h (place + 1193) positive under-63 (λ j k l. (k, l)) far
 
   pub settled-under : m < 2 ^ 63
@@ -210,7 +228,7 @@ module _ (h s place : ℕ) (over : 2 ^ 54 ≤ h) (under : h < 2 ^ 62) (hs : s �
       let w = full-whole m (place + 1193 - up) settled-over settled-under (raised .2) in
       (w .1 (lt-of-lt-of-le (some place up hp (up-range .1)) (le-of-eq (sym same-place))), w .0)
     where
-      some : (p u : ℕ) → 62 ≤ p → u ≤ 8 → 0 < p - u
+      some : (p u : ℕ) → 62 ≤ p → u ≤ 9 → 0 < p - u
       some p u h k = omega arith
 
   pub settled : valueOf ((m + 511 + m / 1024 % 2) / 1024) (place - up) ≡ round binary64 false ((2 * h + s) * 2 ^ (place + 1192)) (2 ^ 2277)
@@ -219,10 +237,10 @@ module _ (h s place : ℕ) (over : 2 ^ 54 ≤ h) (under : h < 2 ^ 62) (hs : s �
       ap (valueOf ((m + 511 + m / 1024 % 2) / 1024)) (sym same-place)
       ∙ full-is m (e - up) settled-over settled-under (raised .2) false
       ∙ ap (λ (x : ℕ). round binary64 false ((x + s) * 2 ^ (e - up)) (2 ^ 2277)) exact-shift
-      ∙ sym (round-close binary64 false 1203 e h ((2 * h + s) * 2 ^ (e - 1)) ((h * 2 ^ up + s) * 2 ^ (e - up)) (size-gt h 53 (le-trans (lit≤ tt) over)) (aside h s e up hs (up-range .0) (below place up hp (up-range .1))))
+      ∙ sym (round-close binary64 false 1203 e h ((2 * h + s) * 2 ^ (e - 1)) ((h * 2 ^ up + s) * 2 ^ (e - up)) (size-gt h 53 over) (aside h s e up hs (up-range .0) (below place up hp (up-range .1))))
       ∙ ap (λ (n : ℕ). round binary64 false ((2 * h + s) * 2 ^ n) (2 ^ 2277)) (pred place)
     where
-      below : (p u : ℕ) → 62 ≤ p → u ≤ 8 → u ≤ p + 1193
+      below : (p u : ℕ) → 62 ≤ p → u ≤ 9 → u ≤ p + 1193
       below p u h k = omega arith
 
       pred : (p : ℕ) → p + 1193 - 1 ≡ p + 1192

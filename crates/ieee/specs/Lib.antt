@@ -10,3 +10,4 @@ pub mod Sqrt
 -- for contracts below the public surface only, as is `stickyRoot` at the end of WholeRoot
 pub mod Terms
 pub mod Open
+pub mod Fixed

@@ -91,7 +91,7 @@ pub fn less(vh: u64, vl: u64, wh: u64, wl: u64) -> bool
 }
 
 // 0 for 0, and 1 for any other number.
-fn mark(x: u64) -> u64
+pub fn mark(x: u64) -> u64
     ensures { λ r. ⌜ r ≡ min x 1 ⌝ }
 {
     if x == 0 { 0 } else { 1 }

@@ -1,0 +1,40 @@
+// Numbers in fixed point, for a chain of fused steps whose sizes are known ahead: the places do not move,
+// so that no step has to look where its operands stand.
+ghost use mathlib.Core.Bool.{not};
+ghost use Prim.Native.Nat.{_+_, _^_, _≤_, _<_};
+ghost use lib.Dec.{T};
+ghost use lib.Ieee.{isNan};
+ghost use Rattle.ieee.specs.Open.{field};
+ghost use Rattle.ieee.specs.Fixed.{Held, Settled, Stepped};
+use significands::wide;
+
+// x * 2^62, for an x from 2^-10 up and below 4, which loses no digit. `probability::hart::quotients` has
+// such arguments, as `norm_cdf_two` has tested.
+pub fn fixed_of(x: f64) -> u64
+    requires { ⌜ T (not (isNan x)) × (1013 ≤ field x) × (field x ≤ 1024) ⌝ }
+    ensures { λ r. ⌜ Held x r 62 ⌝ }
+{
+    let bits = f64::to_bits(x);
+    (bits % 0x10_0000_0000_0000 + 0x10_0000_0000_0000) << (bits / 0x10_0000_0000_0000 - 1013)
+}
+
+// a * y + c, a having two places more than c, and y 62: the exact value, rounded once to 53 digits.
+// `probability::hart` shows the bounds from its coefficients.
+pub fn fixed_step(a: u64, y: u64, c: u64) -> u64
+    requires { ⌜ (2 ^ 53 ≤ c) × (a + c < 2 ^ 62) ⌝ }
+    ensures { λ r. ⌜ Stepped a y c r ⌝ }
+{
+    let v = wide::product(a, y);
+    settled(v.hi + c, wide::mark(v.lo))
+}
+
+// h, and a little more where the sticky digit s is 1, to 53 digits. That digit is put below the others
+// when they stand in their place, so that nothing waits for it. `fixed_step` has the bounds from its own.
+fn settled(h: u64, s: u64) -> u64
+    requires { ⌜ (2 ^ 53 ≤ h) × (h < 2 ^ 62) × (s ≤ 1) ⌝ }
+    ensures { λ r. ⌜ Settled h s r ⌝ }
+{
+    let up = u64::leading_zeros(h) as u64 - 1;
+    let m = (h << up) + s;
+    (m + 511 + m / 1024 % 2) / 1024 * 1024 >> up
+}
