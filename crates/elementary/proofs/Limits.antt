@@ -1,5 +1,5 @@
 -- Within the limits of exp: the definition is its series, and k is so small that it is read back from its bits. Assumes nothing.
-use mathlib.Core.Path.{_≡_, refl, ap, _∙_}
+use mathlib.Core.Path.{_≡_, refl, sym, ap, _∙_}
 use mathlib.Core.Bool.{Bool, true, false, not, _&&_, false≢true}
 use Prim.Native.Nat.{_≤_}
 use native.Mathlib.Omega.{arith}
@@ -10,8 +10,9 @@ use mir.Syntax.{w32}
 use mir.Val.{toZ, ofZ}
 use mir.ValLaws.{toZ-ofZ}
 use lib.Ieee.{Float, binary64, mul, lt, ne, isNan, ofBits}
+use Rattle.ieee.specs.Numbers.{one}
 use Rattle.elementary.specs.Constants.{log2e, expTop, expBottom}
-use Rattle.elementary.specs.Exp.{moderate, nearestWhole, kOf, expWithin, expOf, withinLimits}
+use Rattle.elementary.specs.Exp.{moderate, nearestWhole, kOf, reducedOf, seriesOf, scaleOf, expWithin, expOf, withinLimits}
 use Rattle.elementary.proofs.Floats.{nan-test, nan-no}
 use Rattle.elementary.proofs.Literals.{log2e-is, expTop-is, expBottom-is}
 use Rattle.elementary.proofs.Nearest.{nearest-mag}
@@ -42,5 +43,16 @@ module _ (x : Float) (w : withinLimits x ≡ true) where
   k-small = nearest-mag _ within-moderate
 
   -- k, as the machine reads it back from its bits
+  back : (z : ℤ) → z ≡ kOf x → toZ w32 (ofZ w32 z) ≡ kOf x
+  back z e = ap (λ (y : ℤ). toZ w32 (ofZ w32 y)) e ∙ toZ-ofZ w32 (kOf x) (record { sfits = omega (arith, k-small) })
+
   pub k-back : (z : ℤ) → z ≡ nearestWhole (mul binary64 x (ofBits binary64 0x3ff7_1547_652b_82fe)) → toZ w32 (ofZ w32 z) ≡ kOf x
-  k-back z e = ap (λ (y : ℤ). toZ w32 (ofZ w32 y)) (rw log2e-is at e) ∙ toZ-ofZ w32 (kOf x) (record { sfits = omega (arith, k-small) })
+  k-back z e = back z (rw log2e-is at e)
+
+  -- exp from its parts: `reduce`, the series, `scale`
+  pub from-parts : (r p z : Float) (k : ℤ) → r ≡ reducedOf x (kOf x) → k ≡ kOf x → p ≡ seriesOf r 1 13 one → z ≡ scaleOf p (toZ w32 (ofZ w32 k)) → z ≡ expOf x
+  from-parts r p z k r-is k-is p-is z-is =
+      z-is
+      ∙ ap (λ (q : Float). scaleOf q (toZ w32 (ofZ w32 k))) (p-is ∙ ap (λ (y : Float). seriesOf y 1 13 one) r-is)
+      ∙ ap (λ (j : ℤ). scaleOf (seriesOf (reducedOf x (kOf x)) 1 13 one) j) (back k k-is)
+      ∙ sym by-series

@@ -1,11 +1,12 @@
 // exp, also of two arguments at once, and exp_m1.
 ghost use mathlib.Core.Path.{_≡_};
+ghost use mathlib.Core.Bool.{true};
 ghost use Prim.Native.Nat.{_<_};
 ghost use lib.Dec.{T};
 ghost use lib.Signed.{mag};
 ghost use Rattle.ieee.specs.Numbers.{one};
 ghost use Rattle.ieee.specs.Rows.{Gives};
-ghost use Rattle.elementary.specs.Exp.{moderate, nearestWhole, reducedOf, seriesOf, twoTo, scaleOf, withinLimits, expOf, expM1Of};
+ghost use Rattle.elementary.specs.Exp.{moderate, nearestWhole, kOf, reducedOf, seriesOf, twoTo, scaleOf, withinLimits, expOf, expM1Of};
 ghost use Rattle.elementary.specs.ExactCases.{exactCases};
 use super::simple;
 
@@ -34,9 +35,8 @@ pub fn exp(x: f64) -> f64
     if x < BOTTOM {
         return 0.0;
     }
-    let k = nearest_whole(x * LOG2_E);
-    let r = reduced(x, k);
-    scale(series(r, 1, 13), k)
+    let d = reduce(x);
+    scale(series(d.r, 1, 13), d.k)
 }
 
 pub struct Two {
@@ -51,12 +51,12 @@ pub fn exp_two(x: f64, y: f64) -> Two
 {
     if within_limits(x) {
         if within_limits(y) {
-            let k = nearest_whole(x * LOG2_E);
-            let l = nearest_whole(y * LOG2_E);
-            let p = series_two(reduced(x, k), reduced(y, l));
+            let d = reduce(x);
+            let e = reduce(y);
+            let p = series_two(d.r, e.r);
             return Two {
-                first: scale(p.first, k),
-                second: scale(p.second, l),
+                first: scale(p.first, d.k),
+                second: scale(p.second, e.k),
             };
         }
     }
@@ -76,8 +76,10 @@ pub fn exp_m1(y: f64) -> f64
     }
 }
 
+// ---- The parts of exp: `probability::hart` takes them apart, to work a series of its own beside that
+// of exp, and shows what each requires.
 // Whether exp works x by its series.
-fn within_limits(x: f64) -> bool
+pub fn within_limits(x: f64) -> bool
     ensures { λ r. ⌜ r ≡ withinLimits x ⌝ }
 {
     if x != x {
@@ -89,8 +91,25 @@ fn within_limits(x: f64) -> bool
     !(x < BOTTOM)
 }
 
+// x = r + k × ln 2.
+pub struct Reduced {
+    pub r: f64,
+    pub k: i32,
+}
+
+pub fn reduce(x: f64) -> Reduced
+    requires { ⌜ withinLimits x ≡ true ⌝ }
+    ensures { λ r. ⌜ (r .r ≡ reducedOf x (kOf x)) × (r .k ≡ kOf x) × (mag (r .k) < 2000) ⌝ }
+{
+    let k = nearest_whole(x * LOG2_E);
+    Reduced {
+        r: remainder(x, k),
+        k,
+    }
+}
+
 // The whole number nearest to p, a tie away from zero. Twice p is exact, and cutting it to a whole
-// number loses no tie; p + 0.5 would round. `exp` and `exp_two` have p in range.
+// number loses no tie; p + 0.5 would round. `reduce` has p in range.
 fn nearest_whole(p: f64) -> i32
     requires { ⌜ T (moderate p) ⌝ }
     ensures { λ r. ⌜ r ≡ nearestWhole p ⌝ }
@@ -100,7 +119,7 @@ fn nearest_whole(p: f64) -> i32
 }
 
 // What is left of x after k times ln 2.
-fn reduced(x: f64, k: i32) -> f64
+fn remainder(x: f64, k: i32) -> f64
     ensures { λ r. ⌜ r ≡ reducedOf x k ⌝ }
 {
     let n = k as f64;
@@ -142,8 +161,8 @@ fn series_two(x: f64, y: f64) -> Two
     }
 }
 
-// p × 2^a × 2^b, a being k/2 toward zero and b = k - a. `exp` and `exp_two` have k in range.
-fn scale(p: f64, k: i32) -> f64
+// p × 2^a × 2^b, a being k/2 toward zero and b = k - a. `reduce` gives a k in range.
+pub fn scale(p: f64, k: i32) -> f64
     requires { ⌜ mag k < 2000 ⌝ }
     ensures { λ r. ⌜ r ≡ scaleOf p k ⌝ }
 {

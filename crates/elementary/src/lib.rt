@@ -18,3 +18,9 @@ pub use simple::max;
 pub use simple::midpoint;
 pub use simple::min;
 pub use simple::signum;
+
+// Below the public surface: the parts of exp. What each requires is shown by `probability::hart`.
+pub use exponential::Reduced;
+pub use exponential::reduce;
+pub use exponential::scale;
+pub use exponential::within_limits;

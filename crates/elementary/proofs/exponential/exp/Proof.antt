@@ -1,17 +1,14 @@
 -- `elementary::exp` meets its contract: by the three tests, and inside the range by what its parts give. Assumes nothing.
-use mathlib.Core.Path.{_≡_, sym, ap, _∙_}
+use mathlib.Core.Path.{_≡_, ap, _∙_}
 use mathlib.Core.Bool.{true, not}
-use native.Mathlib.Omega.{arith}
 use borrow.Author.Needs.{needs}
-use mir.Syntax.{w32}
-use mir.Val.{toZ, ofZ}
 use lib.Ieee.{Float, div, ofBits}
 use Rattle.ieee.specs.Rows.{Gives, by-rows}
-use Rattle.elementary.specs.Exp.{expOf, kOf, expWithin, withinLimits}
+use Rattle.elementary.specs.Exp.{expOf, withinLimits}
 use Rattle.elementary.specs.ExactCases.{exactCases, exact-cases}
 use Rattle.elementary.proofs.Floats.{is-nan, nan-yes, nan-no}
-use Rattle.elementary.proofs.Literals.{log2e-is, expTop-is, expBottom-is}
-use Rattle.elementary.proofs.Limits.{past-tests, by-series, within-moderate, k-small, k-back}
+use Rattle.elementary.proofs.Literals.{expTop-is, expBottom-is}
+use Rattle.elementary.proofs.Limits.{past-tests, from-parts}
 use Rattle.elementary.proofs.exponential.exp.Statement.{statement}
 use Rattle.elementary.proofs.exponential.exp.Tie as tie
 
@@ -39,28 +36,20 @@ module _ (c : tie.Else3) where
   x-within : withinLimits x ≡ true
   x-within = past-tests x (c .before .before .if1 .left) (c .before .if2 .left) ∙ ap not (c .if3 .left)
 
-nearest-whole-requires : tie.Need-nearest-whole-requires
-nearest-whole-requires c κs = rw log2e-is (within-moderate (x c) (x-within c))
-
-k-is : (c : tie.After-nearest-whole) → toZ w32 (ofZ w32 (c .nearest-whole .result)) ≡ kOf (x (c .before))
-k-is c = k-back _ (x-within (c .before)) _ (c .nearest-whole .ensures)
-
-reduced-requires : tie.Need-reduced-requires
-reduced-requires c κs = search needs
+reduce-requires : tie.Need-reduce-requires
+reduce-requires c κs = x-within c
 
 series-requires : tie.Need-series-requires
 series-requires c κs = search needs
 
 scale-requires : tie.Need-scale-requires
-scale-requires c κs =
-    let b = c .before .before in
-    rw (k-is b) (omega (arith, k-small _ (x-within (b .before))))
+scale-requires c κs = search needs
 
 returns-4 : tie.Need-returns-4
 returns-4 c =
-    let b = c .before .before .before in
-    let p : c .scale .result ≡ expWithin (x (b .before)) = cc (k-is b) in
-    both _ _ (p ∙ sym (by-series (x (b .before)) (x-within (b .before))))
+    let b = c .before .before in
+    let d = b .before .reduce .ensures in
+    both _ _ (from-parts _ (x-within (b .before .before)) _ _ _ _ (d .0) (d .1) (b .series .ensures) (c .scale .ensures))
 
 pub exp-spec : {M : Type 1} → statement M
-exp-spec = tie.close (tie.spec returns returns-2 returns-3 nearest-whole-requires reduced-requires series-requires scale-requires returns-4)
+exp-spec = tie.close (tie.spec returns returns-2 returns-3 reduce-requires series-requires scale-requires returns-4)
