@@ -76,7 +76,7 @@ pub fn exp_m1(y: f64) -> f64
     }
 }
 
-// ---- The parts of exp: `probability::hart` takes them apart, to work a series of its own beside that
+// ---- The parts of exp: `probability::both` takes them apart, to work a series of its own beside that
 // of exp, and shows what each requires.
 // Whether exp works x by its series.
 pub fn within_limits(x: f64) -> bool

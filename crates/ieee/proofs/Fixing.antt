@@ -1,12 +1,14 @@
--- Fixed point: a number brought to it (`fixed-is`), one rounded to 53 digits in it (`settled-held`), and the fused sum of three numbers in it (`fused-held`). Assumes nothing.
+-- Fixed point: a number brought to it (`fixed-is`), one rounded to 53 digits in it (`settled-held`), and the fused sum of three numbers in it (`sum-is`). Assumes nothing.
 use mathlib.Core.Path.{_≡_, refl, sym, ap, ap₂, _∙_, subst}
 use mathlib.Core.Bool.{Bool, false}
 use Prim.Native.Nat.{ℕ, _+_, _-_, _*_, _/_, _%_, _^_, _≤_, _<_, min}
-use native.Mathlib.Nat.{le-trans, le-of-eq, lt-of-lt-of-le, lt-of-le-of-lt, mul-pos, mul-assoc, mul-comm, mul-right-comm, mul-div-cancel, mul-le-mul-right, le-of-mul-le-mul-right, eq-of-mul-eq-mul-right, mod-eq-of-lt, le-of-lt, add-mul-div-right, add-mul-mod-self-right, div-le-of-le-mul}
+use native.Mathlib.Nat.{le-trans, le-of-eq, lt-of-lt-of-le, lt-of-le-of-lt, mul-pos, mul-assoc, mul-comm, mul-right-comm, mul-div-cancel, mul-le-mul-right, le-of-mul-le-mul-right, eq-of-mul-eq-mul-right, mod-eq-of-lt, le-of-lt, le-add-left, add-mul-div-right, add-mul-mod-self-right, div-le-of-le-mul}
 use native.Mathlib.Omega.{arith}
 use lib.Dec.{T, lit<, lit≤}
 use lib.Pow.{pow-add, pow-pos, pow-mono, shl-lt}
 use lib.Count.{leadingZeros}
+use mir.Syntax.{w64}
+use mir.Val.{Fits}
 use lib.Ieee.{Float, nan, inf, fin, binary64, size, down, round, fits, toBits}
 use lib.Ieee.Exact.{HasValue}
 use lib.Ieee.Fits.{round-fits}
@@ -15,7 +17,7 @@ use Rattle.significands.specs.Words.{jammed}
 use Rattle.significands.proofs.Rounding.{round-close, jam-close, size-gt}
 use Rattle.ieee.specs.Fused.{fusedOf}
 use Rattle.ieee.specs.Open.{valueOf, field, Digits}
-use Rattle.ieee.specs.Fixed.{Held}
+use Rattle.ieee.specs.Fixed.{Held, settledOf}
 use Rattle.ieee.proofs.Sums.{sum-like}
 use Rattle.ieee.proofs.Fusing.{fused-at}
 use Rattle.ieee.proofs.Opening.{open-is, open-digits, held, up-range, exact-shift, settled-digits, settled}
@@ -49,10 +51,10 @@ module _ (h s : ℕ) (over : 2 ^ 53 ≤ h) (under : h < 2 ^ 62) (hs : s ≤ 1) w
   abbrev q : ℕ
   q = (m + 511 + m / 1024 % 2) / 1024
 
-  range : (1 ≤ up) × (up ≤ 9)
+  pub range : (1 ≤ up) × (up ≤ 9)
   range = up-range h s 62 over under hs (lit≤ tt)
 
-  digits : Digits q
+  pub digits : Digits q
   digits = settled-digits h s 62 over under hs (lit≤ tt)
 
   r-is : q * 1024 / 2 ^ up ≡ q * 2 ^ (10 - up)
@@ -64,31 +66,36 @@ module _ (h s : ℕ) (over : 2 ^ 53 ≤ h) (under : h < 2 ^ 62) (hs : s ≤ 1) w
           join : (u : ℕ) → u ≤ 9 → 10 ≡ 10 - u + u
           join u k = omega arith
 
-  pub settled-held : (g : ℕ) → g ≤ 60 → Held (round binary64 false ((2 * h + s) * 2 ^ (63 - g)) (2 ^ 64)) (q * 1024 / 2 ^ up) g
-  settled-held g few =
-      let place = 1084 - g in
-      let k = place - up in
-      let is : valueOf q k ≡ round binary64 false ((2 * h + s) * 2 ^ (63 - g)) (2 ^ 64) =
-      settled h s place over under hs (far g few)
-      ∙ round-same binary64 false ((2 * h + s) * 2 ^ (place + 1192)) (2 ^ 2277) ((2 * h + s) * 2 ^ (63 - g)) (2 ^ 64) (pow-pos 2277) (pow-pos 64) (weighed (2 * h + s) (place + 1192) 64 (63 - g) 2277 (sums g few)) in
-      record {
-        fitted = round-fits binary64 false ((2 * h + s) * 2 ^ (63 - g)) (2 ^ 64);
-        value =
-            subst (λ (x : Float). HasValue x false (q * 1024 / 2 ^ up * 2 ^ (64 - g)) (2 ^ 64)) is
-            (same-value (valueOf q k) false (q * 2 ^ k) (2 ^ 1074) (q * 1024 / 2 ^ up * 2 ^ (64 - g)) (2 ^ 64) (pow-pos 1074)
-            (ap (λ (x : ℕ). x * 2 ^ (64 - g) * 2 ^ 1074) r-is ∙ ap (λ (x : ℕ). x * 2 ^ 1074) (mul-assoc q (2 ^ (10 - up)) (2 ^ (64 - g)) ∙ ap (λ (x : ℕ). q * x) (sym (pow-add 2 (10 - up) (64 - g)))) ∙ weighed q (10 - up + (64 - g)) 1074 k 64 (places g up few (range .1)))
-            (held q k digits (near g up)));
-      }
+  -- the places of the f64, which are those of a number taken apart
+  pub settled-place : (g : ℕ) → 1084 - g - up ≤ 2000
+  settled-place g = go g up
+    where
+      go : (g u : ℕ) → 1084 - g - u ≤ 2000
+      go g u = omega arith
+
+  pub settled-is : (g : ℕ) → g ≤ 60 → valueOf q (1084 - g - up) ≡ settledOf h s g
+  settled-is g few =
+      settled h s (1084 - g) over under hs (far g few)
+      ∙ round-same binary64 false ((2 * h + s) * 2 ^ (1084 - g + 1192)) (2 ^ 2277) ((2 * h + s) * 2 ^ (63 - g)) (2 ^ 64) (pow-pos 2277) (pow-pos 64) (weighed (2 * h + s) (1084 - g + 1192) 64 (63 - g) 2277 (sums g few))
     where
       far : (g : ℕ) → g ≤ 60 → 62 ≤ 1084 - g
       far g h = omega arith
 
-      near : (g u : ℕ) → 1084 - g - u ≤ 2000
-      near g u = omega arith
-
       sums : (g : ℕ) → g ≤ 60 → 1084 - g + 1192 + 64 ≡ 63 - g + 2277
       sums g h = omega arith
 
+  pub settled-held : (g : ℕ) → g ≤ 60 → Held (settledOf h s g) (q * 1024 / 2 ^ up) g
+  settled-held g few =
+      let k = 1084 - g - up in
+      record {
+        fitted = round-fits binary64 false ((2 * h + s) * 2 ^ (63 - g)) (2 ^ 64);
+        value =
+            subst (λ (x : Float). HasValue x false (q * 1024 / 2 ^ up * 2 ^ (64 - g)) (2 ^ 64)) (settled-is g few)
+            (same-value (valueOf q k) false (q * 2 ^ k) (2 ^ 1074) (q * 1024 / 2 ^ up * 2 ^ (64 - g)) (2 ^ 64) (pow-pos 1074)
+            (ap (λ (x : ℕ). x * 2 ^ (64 - g) * 2 ^ 1074) r-is ∙ ap (λ (x : ℕ). x * 2 ^ 1074) (mul-assoc q (2 ^ (10 - up)) (2 ^ (64 - g)) ∙ ap (λ (x : ℕ). q * x) (sym (pow-add 2 (10 - up) (64 - g)))) ∙ weighed q (10 - up + (64 - g)) 1074 k 64 (places g up few (range .1)))
+            (held q k digits (settled-place g)));
+      }
+    where
       places : (g u : ℕ) → g ≤ 60 → u ≤ 9 → 10 - u + (64 - g) + 1074 ≡ 1084 - g - u + 64
       places g u h k = omega arith
 
@@ -159,7 +166,7 @@ module _ (a y c g : ℕ) (x z k : Float) (few : g ≤ 60) (A : Held x a (g + 2))
       right : (S P Q M : ℕ) → S * P * (2 * Q * (M * M)) ≡ 2 * S * (P * Q) * (M * M)
       right S P Q M = omega arith
 
-  pub fused-held : 2 ^ 53 ≤ S / 2 ^ 64 → fusedOf x z k ≡ round binary64 false ((2 * (S / 2 ^ 64) + min (S % 2 ^ 64) 1) * 2 ^ (63 - g)) (2 ^ 64)
+  fused-held : 2 ^ 53 ≤ S / 2 ^ 64 → fusedOf x z k ≡ settledOf (S / 2 ^ 64) (min (S % 2 ^ 64) 1) g
   fused-held over =
       let E = 2212 - g in
       fused-exact
@@ -198,13 +205,34 @@ fixed-is x t l h =
     near : (f : ℕ) → f ≤ 1024 → f - 1 ≤ 2000
     near f h = omega arith
 
--- ---- the two words of the sum
+-- ---- the sum as the code has it: the product's words hi and lo, c added to the upper one, and of the lower one a sticky digit
 
-pub sum-upper : (n c : ℕ) → (n + c * 2 ^ 64) / 2 ^ 64 ≡ n / 2 ^ 64 + c
-sum-upper n c = add-mul-div-right n c (pow-pos 64)
+upper-below : (a y hi : ℕ) → y < 2 ^ 64 → hi ≡ a * y / 2 ^ 64 → hi ≤ a
+upper-below a y hi word H = le-trans (le-of-eq H) (div-le-of-le-mul (2 ^ 64) (le-trans (le-of-eq (mul-comm a y)) (mul-le-mul-right a (le-of-lt word))))
 
-pub sum-lower : (n c : ℕ) → (n + c * 2 ^ 64) % 2 ^ 64 ≡ n % 2 ^ 64
-sum-lower n c = add-mul-mod-self-right n c (2 ^ 64)
+module _ (a y c hi lo s : ℕ) (word : y < 2 ^ 64) (H : hi ≡ a * y / 2 ^ 64) (L : lo ≡ a * y % 2 ^ 64) (D : s ≡ min lo 1) (over : 2 ^ 53 ≤ c) (under : a + c < 2 ^ 62) where
+  pub upper-most : hi ≤ a
+  upper-most = upper-below a y hi word H
 
-pub upper-most : (a y : ℕ) → y < 2 ^ 64 → a * y / 2 ^ 64 ≤ a
-upper-most a y h = div-le-of-le-mul (2 ^ 64) (le-trans (le-of-eq (mul-comm a y)) (mul-le-mul-right a (le-of-lt h)))
+  pub sum-range : (2 ^ 53 ≤ hi + c) × (hi + c < 2 ^ 62) × (s ≤ 1)
+  sum-range = (le-trans over (le-add-left c hi), go hi a c upper-most under, le-trans (le-of-eq D) (one lo))
+    where
+      go : (h m n : ℕ) → h ≤ m → m + n < 2 ^ 62 → h + n < 2 ^ 62
+      go h m n l u = omega arith
+
+      one : (n : ℕ) → min n 1 ≤ 1
+      one n = omega arith
+
+  pub sum-is : (g : ℕ) (x z k : Float) → g ≤ 60 → Held x a (g + 2) → Held z y 62 → Held k c g → settledOf (hi + c) s g ≡ fusedOf x z k
+  sum-is g x z k few A Y C =
+      let S = a * y + c * 2 ^ 64 in
+      let upper : hi + c ≡ S / 2 ^ 64 = ap (λ (n : ℕ). n + c) H ∙ sym (add-mul-div-right (a * y) c (pow-pos 64)) in
+      ap₂ (λ (h d : ℕ). settledOf h d g) upper (D ∙ ap (λ (n : ℕ). min n 1) (L ∙ sym (add-mul-mod-self-right (a * y) c (2 ^ 64))))
+      ∙ sym (fused-held a y c g x z k few A Y C (le-trans (sum-range .0) (le-of-eq upper)))
+
+-- before the sticky digit is known
+pub upper-fits : (a y c hi : ℕ) → y < 2 ^ 64 → hi ≡ a * y / 2 ^ 64 → a + c < 2 ^ 62 → Fits w64 (hi + c)
+upper-fits a y c hi word H under = go hi a c (upper-below a y hi word H) under
+  where
+    go : (h m n : ℕ) → h ≤ m → m + n < 2 ^ 62 → Fits w64 (h + n)
+    go h m n l u = omega arith

@@ -11,7 +11,7 @@ use borrow.Author.Tests.{le-ltb}
 use Rattle.ieee.specs.Numbers.{zero}
 use Rattle.ieee.specs.Fused.{fusedOf}
 use Rattle.ieee.specs.Open.{valueOf, field, Digits}
-use Rattle.probability.specs.Ordinary.{Ordinary}
+use Rattle.probability.specs.Sized.{Ordinary}
 
 -- a number above 0 is a number
 pub above-zero : (z : Float) → lt zero z ≡ true → T (not (isNan z))

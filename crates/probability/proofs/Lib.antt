@@ -1,6 +1,7 @@
 -- What the functions' proofs cite.
 pub mod Literals
 pub mod Chain
+pub mod Turning
 pub mod NonNeg
 pub mod Hart
 pub mod Self

@@ -1,6 +1,7 @@
--- What the contracts of the normal functions say; Limits has laws of the definitions, and Ordinary is for private functions' contracts only.
+-- What the contracts of the normal functions say; Limits has laws of the definitions, and Sized and Turns are for private functions' contracts only.
 pub mod NormCdf
 pub mod Between
 pub mod AsWritten
 pub mod Limits
-pub mod Ordinary
+pub mod Sized
+pub mod Turns

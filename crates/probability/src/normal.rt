@@ -7,11 +7,12 @@ ghost use lib.Ieee.{neg, lt};
 ghost use Rattle.ieee.specs.Rounded.{_⊖_, _⊗_};
 ghost use Rattle.ieee.specs.Numbers.{zero, half, one};
 ghost use Rattle.ieee.specs.Fused.{fusedOf};
-ghost use Rattle.elementary.specs.Exp.{expOf};
+ghost use Rattle.elementary.specs.Exp.{expOf, withinLimits};
 ghost use Rattle.probability.specs.NormCdf.{productThenSum, stepOf, horner, numFirst, numRest, denFirst, denRest, hartOf, tailOf, upperOf, normCdfOf, normCdfDualOf};
-ghost use Rattle.probability.specs.Ordinary.{Ordinary};
+ghost use Rattle.probability.specs.Sized.{Sized, Ordinary, Near};
 ghost use Rattle.probability.specs.Between.{Probability};
 ghost use Rattle.probability.specs.AsWritten.{normCdfDualAsWritten};
+use super::both;
 
 // Between the rational branch and the tail's continued fraction: 5 × √2.
 const HART_THRESHOLD: f64 = 7.071067811865475;
@@ -39,7 +40,16 @@ pub fn norm_cdf_two(x: f64, y: f64) -> elementary::Two
 {
     let u = elementary::abs(x);
     let v = elementary::abs(y);
-    let e = elementary::exp_two(-u * u * 0.5, -v * v * 0.5);
+    let a = -u * u * 0.5;
+    let b = -v * v * 0.5;
+    if both_near(u, v, a, b) {
+        let q = both::quotients(u, v, a, b);
+        return elementary::Two {
+            first: below(x, q.first),
+            second: below(y, q.second),
+        };
+    }
+    let e = elementary::exp_two(a, b);
     elementary::Two {
         first: below(x, upper_by(u, e.first, false)),
         second: below(y, upper_by(v, e.second, false)),
@@ -81,21 +91,35 @@ fn hart(z: f64, e: f64, dual: bool) -> f64
 {
     if dual {
         e * num_dual(z) / den_dual(z)
-    } else if ordinary(z) {
+    } else if sized(z, 1003, 1025) {
         quotient(z, e)
     } else {
         e * num(z) / den(z)
     }
 }
 
-// Whether z is at least 2^-20 and below 2^3: the first digits of its pattern are the exponent's field,
-// after a sign that is +.
-fn ordinary(z: f64) -> bool
-    ensures { λ r. ⌜ (r ≡ true → Ordinary z) ⌝ }
+// Whether `quotients` takes both arguments, with a and b for the exponents of their exps.
+fn both_near(u: f64, v: f64, a: f64, b: f64) -> bool
+    ensures { λ r. ⌜ (r ≡ true → Near u × Near v × (withinLimits a ≡ true) × (withinLimits b ≡ true)) ⌝ }
+{
+    if sized(u, 1013, 1024) {
+        if sized(v, 1013, 1024) {
+            if elementary::within_limits(a) {
+                return elementary::within_limits(b);
+            }
+        }
+    }
+    false
+}
+
+// Whether z is above 0 and its exponent's field, the first digits of its pattern after a sign that is +, is
+// within these bounds.
+fn sized(z: f64, low: u64, high: u64) -> bool
+    ensures { λ r. ⌜ (r ≡ true → Sized z low high) ⌝ }
 {
     if z > 0.0 {
         let field = f64::to_bits(z) / 0x10_0000_0000_0000;
-        if 1003 <= field { field <= 1025 } else { false }
+        if low <= field { field <= high } else { false }
     } else {
         false
     }

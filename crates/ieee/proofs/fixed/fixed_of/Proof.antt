@@ -1,5 +1,7 @@
 -- `ieee::fixed::fixed_of` meets its contract: the significand shifted to its place, by `fixed-is`. Assumes nothing.
 use mathlib.Core.Path.{sym, subst}
+use native.Mathlib.Nat.{mod-lt}
+use lib.Pow.{pow-pos}
 use borrow.Author.Needs.{needs}
 use lib.Dec.{T}
 use Rattle.ieee.proofs.Fixing.{fixed-is}
@@ -20,7 +22,7 @@ shl-result c = search needs
 
 -- what owning an `f64` tells is that the format holds it
 returns : tie.Need-returns
-returns c = fixed-is (c .args .x) (subst T (sym (c .good .0 .1)) tt) (c .pre .1) (c .pre .2)
+returns c = (fixed-is (c .args .x) (subst T (sym (c .good .0 .1)) tt) (c .pre .1) (c .pre .2), mod-lt _ (pow-pos 64))
 
 pub fixed-of-spec : {M : Type 1} → statement M
 fixed-of-spec = tie.close (tie.spec float-to-bits-bits add-result sub-result shl-result returns)

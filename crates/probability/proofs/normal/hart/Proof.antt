@@ -9,11 +9,11 @@ num-dual-requires c κs = search needs
 den-dual-requires : tie.Need-den-dual-requires
 den-dual-requires c κs = search needs
 
-ordinary-requires : tie.Need-ordinary-requires
-ordinary-requires c κs = search needs
+sized-requires : tie.Need-sized-requires
+sized-requires c κs = search needs
 
 quotient-requires : tie.Need-quotient-requires
-quotient-requires c κs = c .before .ordinary .ensures (c .if2 .taken)
+quotient-requires c κs = c .before .sized .ensures (c .if2 .taken)
 
 num-requires : tie.Need-num-requires
 num-requires c κs = search needs
@@ -36,7 +36,7 @@ hart-spec =
     (tie.spec
     num-dual-requires
     den-dual-requires
-    ordinary-requires
+    sized-requires
     quotient-requires
     num-requires
     den-requires

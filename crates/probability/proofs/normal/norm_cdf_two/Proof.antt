@@ -1,8 +1,20 @@
--- `probability::norm_cdf_two` meets its contract: by what the two exps, `upper_by` and `below` give. Assumes nothing.
+-- `probability::norm_cdf_two` meets its contract: by what `quotients` gives, or the two exps and `upper_by`, and by `below`. Assumes nothing.
+use mathlib.Core.Path.{_≡_, refl, ap, _∙_}
+use mathlib.Core.Bool.{cond}
 use borrow.Author.Needs.{needs}
-use Rattle.probability.specs.NormCdf.{normBy}
+use lib.Ieee.{Float, lt, ofBits}
+use Rattle.ieee.specs.Rounded.{_⊖_}
+use Rattle.ieee.specs.Numbers.{zero, one}
+use Rattle.ieee.specs.Fused.{fusedOf}
+use Rattle.elementary.specs.Simple.{absOf}
+use Rattle.probability.specs.NormCdf.{upperOf, normBy, normCdfOf}
 use Rattle.probability.proofs.normal.norm_cdf_two.Statement.{statement}
 use Rattle.probability.proofs.normal.norm_cdf_two.Tie as tie
+
+-- of one argument, from its parts
+joined : (x u cum r : Float) → u ≡ absOf x → cum ≡ upperOf fusedOf u → r ≡ cond (lt zero x) (one ⊖ cum) cum → r ≡ normCdfOf x
+unfolding normBy
+joined x u cum r u-is cum-is r-is = r-is ∙ ap (λ (w : Float). cond (lt zero x) (one ⊖ w) w) (cum-is ∙ ap (upperOf fusedOf) u-is)
 
 abs-requires : tie.Need-abs-requires
 abs-requires c κs = search needs
@@ -10,24 +22,49 @@ abs-requires c κs = search needs
 abs-requires-2 : tie.Need-abs-requires-2
 abs-requires-2 c κs = search needs
 
-exp-two-requires : tie.Need-exp-two-requires
-exp-two-requires c κs = search needs
+both-near-requires : tie.Need-both-near-requires
+both-near-requires c κs = search needs
 
-upper-by-requires : tie.Need-upper-by-requires
-upper-by-requires c κs = search needs
+quotients-requires : tie.Need-quotients-requires
+unfolding ofBits
+quotients-requires c κs = let n = c .before .both-near .ensures (c .if1 .taken) in (n .0, n .1, n .2, n .3, refl, refl)
 
 below-requires : tie.Need-below-requires
 below-requires c κs = search needs
-
-upper-by-requires-2 : tie.Need-upper-by-requires-2
-upper-by-requires-2 c κs = search needs
 
 below-requires-2 : tie.Need-below-requires-2
 below-requires-2 c κs = search needs
 
 returns : tie.Need-returns
-unfolding normBy
-returns c = (cc, cc)
+returns c =
+    let q = c .before .before in
+    let v = q .before .before .before in
+    let u = v .before in
+    (joined _ _ _ _ (u .abs .ensures) (q .quotients .ensures .0) (c .before .below .ensures), joined _ _ _ _ (v .abs2 .ensures) (q .quotients .ensures .1) (c .below2 .ensures))
+
+exp-two-requires : tie.Need-exp-two-requires
+exp-two-requires c κs = search needs
+
+upper-by-requires : tie.Need-upper-by-requires
+upper-by-requires c κs = c .exp-two .ensures .0
+
+below-requires-3 : tie.Need-below-requires-3
+below-requires-3 c κs = search needs
+
+upper-by-requires-2 : tie.Need-upper-by-requires-2
+upper-by-requires-2 c κs = c .before .before .exp-two .ensures .1
+
+below-requires-4 : tie.Need-below-requires-4
+below-requires-4 c κs = search needs
+
+returns-2 : tie.Need-returns-2
+returns-2 c =
+    let y = c .before in
+    let b = y .before in
+    let x = b .before in
+    let v = x .before .before .before .before in
+    let u = v .before in
+    (joined _ _ _ _ (u .abs .ensures) (x .upper-by .ensures) (b .below3 .ensures), joined _ _ _ _ (v .abs2 .ensures) (y .upper-by2 .ensures) (c .below4 .ensures))
 
 pub norm-cdf-two-spec : {M : Type 1} → statement M
 norm-cdf-two-spec =
@@ -35,9 +72,14 @@ norm-cdf-two-spec =
     (tie.spec
     abs-requires
     abs-requires-2
+    both-near-requires
+    quotients-requires
+    below-requires
+    below-requires-2
+    returns
     exp-two-requires
     upper-by-requires
-    below-requires
+    below-requires-3
     upper-by-requires-2
-    below-requires-2
-    returns)
+    below-requires-4
+    returns-2)
