@@ -2,6 +2,7 @@
 pub mod Literals
 pub mod Chain
 pub mod Turning
+pub mod Joining
 pub mod NonNeg
 pub mod Hart
 pub mod Self

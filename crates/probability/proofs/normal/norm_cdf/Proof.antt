@@ -3,10 +3,11 @@ use mathlib.Core.Path.{_≡_, sym, subst}
 use borrow.Author.Needs.{needs}
 use lib.Ieee.{Float}
 use Rattle.ieee.specs.Fused.{fusedOf}
-use Rattle.probability.specs.NormCdf.{normBy, normCdfOf}
+use Rattle.probability.specs.NormCdf.{normCdfOf}
 use Rattle.probability.specs.Between.{Probability}
 use Rattle.probability.proofs.Between.{norm-within}
 use Rattle.probability.proofs.FusedSteps.{exact-sound}
+use Rattle.probability.proofs.Joining.{joined}
 use Rattle.probability.proofs.normal.norm_cdf.Statement.{statement}
 use Rattle.probability.proofs.normal.norm_cdf.Tie as tie
 
@@ -23,10 +24,7 @@ below-requires : tie.Need-below-requires
 below-requires c κs = search needs
 
 returns : tie.Need-returns
-unfolding normBy
-returns c =
-    let w : c .below .result ≡ normCdfOf (c .before .before .before .args .x) = cc in
-    both _ _ w
+returns c = both _ _ (joined fusedOf _ _ _ _ (c .before .before .abs .ensures) (c .before .upper .ensures) (c .below .ensures))
 
 pub norm-cdf-spec : {M : Type 1} → statement M
 norm-cdf-spec = tie.close (tie.spec abs-requires upper-requires below-requires returns)

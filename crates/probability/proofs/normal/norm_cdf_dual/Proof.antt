@@ -2,12 +2,13 @@
 use mathlib.Core.Path.{_≡_, sym, _∙_, subst}
 use borrow.Author.Needs.{needs}
 use lib.Ieee.{Float}
-use Rattle.probability.specs.NormCdf.{normBy, normCdfDualOf, productThenSum}
+use Rattle.probability.specs.NormCdf.{normCdfDualOf, productThenSum}
 use Rattle.probability.specs.Between.{Probability}
 use Rattle.probability.proofs.Between.{norm-within}
 use Rattle.probability.specs.AsWritten.{normCdfDualAsWritten}
 use Rattle.probability.proofs.AsWritten.{as-written}
 use Rattle.probability.proofs.Quotient.{twice-sound}
+use Rattle.probability.proofs.Joining.{joined}
 use Rattle.probability.proofs.normal.norm_cdf_dual.Statement.{statement}
 use Rattle.probability.proofs.normal.norm_cdf_dual.Tie as tie
 
@@ -24,10 +25,7 @@ below-requires : tie.Need-below-requires
 below-requires c κs = search needs
 
 returns : tie.Need-returns
-unfolding normBy
-returns c =
-    let w : c .below .result ≡ normCdfDualOf (c .before .before .before .args .x) = cc in
-    all _ _ w
+returns c = all _ _ (joined productThenSum _ _ _ _ (c .before .before .abs .ensures) (c .before .upper .ensures) (c .below .ensures))
 
 pub norm-cdf-dual-spec : {M : Type 1} → statement M
 norm-cdf-dual-spec = tie.close (tie.spec abs-requires upper-requires below-requires returns)

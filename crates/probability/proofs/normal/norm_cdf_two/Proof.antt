@@ -1,20 +1,11 @@
 -- `probability::norm_cdf_two` meets its contract: by what `quotients` gives, or the two exps and `upper_by`, and by `below`. Assumes nothing.
-use mathlib.Core.Path.{_≡_, refl, ap, _∙_}
-use mathlib.Core.Bool.{cond}
+use mathlib.Core.Path.{refl}
 use borrow.Author.Needs.{needs}
-use lib.Ieee.{Float, lt, ofBits}
-use Rattle.ieee.specs.Rounded.{_⊖_}
-use Rattle.ieee.specs.Numbers.{zero, one}
+use lib.Ieee.{ofBits}
 use Rattle.ieee.specs.Fused.{fusedOf}
-use Rattle.elementary.specs.Simple.{absOf}
-use Rattle.probability.specs.NormCdf.{upperOf, normBy, normCdfOf}
+use Rattle.probability.proofs.Joining.{joined}
 use Rattle.probability.proofs.normal.norm_cdf_two.Statement.{statement}
 use Rattle.probability.proofs.normal.norm_cdf_two.Tie as tie
-
--- of one argument, from its parts
-joined : (x u cum r : Float) → u ≡ absOf x → cum ≡ upperOf fusedOf u → r ≡ cond (lt zero x) (one ⊖ cum) cum → r ≡ normCdfOf x
-unfolding normBy
-joined x u cum r u-is cum-is r-is = r-is ∙ ap (λ (w : Float). cond (lt zero x) (one ⊖ w) w) (cum-is ∙ ap (upperOf fusedOf) u-is)
 
 abs-requires : tie.Need-abs-requires
 abs-requires c κs = search needs
@@ -40,7 +31,7 @@ returns c =
     let q = c .before .before in
     let v = q .before .before .before in
     let u = v .before in
-    (joined _ _ _ _ (u .abs .ensures) (q .quotients .ensures .0) (c .before .below .ensures), joined _ _ _ _ (v .abs2 .ensures) (q .quotients .ensures .1) (c .below2 .ensures))
+    (joined fusedOf _ _ _ _ (u .abs .ensures) (q .quotients .ensures .0) (c .before .below .ensures), joined fusedOf _ _ _ _ (v .abs2 .ensures) (q .quotients .ensures .1) (c .below2 .ensures))
 
 exp-two-requires : tie.Need-exp-two-requires
 exp-two-requires c κs = search needs
@@ -64,7 +55,7 @@ returns-2 c =
     let x = b .before in
     let v = x .before .before .before .before in
     let u = v .before in
-    (joined _ _ _ _ (u .abs .ensures) (x .upper-by .ensures) (b .below3 .ensures), joined _ _ _ _ (v .abs2 .ensures) (y .upper-by2 .ensures) (c .below4 .ensures))
+    (joined fusedOf _ _ _ _ (u .abs .ensures) (x .upper-by .ensures) (b .below3 .ensures), joined fusedOf _ _ _ _ (v .abs2 .ensures) (y .upper-by2 .ensures) (c .below4 .ensures))
 
 pub norm-cdf-two-spec : {M : Type 1} → statement M
 norm-cdf-two-spec =
