@@ -2,21 +2,21 @@
 -- Nothing is asked of the rounding but that it keeps the order. Assumes nothing.
 use mathlib.Core.Path.{_≡_, refl, sym, ap, ap₂, _∙_, subst}
 use mathlib.Core.Logic.{_⊎_, inl, inr}
-use mathlib.Core.Bool.{Bool, true, false, not, cond, Bool·beq, _&&_, true≢false, false≢true}
+use mathlib.Core.Bool.{Bool, true, false, not, cond, Bool·beq, true≢false, false≢true}
 use Prim.Native.Nat.{ℕ, zero, suc, _+_, _-_, _*_, _/_, _%_, _^_, _<_, _≤_, compare}
 use native.Mathlib.Omega.{arith}
-use native.Mathlib.Nat.{le-trans, le-antisymm, le-of-eq, lt-of-lt-of-le, lt-of-not-le, not-le-of-lt, add-mul, zero-mul, mul-one, one-mul, mul-pos, mul-assoc, mul-comm, mul-left-comm, mul-right-comm, mul-le-mul-right, mul-lt-mul-of-pos-right, mul-div-cancel, div-one, mod-one, le-div-iff-mul-le, div-lt-iff-lt-mul, div-le-of-le-mul, div-eq-of-lt-le}
+use native.Mathlib.Nat.{le-trans, le-antisymm, le-of-eq, lt-of-lt-of-le, lt-of-not-le, add-mul, zero-mul, mul-one, one-mul, mul-pos, mul-assoc, mul-comm, mul-left-comm, mul-right-comm, mul-le-mul-right, mul-lt-mul-of-pos-right, mul-div-cancel, div-one, mod-one, le-div-iff-mul-le, div-lt-iff-lt-mul, div-le-of-le-mul, div-eq-of-lt-le}
 use borrow.Author.Tests.{ltb-true, ltb-false}
 use lib.Dec.{T, ltb, leb→le, lit<}
 use lib.Pow.{pow-add, pow-pos}
 use lib.IntN.{ℤ, pos, negsuc, negℤ, subℕ, _-ℤ_}
 use lib.Signed.{mag}
-use lib.Ieee.{Float, nan, inf, fin, binary64, up, down, size, nearest, units, round, sum, add, sub, neg, lt, le, ofInt, ofBits, toBits, isNan}
+use lib.Ieee.{Float, nan, inf, fin, binary64, up, down, size, units, round, sum, add, sub, neg, lt, le, ofInt, ofBits, toBits, isNan}
 use lib.Ieee.Back.{round-whole}
 use lib.Ieee.Exact.{HasValue}
 use lib.Ieee.Fits.{down-pos, nearest-le, round-is}
 use lib.Ieee.Nearest.{closest, closest-same, nearest-ge}
-use lib.Ieee.Order.{drop, round-mono}
+use lib.Ieee.Order.{round-mono}
 use Rattle.ieee.proofs.Sums.{sum-like, sum-less, sum-more, sum-level, sum-same}
 use Rattle.elementary.specs.Exp.{moderate, nearestWhole}
 use Rattle.elementary.proofs.AtMost.{or-le}
@@ -45,14 +45,14 @@ to-units n c C lo hi =
 whole-closest : (n : ℕ) → closest n 1 ≡ n
 whole-closest n = rw (mod-one, div-one)
 
-pub to-whole : (n c : ℕ) → 0 < c → 2 ^ 52 * c ≤ n → n < 2 ^ 53 * c → closest n c < 2 ^ 53 → round binary64 false n c ≡ round binary64 false (closest n c) 1
+to-whole : (n c : ℕ) → 0 < c → 2 ^ 52 * c ≤ n → n < 2 ^ 53 * c → closest n c < 2 ^ 53 → round binary64 false n c ≡ round binary64 false (closest n c) 1
 to-whole n c C lo hi under =
     to-units n c C lo hi
     ∙ ap (λ (q : ℕ). units binary64 false q 1074) (sym (whole-closest (closest n c)))
     ∙ sym (to-units (closest n c) 1 (lit< tt) (le-trans (le-of-eq (mul-one (2 ^ 52))) (le-trans (le-div-iff-mul-le C .1 lo) (nearest-ge (n / c) (compare (n % c * 2) c)))) (lt-of-lt-of-le under (le-of-eq (sym (mul-one (2 ^ 53))))))
 
 -- the bits of such a whole number
-pub whole-bits : (x : Float) (n : ℕ) → HasValue x false n 1 → 2 ^ 52 ≤ n → n < 2 ^ 53 → toBits binary64 x ≡ 1074 * 4503599627370496 + n
+whole-bits : (x : Float) (n : ℕ) → HasValue x false n 1 → 2 ^ 52 ≤ n → n < 2 ^ 53 → toBits binary64 x ≡ 1074 * 4503599627370496 + n
 unfolding toBits
 whole-bits nan n v lo hi = absurd v
 whole-bits (inf s) n v lo hi = absurd v
@@ -82,7 +82,7 @@ lifted-from true a c h = (omega arith, omega arith)
 lifted-from false a c h = (omega arith, omega arith)
 
 -- what the rounded sum is
-abbrev pub landed : Float → ℕ
+abbrev landed : Float → ℕ
 landed nan = 0
 landed (inf s) = 0
 landed (fin s m e) = closest (lifted s (m * up e) (down e)) (down e)
@@ -102,14 +102,14 @@ module _ (s : Bool) (a c : ℕ) (C : 0 < c) (h : a ≤ 1200 * c) where
 abbrev pub rounder : Float
 rounder = ofBits binary64 0x4338_0000_0000_0000
 
-pub landed-range : (p : Float) → T (moderate p) → (6755399441054544 ≤ landed p) × (landed p ≤ 6755399441056945)
+landed-range : (p : Float) → T (moderate p) → (6755399441054544 ≤ landed p) × (landed p ≤ 6755399441056945)
 landed-range nan h = absurd h
 landed-range (inf s) h = absurd h
 landed-range (fin s m e) h =
     let l : m * up e ≤ 1200 * down e = leb→le _ _ h in
     (closest-from s (m * up e) (down e) (down-pos e) l, closest-to s (m * up e) (down e) (down-pos e) l)
 
-pub lands : (p : Float) → T (moderate p) → add binary64 p rounder ≡ round binary64 false (landed p) 1
+lands : (p : Float) → T (moderate p) → add binary64 p rounder ≡ round binary64 false (landed p) 1
 unfolding add ofBits
 lands nan h = absurd h
 lands (inf s) h = absurd h
@@ -141,7 +141,7 @@ less n = elim (order n middle) [
       ∙ ap (λ (z : ℤ). ofInt binary64 z) (sym (subℕ-le n middle (omega arith)))
 ]
 
-pub taken-off : (x : Float) (n : ℕ) → HasValue x false n 1 → sub binary64 x rounder ≡ ofInt binary64 (subℕ n middle)
+taken-off : (x : Float) (n : ℕ) → HasValue x false n 1 → sub binary64 x rounder ≡ ofInt binary64 (subℕ n middle)
 unfolding sub add neg ofBits
 taken-off nan n v = absurd v
 taken-off (inf s) n v = absurd v
@@ -153,7 +153,7 @@ taken-off (fin s m e) n v =
     ∙ less n
 
 -- ---- a float less a whole number
-pub apart : (s : Bool) (m : ℕ) (e : ℤ) (y : Float) (t : Bool) (j : ℕ) → HasValue y t j 1 → sub binary64 (fin s m e) y ≡ sum binary64 s (m * up e) (not t) (j * down e) (down e)
+apart : (s : Bool) (m : ℕ) (e : ℤ) (y : Float) (t : Bool) (j : ℕ) → HasValue y t j 1 → sub binary64 (fin s m e) y ≡ sum binary64 s (m * up e) (not t) (j * down e) (down e)
 unfolding sub add neg
 apart s m e nan t j v = absurd v
 apart s m e (inf u) t j v = absurd v
@@ -170,7 +170,7 @@ apart s m e (fin u n d) t j v =
     around j c d = simp (mul-assoc, mul-comm)
 
 -- ---- a fraction whose rounding lies strictly between -1/2 and 1/2 lies there itself
-abbrev pub half : Float
+abbrev half : Float
 half = ofBits binary64 0x3fe0_0000_0000_0000
 
 not-both : (y : Float) → sgn y ≡ false → lt y half ≡ true → T (le half y) → ⊥
@@ -254,7 +254,7 @@ near-whole true m e (pos j) l h k =
     ap pos (q .0) ∙ ap (λ (n : ℕ). negℤ (pos n)) (sym (q .1))
 near-whole true m e (negsuc j) l h k = ap (λ (n : ℕ). negℤ (pos n)) (sym (same-side true m e true (suc j) l h k refl))
 
-pub near-is : (p : Float) (z : ℤ) → T (moderate p) → mag z < 2 ^ 53 → lt (sub binary64 p (ofInt binary64 z)) half ≡ true → lt (neg half) (sub binary64 p (ofInt binary64 z)) ≡ true → z ≡ nearestWhole p
+near-is : (p : Float) (z : ℤ) → T (moderate p) → mag z < 2 ^ 53 → lt (sub binary64 p (ofInt binary64 z)) half ≡ true → lt (neg half) (sub binary64 p (ofInt binary64 z)) ≡ true → z ≡ nearestWhole p
 near-is nan z g l h k = absurd g
 near-is (inf s) z g l h k = absurd g
 near-is (fin s m e) z g l h k = near-whole s m e z l h k

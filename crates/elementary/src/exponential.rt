@@ -97,7 +97,7 @@ pub fn within_limits(x: f64) -> bool
     !(x < BOTTOM)
 }
 
-// x = r + k × ln 2.
+// x = r + k × ln 2, but for roundings.
 pub struct Reduced {
     pub r: f64,
     pub k: i32,
@@ -122,9 +122,9 @@ struct Whole {
 }
 
 // The whole number nearest to p, a tie away from zero. `reduce` has p in range.
-// From 2^52 to 2^53 the f64s are the whole numbers, and ROUNDER lies in the middle: p + ROUNDER is a
-// whole number close to it, and the last digits of its bits are those of k. Where n is less than 1/2
-// from p, it is the nearest; else p is a tie, or seems to be one.
+// From 2^52 to 2^53 the f64s are the whole numbers, and ROUNDER lies in the middle: p + ROUNDER is
+// rounded to one of them, whose bits show it. Where n is less than 1/2 from p it is the nearest; so
+// only a tie, which ROUNDER takes to the even one, goes the slow way.
 fn nearest_whole(p: f64) -> Whole
     requires { ⌜ T (moderate p) ⌝ }
     ensures { λ r. ⌜ (r .n ≡ ofInt binary64 (nearestWhole p)) × (r .k ≡ nearestWhole p) ⌝ }
@@ -145,8 +145,8 @@ fn nearest_whole(p: f64) -> Whole
     Whole { n: k as f64, k }
 }
 
-// The same, slowly, for a tie too. Twice p is exact, and cutting it to a whole number loses no tie;
-// p + 0.5 would round.
+// The same for a tie too, by a conversion with many branches. Twice p is exact, and cutting it to a
+// whole number loses no tie; p + 0.5 would round.
 fn by_halves(p: f64) -> i32
     requires { ⌜ T (moderate p) ⌝ }
     ensures { λ r. ⌜ r ≡ nearestWhole p ⌝ }

@@ -1,14 +1,12 @@
 -- `elementary::reduce` meets its contract: k is so small that it is read back from its bits, and what is left of x is worked in the definition's order. Assumes nothing.
-use mathlib.Core.Path.{_≡_, ap, _∙_}
+use mathlib.Core.Path.{_≡_, ap}
 use native.Mathlib.Omega.{arith}
-use borrow.Author.Needs.{needs}
-use lib.IntN.{ℤ}
 use lib.Ieee.{Float, binary64, ofInt}
 use mir.Syntax.{w32}
 use mir.Val.{toZ, ofZ}
 use Rattle.ieee.specs.Rounded.{_⊖_, _⊗_}
 use Rattle.elementary.specs.Constants.{ln2hi, ln2lo}
-use Rattle.elementary.specs.Exp.{nearestWhole, kOf, reducedOf}
+use Rattle.elementary.specs.Exp.{kOf}
 use Rattle.elementary.proofs.Literals.{log2e-is, ln2hi-is, ln2lo-is}
 use Rattle.elementary.proofs.Limits.{within-moderate, k-small, k-back}
 use Rattle.elementary.proofs.exponential.reduce.Statement.{statement}
