@@ -1,5 +1,5 @@
 -- p + 1.5 × 2^52, rounded, is a whole number, and its bits show it. Less 1.5 × 2^52 again, it is the whole number nearest to p where it is less than 1/2 from p.
--- Nothing is asked of the rounding but that it keeps the order. Assumes nothing.
+-- That it is less than 1/2 away is what the code tests, so it does not matter to which whole number the sum is rounded; the test's own rounding keeps the order. Assumes nothing.
 use mathlib.Core.Path.{_≡_, refl, sym, ap, ap₂, _∙_, subst}
 use mathlib.Core.Logic.{_⊎_, inl, inr}
 use mathlib.Core.Bool.{Bool, true, false, not, cond, Bool·beq, true≢false, false≢true}

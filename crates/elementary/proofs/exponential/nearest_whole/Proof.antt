@@ -1,5 +1,5 @@
 -- `elementary::nearest_whole` meets its contract: between the two tests by what Rounding shows of the sum, else by `by_halves`. Each i32 is read back from its bits. Assumes nothing.
-use mathlib.Core.Path.{_≡_, ap, _∙_}
+use mathlib.Core.Path.{_≡_, sym, ap, _∙_, subst}
 use Prim.Native.Nat.{ℕ, _-_}
 use native.Mathlib.Omega.{arith}
 use borrow.Author.Needs.{needs}
@@ -46,12 +46,12 @@ cast-t11 : tie.Need-cast-t11
 cast-t11 c = up-fits c
 
 sub-t12 : tie.Need-sub-t12
-sub-t12 c = rw (k-is c) (k-fits c)
+sub-t12 c = subst (λ (z : ℤ). SFits w32 z) (sym (k-is c)) (k-fits c)
 
 returns : tie.Need-returns
 returns c = (
   less-is (p c) (c .before .before .pre) ∙ ap (λ (z : ℤ). ofInt binary64 z) (found-nearest c),
-  rw (k-is c) (toZ-ofZ w32 _ (k-fits c) ∙ found-nearest c),
+  ap (λ (z : ℤ). toZ w32 (ofZ w32 z)) (k-is c) ∙ toZ-ofZ w32 _ (k-fits c) ∙ found-nearest c,
 )
 
 by-halves-requires : tie.Need-by-halves-requires
