@@ -8,6 +8,7 @@ pub mod Turns
 pub mod Nearest
 pub mod Range
 pub mod Limits
+pub mod Rounding
 pub mod Digits53
 pub mod Unique
 pub mod Splits

@@ -4,6 +4,7 @@ ghost use mathlib.Core.Bool.{true};
 ghost use Prim.Native.Nat.{_<_};
 ghost use lib.Dec.{T};
 ghost use lib.Signed.{mag};
+ghost use lib.Ieee.{binary64, ofInt};
 ghost use Rattle.ieee.specs.Numbers.{one};
 ghost use Rattle.ieee.specs.Rows.{Gives};
 ghost use Rattle.elementary.specs.Exp.{moderate, nearestWhole, kOf, reducedOf, seriesOf, twoTo, scaleOf, withinLimits, expOf, expM1Of};
@@ -21,6 +22,11 @@ const LOG2_E: f64 = 1.4426950408889634;
 pub const LN_2_HIGH: f64 = 0.693147180369123816490;
 
 pub const LN_2_LOW: f64 = 1.90821492927058770002e-10;
+
+// 2^52 × 1.5, and the bits of the f64 that is 2048 less.
+const ROUNDER: f64 = 6755399441055744.0;
+
+const ROUNDER_LESS_2048: u64 = 0x4337_ffff_ffff_f800;
 
 pub fn exp(x: f64) -> f64
     ensures { λ r. ⌜ r ≡ expOf x ⌝ }
@@ -91,7 +97,7 @@ pub fn within_limits(x: f64) -> bool
     !(x < BOTTOM)
 }
 
-// x = r + k × ln 2.
+// x = r + k × ln 2, but for roundings.
 pub struct Reduced {
     pub r: f64,
     pub k: i32,
@@ -101,29 +107,52 @@ pub fn reduce(x: f64) -> Reduced
     requires { ⌜ withinLimits x ≡ true ⌝ }
     ensures { λ r. ⌜ (r .r ≡ reducedOf x (kOf x)) × (r .k ≡ kOf x) × (mag (r .k) < 2000) ⌝ }
 {
-    let k = nearest_whole(x * LOG2_E);
+    let w = nearest_whole(x * LOG2_E);
+    let n = w.n;
     Reduced {
-        r: remainder(x, k),
-        k,
+        r: (x - n * LN_2_HIGH) - n * LN_2_LOW,
+        k: w.k,
     }
 }
 
-// The whole number nearest to p, a tie away from zero. Twice p is exact, and cutting it to a whole
-// number loses no tie; p + 0.5 would round. `reduce` has p in range.
-fn nearest_whole(p: f64) -> i32
+// A whole number, as an f64 and as an integer.
+struct Whole {
+    n: f64,
+    k: i32,
+}
+
+// The whole number nearest to p, a tie away from zero. `reduce` has p in range.
+// From 2^52 to 2^53 the f64s are the whole numbers, and ROUNDER lies in the middle: p + ROUNDER is
+// rounded to one of them, whose bits show it. Where n is less than 1/2 from p it is the nearest; so
+// only a tie, which ROUNDER takes to the even one, goes the slow way.
+fn nearest_whole(p: f64) -> Whole
+    requires { ⌜ T (moderate p) ⌝ }
+    ensures { λ r. ⌜ (r .n ≡ ofInt binary64 (nearestWhole p)) × (r .k ≡ nearestWhole p) ⌝ }
+{
+    let m = p + ROUNDER;
+    let n = m - ROUNDER;
+    let d = p - n;
+    if d < 0.5 {
+        if d > -0.5 {
+            let up = f64::to_bits(m) - ROUNDER_LESS_2048;
+            return Whole {
+                n,
+                k: up as i32 - 2048,
+            };
+        }
+    }
+    let k = by_halves(p);
+    Whole { n: k as f64, k }
+}
+
+// The same for a tie too, by a conversion with many branches. Twice p is exact, and cutting it to a
+// whole number loses no tie; p + 0.5 would round.
+fn by_halves(p: f64) -> i32
     requires { ⌜ T (moderate p) ⌝ }
     ensures { λ r. ⌜ r ≡ nearestWhole p ⌝ }
 {
     let q = std::num::truncating_f64_to_i64(p * 2.0) as i32;
     if q >= 0 { (q + 1) / 2 } else { (q - 1) / 2 }
-}
-
-// What is left of x after k times ln 2.
-fn remainder(x: f64, k: i32) -> f64
-    ensures { λ r. ⌜ r ≡ reducedOf x k ⌝ }
-{
-    let n = k as f64;
-    (x - n * LN_2_HIGH) - n * LN_2_LOW
 }
 
 // p starts at 1, and for n = last + turns - 1 down to last becomes 1 + (x × p)/n.

@@ -1,82 +1,82 @@
--- `elementary::nearest_whole` meets its contract: twice p is exact, and half of what it is cut to, one more in size, is the nearest whole number (`nearest-is`, `from-above`, `from-below` of Nearest). Assumes nothing.
+-- `elementary::nearest_whole` meets its contract: between the two tests by what Rounding shows of the sum, else by `by_halves`. Each i32 is read back from its bits. Assumes nothing.
 use mathlib.Core.Path.{_≡_, sym, ap, _∙_, subst}
-use Prim.Native.Nat.{_≤_}
+use Prim.Native.Nat.{ℕ, _-_}
 use native.Mathlib.Omega.{arith}
-use lib.Dec.{T}
-use lib.IntN.{ℤ, pos, _+ℤ_, _-ℤ_}
-use lib.Signed.{mag, quotZ}
-use lib.Ieee.{Float, binary64, fits}
-use mir.Syntax.{w32, w64}
+use borrow.Author.Needs.{needs}
+use lib.IntN.{ℤ, pos, _-ℤ_}
+use lib.Ieee.{Float, binary64, add, neg, ofInt, ofBits, toBits}
+use mir.Syntax.{w32}
 use mir.Val.{SFits, toZ, ofZ}
 use mir.ValLaws.{toZ-ofZ}
-use Rattle.elementary.proofs.Nearest.{doubled-in-range, doubled-cut, signed, sgn, halves, halves-le, signed-mag, nearest-is, from-above, from-below}
-use Rattle.elementary.proofs.Ints.{half-mag, mag-add, mag-sub1}
+use Rattle.elementary.specs.Exp.{nearestWhole}
+use Rattle.elementary.proofs.Nearest.{nearest-mag}
+use Rattle.elementary.proofs.Rounding.{rounder, found, sum-real, bits-from, bits-to, bits-show, found-mag, less-is, found-is}
 use Rattle.elementary.proofs.exponential.nearest_whole.Statement.{statement}
 use Rattle.elementary.proofs.exponential.nearest_whole.Tie as tie
 
-held : (c : tie.Start) → T (fits binary64 (c .args .p))
-held c = subst T (sym (c .good .0 .1)) tt
-
-module _ (c : tie.After-truncating-f64-to-i64) where
+-- within the two tests
+module _ (c : tie.Then2) where
   abbrev p : Float
-  p = c .before .args .p
+  p = c .before .before .args .p
 
-  -- twice p, cut
-  abbrev q : ℤ
-  q = signed (sgn p) (halves p)
+  found-nearest : found p (c .before .before .pre) ≡ nearestWhole p
+  unfolding neg ofBits
+  found-nearest = found-is p (c .before .before .pre) (c .before .if1 .taken) (c .if2 .taken)
 
-  q-mag : mag q ≤ 4096
-  q-mag = omega (arith, signed-mag (sgn p) (halves p), halves-le p (c .before .pre))
+  -- k and 2048
+  abbrev up : ℕ
+  up = toBits binary64 (add binary64 p rounder) - 4843621399236966400
 
-  long : toZ w64 (ofZ w64 (c .truncating-f64-to-i64 .result)) ≡ q
-  long =
-      ap (λ (z : ℤ). toZ w64 (ofZ w64 z)) (c .truncating-f64-to-i64 .ensures ∙ doubled-cut p (held (c .before)) (c .before .pre))
-      ∙ toZ-ofZ w64 q (record { sfits = omega (arith, q-mag) })
+  up-fits : SFits w32 (pos up)
+  up-fits = record { sfits = omega (arith, bits-to p (c .before .before .pre)) }
 
-  short : toZ w32 (ofZ w32 q) ≡ q
-  short = toZ-ofZ w32 q (record { sfits = omega (arith, q-mag) })
+  k-is : toZ w32 up -ℤ pos 2048 ≡ found p (c .before .before .pre)
+  k-is = ap (λ (z : ℤ). z -ℤ pos 2048) (toZ-ofZ w32 (pos up) up-fits) ∙ bits-show p (c .before .before .pre)
 
-  more-fits : SFits w32 (q +ℤ pos 1)
-  more-fits = record { sfits = omega (arith, mag-add q 1, q-mag) }
+  k-fits : SFits w32 (found p (c .before .before .pre))
+  k-fits = record { sfits = omega (arith, found-mag p (c .before .before .pre)) }
 
-  less-fits : SFits w32 (q -ℤ pos 1)
-  less-fits = record { sfits = omega (arith, mag-sub1 q, q-mag) }
+float-to-bits-up : tie.Need-float-to-bits-up
+float-to-bits-up c = sum-real (p c) (c .before .before .pre)
 
-  more-half-fits : SFits w32 (quotZ (q +ℤ pos 1) (pos 2))
-  more-half-fits = record { sfits = omega (arith, half-mag (q +ℤ pos 1) 5000 (omega (arith, mag-add q 1, q-mag))) }
+sub-up : tie.Need-sub-up
+sub-up c = bits-from (p c) (c .before .before .pre)
 
-  less-half-fits : SFits w32 (quotZ (q -ℤ pos 1) (pos 2))
-  less-half-fits = record { sfits = omega (arith, half-mag (q -ℤ pos 1) 5000 (omega (arith, mag-sub1 q, q-mag))) }
+cast-t11 : tie.Need-cast-t11
+cast-t11 c = up-fits c
 
-truncating-f64-to-i64-requires : tie.Need-truncating-f64-to-i64-requires
-truncating-f64-to-i64-requires c κs = doubled-in-range (c .args .p) (held c) (c .pre)
-
-cast-q : tie.Need-cast-q
-cast-q c = rw (long c) (record { sfits = omega (arith, q-mag c) })
-
-add-result : tie.Need-add-result
-add-result c = simp (long (c .before), short (c .before)) (more-fits (c .before))
-
-div-result : tie.Need-div-result
-div-result c = (omega arith, simp (long (c .before), short (c .before), toZ-ofZ w32 _ (more-fits (c .before))) (more-half-fits (c .before)))
-
-sub-result : tie.Need-sub-result
-sub-result c = simp (long (c .before), short (c .before)) (less-fits (c .before))
-
-div-result-2 : tie.Need-div-result-2
-div-result-2 c = (omega arith, simp (long (c .before), short (c .before), toZ-ofZ w32 _ (less-fits (c .before))) (less-half-fits (c .before)))
+sub-t12 : tie.Need-sub-t12
+sub-t12 c = subst (λ (z : ℤ). SFits w32 z) (sym (k-is c)) (k-fits c)
 
 returns : tie.Need-returns
-returns c =
-    let b = c .before in
-    simp (long b, short b, toZ-ofZ w32 _ (more-fits b), toZ-ofZ w32 _ (more-half-fits b))
-    (from-above (sgn (p b)) (halves (p b)) (simp (long b, short b) at (c .if1 .taken)) ∙ sym (nearest-is (p b) (b .before .pre)))
+returns c = (
+  less-is (p c) (c .before .before .pre) ∙ ap (λ (z : ℤ). ofInt binary64 z) (found-nearest c),
+  ap (λ (z : ℤ). toZ w32 (ofZ w32 z)) (k-is c) ∙ toZ-ofZ w32 _ (k-fits c) ∙ found-nearest c,
+)
+
+by-halves-requires : tie.Need-by-halves-requires
+by-halves-requires c κs = search needs
+
+int-to-float-t13 : tie.Need-int-to-float-t13
+int-to-float-t13 c = search needs
 
 returns-2 : tie.Need-returns-2
 returns-2 c =
     let b = c .before in
-    simp (long b, short b, toZ-ofZ w32 _ (less-fits b), toZ-ofZ w32 _ (less-half-fits b))
-    (from-below (sgn (p b)) (halves (p b)) (simp (long b, short b) at (c .if1 .left)) ∙ sym (nearest-is (p b) (b .before .pre)))
+    let s = b .before .before in
+    let k : toZ w32 (ofZ w32 (b .by-halves .result)) ≡ nearestWhole (s .args .p) =
+    ap (λ (z : ℤ). toZ w32 (ofZ w32 z)) (b .by-halves .ensures) ∙ toZ-ofZ w32 (nearestWhole (s .args .p)) (record { sfits = omega (arith, nearest-mag (s .args .p) (s .pre)) }) in
+    (ap (λ (z : ℤ). ofInt binary64 z) k, k)
 
 pub nearest-whole-spec : {M : Type 1} → statement M
-nearest-whole-spec = tie.close (tie.spec truncating-f64-to-i64-requires cast-q add-result div-result sub-result div-result-2 returns returns-2)
+nearest-whole-spec =
+    tie.close
+    (tie.spec
+    float-to-bits-up
+    sub-up
+    cast-t11
+    sub-t12
+    returns
+    by-halves-requires
+    int-to-float-t13
+    returns-2)

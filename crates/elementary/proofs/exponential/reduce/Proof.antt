@@ -1,12 +1,13 @@
--- `elementary::reduce` meets its contract: k is so small that it is read back from its bits, and what is left is the definition's. Assumes nothing.
-use mathlib.Core.Path.{_≡_, ap, _∙_}
+-- `elementary::reduce` meets its contract: k is so small that it is read back from its bits, and what is left of x is worked in the definition's order. Assumes nothing.
+use mathlib.Core.Path.{_≡_, ap}
 use native.Mathlib.Omega.{arith}
-use borrow.Author.Needs.{needs}
-use lib.IntN.{ℤ}
+use lib.Ieee.{Float, binary64, ofInt}
 use mir.Syntax.{w32}
 use mir.Val.{toZ, ofZ}
-use Rattle.elementary.specs.Exp.{kOf, reducedOf}
-use Rattle.elementary.proofs.Literals.{log2e-is}
+use Rattle.ieee.specs.Rounded.{_⊖_, _⊗_}
+use Rattle.elementary.specs.Constants.{ln2hi, ln2lo}
+use Rattle.elementary.specs.Exp.{kOf}
+use Rattle.elementary.proofs.Literals.{log2e-is, ln2hi-is, ln2lo-is}
 use Rattle.elementary.proofs.Limits.{within-moderate, k-small, k-back}
 use Rattle.elementary.proofs.exponential.reduce.Statement.{statement}
 use Rattle.elementary.proofs.exponential.reduce.Tie as tie
@@ -14,16 +15,14 @@ use Rattle.elementary.proofs.exponential.reduce.Tie as tie
 nearest-whole-requires : tie.Need-nearest-whole-requires
 nearest-whole-requires c κs = rw log2e-is (within-moderate (c .args .x) (c .pre))
 
-k-is : (c : tie.After-nearest-whole) → toZ w32 (ofZ w32 (c .nearest-whole .result)) ≡ kOf (c .before .args .x)
-k-is c = k-back _ (c .before .pre) _ (c .nearest-whole .ensures)
-
-remainder-requires : tie.Need-remainder-requires
-remainder-requires c κs = search needs
-
 returns : tie.Need-returns
 returns c =
     let b = c .before in
-    (c .remainder .ensures ∙ ap (λ (k : ℤ). reducedOf (b .before .args .x) k) (k-is b), k-is b, rw (k-is b) (omega (arith, k-small _ (b .before .pre))))
+    let x = b .before .args .x in
+    let w = b .nearest-whole .ensures in
+    let k : toZ w32 (ofZ w32 (b .nearest-whole .result .k)) ≡ kOf x = k-back x (b .before .pre) _ (w .1) in
+    let n : b .nearest-whole .result .n ≡ ofInt binary64 (kOf x) = rw log2e-is at (w .0) in
+    (rw (ln2hi-is, ln2lo-is) (ap (λ (y : Float). (x ⊖ y ⊗ ln2hi) ⊖ y ⊗ ln2lo) n), k, rw k (omega (arith, k-small x (b .before .pre))))
 
 pub reduce-spec : {M : Type 1} → statement M
-reduce-spec = tie.close (tie.spec nearest-whole-requires remainder-requires returns)
+reduce-spec = tie.close (tie.spec nearest-whole-requires returns)
