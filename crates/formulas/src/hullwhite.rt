@@ -75,11 +75,15 @@ pub fn volatility_at(sigma: f64, b: f64, deviation: f64) -> f64
     sigma * b * deviation
 }
 
-// The volatility of a bond's price.
+// The volatility of a bond's price. `b_of` and `deviation_of` written out, so that their exps are worked
+// side by side.
 pub fn volatility_of(alpha: f64, sigma: f64, t: f64, bond: f64) -> f64
     ensures { λ r. ⌜ r ≡ volatilityOf alpha sigma t bond ⌝ }
 {
-    volatility_at(sigma, b_of(alpha, t, bond), deviation_of(alpha, t))
+    let e = elementary::exp_two(-2.0 * alpha * t, -alpha * (bond - t));
+    let b = (1.0 - e.second) / alpha;
+    let deviation = ieee::sqrt((1.0 - e.first) / (2.0 * alpha));
+    volatility_at(sigma, b, deviation)
 }
 
 // The slope of the forward rate, from its values a day apart.

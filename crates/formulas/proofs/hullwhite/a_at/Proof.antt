@@ -12,7 +12,7 @@ exp-requires c κs = search needs
 
 returns : tie.Need-returns
 unfolding aAt
-returns c = cc
+returns c = rw (c .exp .ensures .0, c .before .fused .ensures)
 
 pub a-at-spec : {M : Type 1} → statement M
 a-at-spec = tie.close (tie.spec fused-requires exp-requires returns)

@@ -15,7 +15,9 @@ fused-requires c κs = search needs
 
 returns : tie.Need-returns
 unfolding bondCallOf
-returns c = cc
+returns c =
+    let n = c .before .before in
+    rw (c .fused .ensures, n .norm-cdf-two .ensures .0, n .norm-cdf-two .ensures .1, n .before .bond-d1 .ensures)
 
 pub bond-call-of-spec : {M : Type 1} → statement M
 bond-call-of-spec = tie.close (tie.spec bond-d1-requires norm-cdf-two-requires fused-requires returns)

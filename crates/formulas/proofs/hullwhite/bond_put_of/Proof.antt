@@ -15,7 +15,9 @@ fused-requires c κs = search needs
 
 returns : tie.Need-returns
 unfolding bondPutOf
-returns c = cc
+returns c =
+    let n = c .before .before in
+    rw (c .fused .ensures, n .norm-cdf-two .ensures .0, n .norm-cdf-two .ensures .1, n .before .bond-d1 .ensures)
 
 pub bond-put-of-spec : {M : Type 1} → statement M
 bond-put-of-spec = tie.close (tie.spec bond-d1-requires norm-cdf-two-requires fused-requires returns)

@@ -12,7 +12,7 @@ day-requires c κs = search needs
 
 returns : tie.Need-returns
 unfolding forwardOf
-returns c = cc
+returns c = rw (c .before .ln .ensures .0, c .day .ensures)
 
 pub forward-of-spec : {M : Type 1} → statement M
 forward-of-spec = tie.close (tie.spec ln-requires day-requires returns)

@@ -1,20 +1,24 @@
--- `formulas::volatility_of` meets its contract. Assumes nothing.
+-- `formulas::volatility_of` meets its contract: what the two exps and the root give, put in. Assumes nothing.
 use borrow.Author.Needs.{needs}
+use Rattle.formulas.specs.HullWhite.{bOf, decayOf, deviationOf}
 use Rattle.formulas.proofs.hullwhite.volatility_of.Statement.{statement}
 use Rattle.formulas.proofs.hullwhite.volatility_of.Tie as tie
 
-b-of-requires : tie.Need-b-of-requires
-b-of-requires c κs = search needs
+exp-two-requires : tie.Need-exp-two-requires
+exp-two-requires c κs = search needs
 
-deviation-of-requires : tie.Need-deviation-of-requires
-deviation-of-requires c κs = search needs
+sqrt-requires : tie.Need-sqrt-requires
+sqrt-requires c κs = search needs
 
 volatility-at-requires : tie.Need-volatility-at-requires
 volatility-at-requires c κs = search needs
 
 returns : tie.Need-returns
-returns c = cc
+unfolding bOf decayOf deviationOf
+returns c =
+    let e = c .before .before .before .before .exp-two .ensures in
+    rw (c .volatility-at .ensures, c .before .sqrt .ensures .0, e .0, e .1)
 
 pub volatility-of-spec : {M : Type 1} → statement M
 volatility-of-spec =
-    tie.close (tie.spec b-of-requires deviation-of-requires volatility-at-requires returns)
+    tie.close (tie.spec exp-two-requires sqrt-requires volatility-at-requires returns)
