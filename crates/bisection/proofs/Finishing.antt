@@ -1,6 +1,6 @@
 -- Rule 13 of a fit that the code took apart, and ends that agree in every field. Assumes nothing.
-use mathlib.Core.Path.{_≡_, refl, sym, ap, _∙_}
-use mathlib.Core.Bool.{Bool, true, false, _&&_, cond}
+use mathlib.Core.Path.{_≡_, refl}
+use mathlib.Core.Bool.{Bool, true, false, _&&_}
 use Prim.Native.Nat.{ℕ}
 use native.Mathlib.Omega.{arith}
 use lib.Ieee.Scale.{finite}
@@ -18,15 +18,12 @@ allFinite fit =
     let e = fit .ends in
     finite (fit .sigma) && finite (fit .residual) && finite (e .low) && finite (e .high) && finite (e .«low_residual») && finite (e .«high_residual»)
 
-module _ (fitted : Fitted) (fit : Fit) (b : Bool) (e : fitted ≡ F.Served fit) (k : b ≡ allFinite fit) where
-  finishing : following (fittedOutcome fitted) finishingFit ≡ cond b (served fit) (refused R.Overflow)
-  finishing = ap (λ (x : Fitted). following (fittedOutcome x) finishingFit) e ∙ ap (λ (x : Bool). cond x (served fit) (refused R.Overflow)) (sym k)
+module _ (fitted : Fitted) (fit : Fit) (e : fitted ≡ F.Served fit) where
+  pub let-through : allFinite fit ≡ true → served fit ≡ following (fittedOutcome fitted) finishingFit
+  let-through h = rw (e, h)
 
-  pub let-through : b ≡ true → served fit ≡ following (fittedOutcome fitted) finishingFit
-  let-through h = sym (finishing ∙ ap (λ (x : Bool). cond x (served fit) (refused R.Overflow)) h)
-
-  pub turned-down : b ≡ false → refused R.Overflow ≡ following (fittedOutcome fitted) finishingFit
-  turned-down h = sym (finishing ∙ ap (λ (x : Bool). cond x (served fit) (refused R.Overflow)) h)
+  pub turned-down : allFinite fit ≡ false → refused R.Overflow ≡ following (fittedOutcome fitted) finishingFit
+  turned-down h = rw (e, h)
 
 -- ---- four tests, all of them passed
 no-true : {A : Type 0} → false ≡ true → A

@@ -1,12 +1,12 @@
 // utils.rs: a quoted volatility's price, Black's and Bachelier's, and the annuity: the formulas on plain
 // numbers, and as calls.
-mod formulas;
+mod quoted;
 mod rules;
 mod utils;
 
-pub use formulas::annuity_step;
-pub use formulas::bachelier_call_of;
-pub use formulas::black_call_of;
+pub use quoted::annuity_step;
+pub use quoted::bachelier_call_of;
+pub use quoted::black_call_of;
 pub use utils::Pair;
 pub use utils::annuity;
 pub use utils::bachelier_call;

@@ -4,7 +4,7 @@ ghost use mathlib.Core.Bool.{true};
 ghost use Rattle.lists.specs.Checks.{inOrder};
 ghost use Rattle.lists.specs.Refusals.{Priced, outcomeOf, reported};
 ghost use Rattle.quotes.specs.Utils.{noTwo, pairOutcome, d1d2Worked, d1d2Outcome, blackCallOutcome, blackPutOutcome, bachelierCallOutcome, annuityPriced, annuityOutcome};
-use super::formulas;
+use super::quoted;
 use super::rules;
 use lists::Answer;
 use lists::Price;
@@ -31,8 +31,8 @@ pub fn d1_d2(fwd: f64, strike: f64, vol: f64, tau: f64) -> Pair
 fn d1_d2_worked(fwd: f64, strike: f64, vol: f64, tau: f64) -> Pair
     ensures { λ r. ⌜ pairOutcome r ≡ d1d2Worked fwd strike vol tau ⌝ }
 {
-    let d1 = formulas::d1_of(fwd, strike, vol, tau);
-    let d2 = formulas::d2_of(vol, tau, d1);
+    let d1 = quoted::d1_of(fwd, strike, vol, tau);
+    let d2 = quoted::d2_of(vol, tau, d1);
     if elementary::is_finite(d1) & elementary::is_finite(d2) {
         Pair::Served(d1, d2)
     } else {
@@ -46,7 +46,7 @@ pub fn black_call(fwd: f64, strike: f64, vol: f64, tau: f64) -> Price
     let answer = rules::quote_rules(true, fwd, strike, vol, tau);
     match answer {
         Answer::Refused(refusal) => Price::Refused(refusal),
-        Answer::Served => lists::served(formulas::black_call_of(fwd, strike, vol, tau)),
+        Answer::Served => lists::served(quoted::black_call_of(fwd, strike, vol, tau)),
     }
 }
 
@@ -56,7 +56,7 @@ pub fn black_put(fwd: f64, strike: f64, vol: f64, tau: f64) -> Price
     let answer = rules::quote_rules(true, fwd, strike, vol, tau);
     match answer {
         Answer::Refused(refusal) => Price::Refused(refusal),
-        Answer::Served => lists::served(formulas::black_put_of(fwd, strike, vol, tau)),
+        Answer::Served => lists::served(quoted::black_put_of(fwd, strike, vol, tau)),
     }
 }
 
@@ -66,7 +66,7 @@ pub fn bachelier_call(fwd: f64, strike: f64, vol: f64, tau: f64) -> Price
     let answer = rules::quote_rules(false, fwd, strike, vol, tau);
     match answer {
         Answer::Refused(refusal) => Price::Refused(refusal),
-        Answer::Served => lists::served(formulas::bachelier_call_of(fwd, strike, vol, tau)),
+        Answer::Served => lists::served(quoted::bachelier_call_of(fwd, strike, vol, tau)),
     }
 }
 
@@ -83,7 +83,7 @@ pub fn annuity(times: &[f64], factors: &[f64], payments: &[f64], accruals: &[f64
     }
 }
 
-// Behind rule 4: the times strictly rise, so that each factor is looked up by halves.
+// `annuity` shows that the times strictly rise, behind rule 4: so each factor is looked up by halves.
 fn annuity_priced(times: &[f64], factors: &[f64], payments: &[f64], accruals: &[f64]) -> Price
     requires { ⌜ inOrder true (now times) ≡ true ⌝ }
     ensures { λ r. ⌜ outcomeOf r ≡ annuityPriced (now (times .entry)) (now (factors .entry)) (now (payments .entry)) (now (accruals .entry)) ⌝ }
@@ -97,7 +97,7 @@ fn annuity_priced(times: &[f64], factors: &[f64], payments: &[f64], accruals: &[
         let Found::At(p) = lookups::factor(times, factors, payments[i]) else {
             return Price::Refused(Refusal::OffCurve);
         };
-        sum = formulas::annuity_step(sum, accruals[i], p);
+        sum = quoted::annuity_step(sum, accruals[i], p);
         i += 1;
     }
     lists::served(sum)

@@ -1,4 +1,5 @@
 -- `bisection::halving::is_close` meets its contract. Assumes nothing.
+use mathlib.Core.Path.{refl}
 use borrow.Author.Needs.{needs}
 use Rattle.bisection.proofs.Literals.{tolerance-is}
 use Rattle.bisection.proofs.halving.is_close.Statement.{statement}
@@ -8,7 +9,7 @@ abs-requires : tie.Need-abs-requires
 abs-requires c κs = search needs
 
 returns : tie.Need-returns
-returns c = rw (← tolerance-is) (cc)
+returns c = rw (c .abs .ensures, ← tolerance-is) refl
 
 pub is-close-spec : {M : Type 1} → statement M
 is-close-spec = tie.close (tie.spec abs-requires returns)

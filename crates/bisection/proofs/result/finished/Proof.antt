@@ -33,15 +33,27 @@ is-finite-requires-6 c κs = search needs
 
 returns-2 : tie.Need-returns-2
 returns-2 c =
-    let b = c .before in
-    let f = b .before .before .before .before .before .before .before .before in
-    let-through _ (f .fitted .given .0 .0) _ (f .fitted .given .1) (cc) (c .if1 .taken)
+    let f6 = c .before in
+    let f5 = f6 .before in
+    let f4 = f5 .before in
+    let f3 = f4 .before in
+    let f2 = f3 .before in
+    let f1 = f2 .before in
+    let s = f1 .before .before .before in
+    let-through _ (s .fitted .given .0 .0) (s .fitted .given .1)
+    (rw (f1 .is-finite .ensures, f2 .is-finite2 .ensures, f3 .is-finite3 .ensures, f4 .is-finite4 .ensures, f5 .is-finite5 .ensures, f6 .is-finite6 .ensures) at (c .if1 .taken))
 
 returns-3 : tie.Need-returns-3
 returns-3 c =
-    let b = c .before in
-    let f = b .before .before .before .before .before .before .before .before in
-    turned-down _ (f .fitted .given .0 .0) _ (f .fitted .given .1) (cc) (c .if1 .left)
+    let f6 = c .before in
+    let f5 = f6 .before in
+    let f4 = f5 .before in
+    let f3 = f4 .before in
+    let f2 = f3 .before in
+    let f1 = f2 .before in
+    let s = f1 .before .before .before in
+    turned-down _ (s .fitted .given .0 .0) (s .fitted .given .1)
+    (rw (f1 .is-finite .ensures, f2 .is-finite2 .ensures, f3 .is-finite3 .ensures, f4 .is-finite4 .ensures, f5 .is-finite5 .ensures, f6 .is-finite6 .ensures) at (c .if1 .left))
 
 pub finished-spec : {M : Type 1} → statement M
 finished-spec =

@@ -19,14 +19,14 @@ returns : tie.Need-returns
 unfolding stepped
 returns c =
     let s = c .before .before .newton-sums in
-    let q : lt (absOf (s .result .derivative)) (ofBits binary64 0x3d06_849b_86a1_2b9b) ≡ true = cc in
+    let q : lt (absOf (s .result .derivative)) (ofBits binary64 0x3d06_849b_86a1_2b9b) ≡ true = rw (c .before .abs .ensures) at (c .if1 .taken) in
     rw (← s .ensures, ← flatLimit-is, q)
 
 returns-2 : tie.Need-returns-2
 unfolding stepped
 returns-2 c =
     let s = c .before .before .before .newton-sums in
-    let q : lt (absOf (s .result .derivative)) (ofBits binary64 0x3d06_849b_86a1_2b9b) ≡ false = cc in
+    let q : lt (absOf (s .result .derivative)) (ofBits binary64 0x3d06_849b_86a1_2b9b) ≡ false = rw (c .before .before .abs .ensures) at (c .before .if1 .left) in
     rw (← s .ensures, ← flatLimit-is, q)
 
 pub implicit-critical-rate-spec : {M : Type 1} → statement M

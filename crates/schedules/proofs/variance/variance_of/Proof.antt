@@ -62,7 +62,7 @@ loop-again c =
     let e = c .before .before .before .before .before in
     let l = e .before .before .loop in
     let a = e .before .before .before .before .before .args in
-    let w : c .piece .result ≡ pieceOf (a .alpha) (a .end) (lowerOf (eqb (l .i) 0) (a .start) (getD (now (a .times)) (l .i) nan)) (upperOf (a .end) (drop (l .i + 1) (now (a .times)))) (getD (now (a .sigmas)) (l .i) nan) (l .variance) = cc in
+    let w : c .piece .result ≡ pieceOf (a .alpha) (a .end) (lowerOf (eqb (l .i) 0) (a .start) (getD (now (a .times)) (l .i) nan)) (upperOf (a .end) (drop (l .i + 1) (now (a .times)))) (getD (now (a .sigmas)) (l .i) nan) (l .variance) = rw (c .before .before .before .lower-at .ensures, c .before .before .upper-at .ensures) at (c .piece .ensures) in
     let f : eqb (l .i + 1) 0 ≡ false = ne-eqb (l .i + 1) 0 (λ q. omega arith) in
     (search needs, rw (f, w) (sym (pieces-turn _ _ _ _ _ _ _ _ (e .before .loop-test .taken) (e .if1 .left)) ∙ l .inv .1))
 

@@ -25,13 +25,13 @@ exp-m1-requires c κs = search needs
 returns : tie.Need-returns
 unfolding weightOf
 returns c =
-    let q : lt (absOf (c .before .before .args .alpha)) (ofBits binary64 0x3d71_9799_812d_ea11) ≡ true = cc in
+    let q : lt (absOf (c .before .before .args .alpha)) (ofBits binary64 0x3d71_9799_812d_ea11) ≡ true = rw (c .before .abs .ensures) at (c .if1 .taken) in
     rw (← flat-is, q)
 
 returns-2 : tie.Need-returns-2
 unfolding weightOf
 returns-2 c =
-    let q : lt (absOf (c .before .before .before .before .args .alpha)) (ofBits binary64 0x3d71_9799_812d_ea11) ≡ false = cc in
+    let q : lt (absOf (c .before .before .before .before .args .alpha)) (ofBits binary64 0x3d71_9799_812d_ea11) ≡ false = rw (c .before .before .before .abs .ensures) at (c .before .before .if1 .left) in
     rw (← flat-is, q) (cc)
 
 pub weight-spec : {M : Type 1} → statement M

@@ -1,8 +1,8 @@
 -- `quotes::black_call_of` meets its contract. Assumes nothing.
 use Rattle.quotes.specs.Formulas.{blackCallOf}
 use borrow.Author.Needs.{needs}
-use Rattle.quotes.proofs.formulas.black_call_of.Statement.{statement}
-use Rattle.quotes.proofs.formulas.black_call_of.Tie as tie
+use Rattle.quotes.proofs.quoted.black_call_of.Statement.{statement}
+use Rattle.quotes.proofs.quoted.black_call_of.Tie as tie
 
 d1-of-requires : tie.Need-d1-of-requires
 d1-of-requires c κs = search needs

@@ -1,8 +1,8 @@
 -- `quotes::bachelier_call_of` meets its contract. Assumes nothing.
 use Rattle.quotes.specs.Formulas.{bachelierCallOf}
 use borrow.Author.Needs.{needs}
-use Rattle.quotes.proofs.formulas.bachelier_call_of.Statement.{statement}
-use Rattle.quotes.proofs.formulas.bachelier_call_of.Tie as tie
+use Rattle.quotes.proofs.quoted.bachelier_call_of.Statement.{statement}
+use Rattle.quotes.proofs.quoted.bachelier_call_of.Tie as tie
 
 sqrt-requires : tie.Need-sqrt-requires
 sqrt-requires c κs = search needs

@@ -1,8 +1,8 @@
 -- `quotes::d2_of` meets its contract. Assumes nothing.
 use Rattle.quotes.specs.Formulas.{d2Of}
 use borrow.Author.Needs.{needs}
-use Rattle.quotes.proofs.formulas.d2_of.Statement.{statement}
-use Rattle.quotes.proofs.formulas.d2_of.Tie as tie
+use Rattle.quotes.proofs.quoted.d2_of.Statement.{statement}
+use Rattle.quotes.proofs.quoted.d2_of.Tie as tie
 
 sqrt-requires : tie.Need-sqrt-requires
 sqrt-requires c κs = search needs
@@ -12,7 +12,7 @@ fused-requires c κs = search needs
 
 returns : tie.Need-returns
 unfolding d2Of
-returns c = cc
+returns c = rw (← c .before .sqrt .ensures .0) (c .fused .ensures)
 
 pub d2-of-spec : {M : Type 1} → statement M
 d2-of-spec = tie.close (tie.spec sqrt-requires fused-requires returns)

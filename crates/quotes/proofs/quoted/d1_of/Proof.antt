@@ -1,8 +1,8 @@
 -- `quotes::d1_of` meets its contract. Assumes nothing.
 use Rattle.quotes.specs.Formulas.{d1Of}
 use borrow.Author.Needs.{needs}
-use Rattle.quotes.proofs.formulas.d1_of.Statement.{statement}
-use Rattle.quotes.proofs.formulas.d1_of.Tie as tie
+use Rattle.quotes.proofs.quoted.d1_of.Statement.{statement}
+use Rattle.quotes.proofs.quoted.d1_of.Tie as tie
 
 sqrt-requires : tie.Need-sqrt-requires
 sqrt-requires c κs = search needs
