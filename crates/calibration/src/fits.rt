@@ -141,7 +141,7 @@ fn caplet_worked(
     let caplet = Instrument::Caplet {
         b: formulas::b_of(alpha, t, end),
         deviation: formulas::deviation_of(alpha, t),
-        bond_strike: formulas::optionlet_strike_of(strike, t, end),
+        bond_strike: 1.0 / formulas::growth_of(end - t, strike),
         strike,
         t,
         end,

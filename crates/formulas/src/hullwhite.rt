@@ -1,6 +1,6 @@
 // hullwhitemodel.rs: the analytic formulas of the one-factor model, on factors that are already fetched.
 ghost use mathlib.Core.Path.{_≡_};
-ghost use Rattle.formulas.specs.HullWhite.{h, decayOf, bOf, forwardOf, driftOf, aAt, aOf, zcbOf, deviationOf, volatilityAt, volatilityOf, slopeOf, thetaOf, shortRateVarianceOf, d1Of, bondPutOf, bondCallOf, growthOf, optionletStrikeOf, optionletOf};
+ghost use Rattle.formulas.specs.HullWhite.{h, decayOf, bOf, forwardOf, driftOf, aAt, aOf, zcbOf, deviationOf, volatilityAt, volatilityOf, slopeOf, thetaOf, shortRateVarianceOf, d1Of, bondPutOf, bondCallOf, growthOf};
 
 // A day, the step of every finite difference.
 pub fn day() -> f64
@@ -141,23 +141,10 @@ pub fn bond_call_of(sigma_p: f64, strike: f64, p_t: f64, p_bond: f64) -> f64
     ieee::fused(p_bond, n.first, -taken)
 }
 
-// 1 + δ × K over an accrual period.
-fn growth(tau: f64, strike: f64) -> f64
+// 1 + δ × K over an accrual period: a caplet or a floorlet is that many options on a bond, whose strike is
+// 1 over it. Who wants both works it once.
+pub fn growth_of(tau: f64, strike: f64) -> f64
     ensures { λ r. ⌜ r ≡ growthOf tau strike ⌝ }
 {
     ieee::fused(tau, strike, 1.0)
-}
-
-// The bond strike of a caplet or a floorlet.
-pub fn optionlet_strike_of(strike: f64, t: f64, end: f64) -> f64
-    ensures { λ r. ⌜ r ≡ optionletStrikeOf strike t end ⌝ }
-{
-    1.0 / growth(end - t, strike)
-}
-
-// A caplet from its bond put, and a floorlet from its bond call.
-pub fn optionlet_of(strike: f64, t: f64, end: f64, option: f64) -> f64
-    ensures { λ r. ⌜ r ≡ optionletOf strike t end option ⌝ }
-{
-    growth(end - t, strike) * option
 }

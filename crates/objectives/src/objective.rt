@@ -48,7 +48,7 @@ fn caplet_at(
 {
     let sigma_p = formulas::volatility_at(sigma, b, deviation);
     let put = formulas::bond_put_of(sigma_p, bond_strike, p_t, p_end);
-    formulas::optionlet_of(strike, t, end, put)
+    formulas::growth_of(end - t, strike) * put
 }
 
 // The model price at a sigma. The lists are a swaption's coefficients, B, drifts and factors; a caplet has

@@ -212,9 +212,9 @@ fn optionlet_priced(
         return Price::Refused(Refusal::OffCurve);
     };
     let sigma_p = formulas::volatility_of(alpha, sigma, t, end);
-    let x = formulas::optionlet_strike_of(strike, t, end);
-    let price = bond_option(option, sigma_p, x, p_t, p_end);
-    lists::served(formulas::optionlet_of(strike, t, end, price))
+    let growth = formulas::growth_of(end - t, strike);
+    let price = bond_option(option, sigma_p, 1.0 / growth, p_t, p_end);
+    lists::served(growth * price)
 }
 
 fn bond_option(option: BondOption, sigma_p: f64, strike: f64, p_t: f64, p_bond: f64) -> f64

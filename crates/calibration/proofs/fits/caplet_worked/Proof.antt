@@ -1,4 +1,9 @@
 -- `calibration::fits::caplet_worked` meets its contract: the bisection is that of the objective worked ahead, and its fit is looked at by rule 13. Assumes nothing.
+use mathlib.Core.Path.{ap}
+use lib.Ieee.{Float}
+use Rattle.ieee.specs.Rounded.{_⊘_}
+use Rattle.ieee.specs.Numbers.{one}
+use Rattle.formulas.specs.HullWhite.{optionletStrikeOf}
 use Rattle.calibration.proofs.Worked.{caplet-fit}
 use borrow.Author.Needs.{needs}
 use Rattle.calibration.proofs.fits.caplet_worked.Statement.{statement}
@@ -10,8 +15,8 @@ b-of-requires c κs = search needs
 deviation-of-requires : tie.Need-deviation-of-requires
 deviation-of-requires c κs = search needs
 
-optionlet-strike-of-requires : tie.Need-optionlet-strike-of-requires
-optionlet-strike-of-requires c κs = search needs
+growth-of-requires : tie.Need-growth-of-requires
+growth-of-requires c κs = search needs
 
 caplet-market-requires : tie.Need-caplet-market-requires
 caplet-market-requires c κs = search needs
@@ -29,7 +34,8 @@ finished-requires : tie.Need-finished-requires
 finished-requires c κs = search needs
 
 returns : tie.Need-returns
-returns c = caplet-fit _ _ _ _ _ _ _ _ _ _ _ _ (c .before .before .before .before .before .before .b-of .ensures) (c .before .before .before .before .before .deviation-of .ensures) (c .before .before .before .before .optionlet-strike-of .ensures) (c .before .before .before .caplet-market .ensures) (c .before .solve .ensures) (c .finished .ensures)
+unfolding optionletStrikeOf
+returns c = caplet-fit _ _ _ _ _ _ _ _ _ _ _ _ (c .before .before .before .before .before .before .b-of .ensures) (c .before .before .before .before .before .deviation-of .ensures) (ap (λ (g : Float). one ⊘ g) (c .before .before .before .before .growth-of .ensures)) (c .before .before .before .caplet-market .ensures) (c .before .solve .ensures) (c .finished .ensures)
 
 pub caplet-worked-spec : {M : Type 1} → statement M
 caplet-worked-spec =
@@ -37,7 +43,7 @@ caplet-worked-spec =
     (tie.spec
     b-of-requires
     deviation-of-requires
-    optionlet-strike-of-requires
+    growth-of-requires
     caplet-market-requires
     array-share-prefix-none
     slice-aggregate-empty

@@ -1,4 +1,5 @@
 -- `formulas::a_at` meets its contract. Assumes nothing.
+use mathlib.Core.Path.{refl}
 use Rattle.formulas.specs.HullWhite.{aAt}
 use borrow.Author.Needs.{needs}
 use Rattle.formulas.proofs.hullwhite.a_at.Statement.{statement}
@@ -12,7 +13,7 @@ exp-requires c κs = search needs
 
 returns : tie.Need-returns
 unfolding aAt
-returns c = rw (c .exp .ensures .0, c .before .fused .ensures)
+returns c = rw (c .exp .ensures .0, c .before .fused .ensures) refl
 
 pub a-at-spec : {M : Type 1} → statement M
 a-at-spec = tie.close (tie.spec fused-requires exp-requires returns)

@@ -17,7 +17,7 @@ returns : tie.Need-returns
 unfolding bondPutOf
 returns c =
     let n = c .before .before in
-    rw (c .fused .ensures, n .norm-cdf-two .ensures .0, n .norm-cdf-two .ensures .1, n .before .bond-d1 .ensures)
+    rw (← n .before .bond-d1 .ensures, ← n .norm-cdf-two .ensures .0, ← n .norm-cdf-two .ensures .1) (c .fused .ensures)
 
 pub bond-put-of-spec : {M : Type 1} → statement M
 bond-put-of-spec = tie.close (tie.spec bond-d1-requires norm-cdf-two-requires fused-requires returns)

@@ -1,4 +1,5 @@
 -- `formulas::forward_of` meets its contract. Assumes nothing.
+use mathlib.Core.Path.{refl}
 use Rattle.formulas.specs.HullWhite.{forwardOf}
 use borrow.Author.Needs.{needs}
 use Rattle.formulas.proofs.hullwhite.forward_of.Statement.{statement}
@@ -12,7 +13,7 @@ day-requires c κs = search needs
 
 returns : tie.Need-returns
 unfolding forwardOf
-returns c = rw (c .before .ln .ensures .0, c .day .ensures)
+returns c = rw (c .before .ln .ensures .0, c .day .ensures) refl
 
 pub forward-of-spec : {M : Type 1} → statement M
 forward-of-spec = tie.close (tie.spec ln-requires day-requires returns)

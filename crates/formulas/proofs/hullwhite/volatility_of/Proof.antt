@@ -1,4 +1,5 @@
 -- `formulas::volatility_of` meets its contract: what the two exps and the root give, put in. Assumes nothing.
+use mathlib.Core.Path.{refl}
 use borrow.Author.Needs.{needs}
 use Rattle.formulas.specs.HullWhite.{bOf, decayOf, deviationOf}
 use Rattle.formulas.proofs.hullwhite.volatility_of.Statement.{statement}
@@ -17,7 +18,7 @@ returns : tie.Need-returns
 unfolding bOf decayOf deviationOf
 returns c =
     let e = c .before .before .before .before .exp-two .ensures in
-    rw (c .volatility-at .ensures, c .before .sqrt .ensures .0, e .0, e .1)
+    rw (c .volatility-at .ensures, c .before .sqrt .ensures .0, e .0, e .1) refl
 
 pub volatility-of-spec : {M : Type 1} → statement M
 volatility-of-spec =

@@ -1,4 +1,5 @@
 -- `objectives::objective::caplet_at` meets its contract. Assumes nothing.
+use Rattle.formulas.specs.HullWhite.{optionletOf}
 use Rattle.objectives.specs.Objective.{capletAt}
 use borrow.Author.Needs.{needs}
 use Rattle.objectives.proofs.objective.caplet_at.Statement.{statement}
@@ -10,13 +11,13 @@ volatility-at-requires c κs = search needs
 bond-put-of-requires : tie.Need-bond-put-of-requires
 bond-put-of-requires c κs = search needs
 
-optionlet-of-requires : tie.Need-optionlet-of-requires
-optionlet-of-requires c κs = search needs
+growth-of-requires : tie.Need-growth-of-requires
+growth-of-requires c κs = search needs
 
 returns : tie.Need-returns
-unfolding capletAt
-returns c = cc
+unfolding capletAt optionletOf
+returns c = rw (c .growth-of .ensures, c .before .bond-put-of .ensures, c .before .before .volatility-at .ensures)
 
 pub caplet-at-spec : {M : Type 1} → statement M
 caplet-at-spec =
-    tie.close (tie.spec volatility-at-requires bond-put-of-requires optionlet-of-requires returns)
+    tie.close (tie.spec volatility-at-requires bond-put-of-requires growth-of-requires returns)

@@ -1,5 +1,7 @@
 -- `options::optionlet_priced` meets its contract: each factor is found or the call is refused by rule 8, and then the formula is worked. Assumes nothing.
+use mathlib.Core.Path.{_∙_}
 use borrow.Author.Needs.{needs}
+use Rattle.formulas.specs.HullWhite.{optionletStrikeOf, optionletOf}
 use Rattle.options.specs.Options.{optionletPriced}
 use Rattle.lookups.proofs.Outcomes.{at, missing}
 use Rattle.options.proofs.options.optionlet_priced.Statement.{statement}
@@ -36,24 +38,22 @@ returns-2 c =
 volatility-of-requires : tie.Need-volatility-of-requires
 volatility-of-requires c κs = search needs
 
-optionlet-strike-of-requires : tie.Need-optionlet-strike-of-requires
-optionlet-strike-of-requires c κs = search needs
+growth-of-requires : tie.Need-growth-of-requires
+growth-of-requires c κs = search needs
 
 bond-option-requires : tie.Need-bond-option-requires
 bond-option-requires c κs = search needs
-
-optionlet-of-requires : tie.Need-optionlet-of-requires
-optionlet-of-requires c κs = search needs
 
 served-requires : tie.Need-served-requires
 served-requires c κs = search needs
 
 returns-3 : tie.Need-returns-3
-unfolding optionletPriced
+unfolding optionletPriced optionletStrikeOf optionletOf
 returns-3 c =
-    let j = c .before .before .before .before .before .before in
+    let g = c .before .before in
+    let j = g .before .before .before in
     let i = j .before .before .before .before in
-    rw (at _ (i .p-t .given .1) (i .before .before .factor .ensures), at _ (j .p-end .given .1) (j .before .before .factor2 .ensures), ← c .before .before .before .before .volatility-of .ensures, ← c .before .before .before .optionlet-strike-of .ensures, ← c .before .before .bond-option .ensures, ← c .before .optionlet-of .ensures) (c .served .ensures)
+    rw (at _ (i .p-t .given .1) (i .before .before .factor .ensures), at _ (j .p-end .given .1) (j .before .before .factor2 .ensures)) (c .served .ensures ∙ rw (c .before .bond-option .ensures, g .growth-of .ensures, g .before .volatility-of .ensures))
 
 pub optionlet-priced-spec : {M : Type 1} → statement M
 optionlet-priced-spec =
@@ -68,8 +68,7 @@ optionlet-priced-spec =
     enum-told-2
     returns-2
     volatility-of-requires
-    optionlet-strike-of-requires
+    growth-of-requires
     bond-option-requires
-    optionlet-of-requires
     served-requires
     returns-3)
