@@ -1,4 +1,5 @@
 -- `curve_faults` meets its contract: each rule's fault is what the checks of the lists of the curve say.
+use mathlib.Core.Path.{refl}
 use borrow.Author.Needs.{needs}
 use Rattle.lists.proofs.curves.curve_faults.Statement.{statement}
 use Rattle.lists.proofs.curves.curve_faults.Tie as tie
@@ -16,7 +17,7 @@ all-requires-3 : tie.Need-all-requires-3
 all-requires-3 c κs = search needs
 
 returns : tie.Need-returns
-returns c = cc
+returns c = rw (c .before .before .before .all .ensures, c .before .before .all2 .ensures, c .before .in-order .ensures, c .all3 .ensures) refl
 
 pub curve-faults-spec : {M : Type 1} → statement M
 curve-faults-spec =
