@@ -1,4 +1,5 @@
 -- `options::bond_option_priced` meets its contract: each factor is found or the call is refused by rule 8, and then the formula is worked. Assumes nothing.
+use mathlib.Core.Path.{_∙_}
 use borrow.Author.Needs.{needs}
 use Rattle.options.specs.Options.{bondOptionPriced}
 use Rattle.lookups.proofs.Outcomes.{at, missing}
@@ -47,7 +48,7 @@ unfolding bondOptionPriced
 returns-3 c =
     let j = c .before .before .before .before in
     let i = j .before .before .before .before in
-    rw (at _ (i .p-t .given .1) (i .before .before .factor .ensures), at _ (j .p-bond .given .1) (j .before .before .factor2 .ensures), ← c .before .before .volatility-of .ensures, ← c .before .bond-option .ensures) (c .served .ensures)
+    rw (at _ (i .p-t .given .1) (i .before .before .factor .ensures), at _ (j .p-bond .given .1) (j .before .before .factor2 .ensures)) (c .served .ensures ∙ rw (c .before .bond-option .ensures, c .before .before .volatility-of .ensures))
 
 pub bond-option-priced-spec : {M : Type 1} → statement M
 bond-option-priced-spec =
