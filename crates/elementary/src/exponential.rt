@@ -42,7 +42,7 @@ pub fn exp(x: f64) -> f64
         return 0.0;
     }
     let d = reduce(x);
-    scale(series(d.r, 1, 13), d.k)
+    scale(guessed(d.r), d.k)
 }
 
 pub struct Two {
@@ -59,7 +59,7 @@ pub fn exp_two(x: f64, y: f64) -> Two
         if within_limits(y) {
             let d = reduce(x);
             let e = reduce(y);
-            let p = series_two(d.r, e.r);
+            let p = guessed_two(d.r, e.r);
             return Two {
                 first: scale(p.first, d.k),
                 second: scale(p.second, e.k),
@@ -188,6 +188,66 @@ fn series_two(x: f64, y: f64) -> Two
         first: p,
         second: q,
     }
+}
+
+// The series of exp, by guesses. A turn takes the product with 1/n for the quotient and goes on with the
+// sum, which is the same nearly always; the division, for which the next turn would wait, only tells
+// whether it is. Where it is not, the series is worked as it stands.
+fn guessed(x: f64) -> f64
+    ensures { λ r. ⌜ r ≡ seriesOf x 1 13 one ⌝ }
+{
+    let mut p = 1.0;
+    let mut k: u32 = 13;
+    while k > 0 {
+        k -= 1;
+        let n = (1 + k) as f64;
+        let product = x * p;
+        let guess = 1.0 + product * (1.0 / n);
+        if same(guess, 1.0 + product / n) {
+            p = guess;
+        } else {
+            return series(x, 1, 13);
+        }
+    }
+    p
+}
+
+// The same for two numbers.
+fn guessed_two(x: f64, y: f64) -> Two
+    ensures { λ r. ⌜ (r .first ≡ seriesOf x 1 13 one) × (r .second ≡ seriesOf y 1 13 one) ⌝ }
+{
+    let mut p = 1.0;
+    let mut q = 1.0;
+    let mut k: u32 = 13;
+    while k > 0 {
+        k -= 1;
+        let n = (1 + k) as f64;
+        let first = x * p;
+        let second = y * q;
+        let guess = 1.0 + first * (1.0 / n);
+        let other = 1.0 + second * (1.0 / n);
+        if same(guess, 1.0 + first / n) {
+            p = guess;
+        } else {
+            return series_two(x, y);
+        }
+        if same(other, 1.0 + second / n) {
+            q = other;
+        } else {
+            return series_two(x, y);
+        }
+    }
+    Two {
+        first: p,
+        second: q,
+    }
+}
+
+// Whether a guess is the sum, which is above 0 where it is: of two equal zeros the signs might differ.
+fn same(guess: f64, sum: f64) -> bool
+    ensures { λ r. ⌜ (r ≡ true → guess ≡ sum) ⌝ }
+{
+    if guess == sum { guess > 0.0 } else { false }
 }
 
 // p × 2^a × 2^b, a being k/2 toward zero and b = k - a. `reduce` gives a k in range.

@@ -39,8 +39,8 @@ module _ (c : tie.Else3) where
 reduce-requires : tie.Need-reduce-requires
 reduce-requires c κs = x-within c
 
-series-requires : tie.Need-series-requires
-series-requires c κs = search needs
+guessed-requires : tie.Need-guessed-requires
+guessed-requires c κs = search needs
 
 scale-requires : tie.Need-scale-requires
 scale-requires c κs = search needs
@@ -49,7 +49,7 @@ returns-4 : tie.Need-returns-4
 returns-4 c =
     let b = c .before .before in
     let d = b .before .reduce .ensures in
-    both _ _ (from-parts _ (x-within (b .before .before)) _ _ _ _ (d .0) (d .1) (b .series .ensures) (c .scale .ensures))
+    both _ _ (from-parts _ (x-within (b .before .before)) _ _ _ _ (d .0) (d .1) (b .guessed .ensures) (c .scale .ensures))
 
 pub exp-spec : {M : Type 1} → statement M
-exp-spec = tie.close (tie.spec returns returns-2 returns-3 reduce-requires series-requires scale-requires returns-4)
+exp-spec = tie.close (tie.spec returns returns-2 returns-3 reduce-requires guessed-requires scale-requires returns-4)
