@@ -17,8 +17,12 @@ pub struct Spot {
     pub next: usize,
 }
 
-// The factor at a time that is on the curve, numbers compared. It is looked for by halves: the times
-// strictly rise in every call that rule 4 lets through.
+// The factor at a time that is on the curve, numbers compared. It is looked for by halves, for the times
+// strictly rise: behind rule 4 this is handed on by `options::bond_option_priced`,
+// `options::optionlet_priced`, `models::a_priced`, `models::zcb_priced`, `models::forward_priced`,
+// `models::theta_priced`, `models::theta_from`, `quotes::annuity_priced`, `terms::fetch`,
+// `swaptions::model_priced`, `pricers::pricer_priced`, `calibration::caplet_fitted` and
+// `calibration::swaption_fitted`.
 pub fn factor(times: &[f64], factors: &[f64], t: f64) -> Found
     requires { ⌜ inOrder true (now times) ≡ true ⌝ }
     ensures { λ r. ⌜ foundOf r ≡ factorAt (now (times .entry)) (now (factors .entry)) t ⌝ }
@@ -27,7 +31,7 @@ pub fn factor(times: &[f64], factors: &[f64], t: f64) -> Found
     factor_at(times, factors, place, t)
 }
 
-// The same, looked for at the place `hint` first.
+// The same, looked for at the place `hint` first. `paths::forward_near` hands on that the times rise.
 pub fn factor_near(times: &[f64], factors: &[f64], hint: usize, t: f64) -> Spot
     requires { ⌜ inOrder true (now times) ≡ true ⌝ }
     ensures { λ r. ⌜ foundOf (r .found) ≡ factorAt (now (times .entry)) (now (factors .entry)) t ⌝ }
@@ -40,7 +44,8 @@ pub fn factor_near(times: &[f64], factors: &[f64], hint: usize, t: f64) -> Spot
     }
 }
 
-// The factor at t, which stands at this place or nowhere.
+// The factor at t, which stands at this place or nowhere: `factor` has the place from `part`, `factor_near`
+// from `part_near`.
 fn factor_at(times: &[f64], factors: &[f64], place: usize, t: f64) -> Found
     requires { ⌜ (inOrder true (now times) ≡ true) × PartsAt true (now times) t place ⌝ }
     ensures { λ r. ⌜ foundOf r ≡ factorAt (now (times .entry)) (now (factors .entry)) t ⌝ }
@@ -59,7 +64,8 @@ fn factor_at(times: &[f64], factors: &[f64], place: usize, t: f64) -> Found
     }
 }
 
-// How many times of a rising list are below t where `strictly`, else at most t, looked for by halves.
+// How many times of a rising list are below t where `strictly`, else at most t, looked for by halves. `factor`
+// and `part_near` hand on that they rise.
 fn part(times: &[f64], t: f64, strictly: bool) -> usize
     requires { ⌜ inOrder true (now times) ≡ true ⌝ }
     ensures { λ r. ⌜ PartsAt strictly (now (times .entry)) t r ⌝ }
@@ -78,6 +84,7 @@ fn part(times: &[f64], t: f64, strictly: bool) -> usize
 }
 
 // The same, where `hint` is likely to be it: the times on both sides of the place say whether it is.
+// `factor_near` and `volatility_near` hand on that they rise.
 fn part_near(times: &[f64], hint: usize, t: f64, strictly: bool) -> usize
     requires { ⌜ inOrder true (now times) ≡ true ⌝ }
     ensures { λ r. ⌜ PartsAt strictly (now (times .entry)) t r ⌝ }
@@ -90,7 +97,7 @@ fn part_near(times: &[f64], hint: usize, t: f64, strictly: bool) -> usize
     part(times, t, strictly)
 }
 
-// Whether the first n times are so: in a rising list the last of them shows it.
+// Whether the first n times are so: in a rising list, as `part_near` is given, the last of them shows it.
 fn reaches(times: &[f64], n: usize, t: f64, strictly: bool) -> bool
     requires { ⌜ inOrder true (now times) ≡ true ⌝ }
     ensures { λ r. ⌜ (r ≡ true → (n ≤ length (now (times .entry))) × Front strictly (now (times .entry)) t n) ⌝ }
@@ -104,7 +111,7 @@ fn reaches(times: &[f64], n: usize, t: f64, strictly: bool) -> bool
     lists::follows(strictly, times[n - 1], t)
 }
 
-// Whether none from place n on is: the first of them shows it.
+// Whether none from place n on is: in the list of `part_near` the first of them shows it.
 fn stops(times: &[f64], n: usize, t: f64, strictly: bool) -> bool
     requires { ⌜ inOrder true (now times) ≡ true ⌝ }
     ensures { λ r. ⌜ (r ≡ true → Back strictly (now (times .entry)) t n) ⌝ }
@@ -139,7 +146,8 @@ pub fn volatility(times: &[f64], sigmas: &[f64], t: f64) -> Found
     Found::At(best)
 }
 
-// The same on rising times, of which `hint` are likely to be at or before t.
+// The same on rising times, of which `hint` are likely to be at or before t. `paths::walk_points` hands on
+// that they rise.
 pub fn volatility_near(times: &[f64], sigmas: &[f64], hint: usize, t: f64) -> Spot
     requires { ⌜ inOrder true (now times) ≡ true ⌝ }
     ensures { λ r. ⌜ foundOf (r .found) ≡ volatilityAt (now (times .entry)) (now (sigmas .entry)) t ⌝ }

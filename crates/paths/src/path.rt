@@ -56,8 +56,8 @@ pub fn generate(
     )
 }
 
-// The same on a curve whose faults are known: the call above shows it, and so does whoever works them
-// once for many jobs.
+// The same on a curve whose faults are known: `generate` has worked them, and `runfile::path_lines` hands on
+// those that were worked once for all jobs.
 pub fn generate_on(
     curve: Faults,
     alpha: f64,
@@ -150,7 +150,7 @@ fn path_rules(
     lists::and_rule(answer, Refusal::Empty, empty)
 }
 
-// One Euler step of the state to the time t, with the decay over it.
+// One Euler step of the state to the time t, with the decay over it, which `walk_points` has from its list.
 fn state_after(alpha: f64, sigma: f64, t: f64, draw: f64, decay: f64, s: State) -> State
     requires { ⌜ decay ≡ stepDecay alpha (s .t) t ⌝ }
     ensures { λ r. ⌜ r ≡ stateAfter alpha sigma t draw s ⌝ }
@@ -173,7 +173,8 @@ fn shift_of(variance: f64, forward: f64) -> f64
     ieee::fused(0.5, variance, forward)
 }
 
-// The forward at t, from the factors at t and a day later, looked for at `hint` first.
+// The forward at t, from the factors at t and a day later, looked for at `hint` first. `walk_points` hands on
+// that the curve's times rise.
 fn forward_near(times: &[f64], factors: &[f64], hint: usize, t: f64) -> Spot
     requires { ⌜ inOrder true (now times) ≡ true ⌝ }
     ensures { λ r. ⌜ foundOf (r .found) ≡ forwardAt (now (times .entry)) (now (factors .entry)) t ⌝ }
@@ -213,8 +214,8 @@ fn walk_grid(
     walk_points(alpha, pillars, sigmas, times, factors, grid, draws, out)
 }
 
-// The same, where `out` holds the decay over each step: a point's rate takes the place of its decay. A
-// volatility and a forward are looked for where those of the point before were found.
+// The same, where `out` holds the decay over each step, as `walk_grid` has had it written: a point's rate takes
+// the place of its decay. A volatility and a forward are looked for where those of the point before were found.
 fn walk_points(
     alpha: f64,
     pillars: &[f64],

@@ -28,7 +28,7 @@ pub fn finite(x: f64) -> bool
     if x < infinity { -infinity < x } else { false }
 }
 
-// The fields of the bit pattern of a finite x, as its callers have tested.
+// The fields of the bit pattern of a finite x, as `unpack` and `ieee::sum::terms_of` are given.
 pub fn read(x: f64) -> Fields
     requires { ⌜ T (Scale.finite x) ⌝ }
     ensures { λ r. ⌜ Spec.Fields x (r .sign) (r .exp) (r .digits) ⌝ }
@@ -41,7 +41,8 @@ pub fn read(x: f64) -> Fields
     }
 }
 
-// The sign, the significand and the exponent of a finite x, as its callers have tested.
+// The sign, the significand and the exponent of a finite x, as `ieee::root::positive` and
+// `ieee::sum::any_terms` are given.
 pub fn unpack(x: f64) -> Parts
     requires { ⌜ T (Scale.finite x) ⌝ }
     ensures { λ r. ⌜ Unpacked x (r .sign) (r .sig) (r .exp) ⌝ }
@@ -54,7 +55,7 @@ pub fn unpack(x: f64) -> Parts
 }
 
 // ±(digits + 2^52) * 2^(exp + 63): a field of exp that is not 0 gives the significand its leading
-// digit, and the place of that is known. The callers have the bounds from `read`.
+// digit, and the place of that is known. `unpack` and `ieee::sum::terms_of` have the bounds from `read`.
 pub fn ordinary(sign: bool, exp: u64, digits: u64) -> Parts
     requires { ⌜ (exp < 2 ^ 11) × (digits < 2 ^ 52) ⌝ }
     ensures { λ r. ⌜ (r .sign ≡ sign) × (r .sig * 2 ^ r .exp ≡ (digits + 2 ^ 52) * 2 ^ (exp + 63)) × Normal (r .sig) (r .exp) × (0 < r .sig) ⌝ }
