@@ -41,9 +41,13 @@ aOf alpha t sigma b forward pt pT = aAt alpha sigma (decayOf alpha t) b (driftOf
 unfoldable pub zcbOf : Float → Float → Float → Float
 zcbOf a b rate = a ⊗ expOf (neg b ⊗ rate)
 
+-- (1 - exp(-2 × alpha × t))/(2 × alpha): the variance of the state at the option time, for a sigma of 1
+abbrev pub stateVarianceOf : Float → Float → Float
+stateVarianceOf alpha t = decayOf alpha t ⊘ (two ⊗ alpha)
+
 -- √((1 - exp(-2 × alpha × t))/(2 × alpha))
 unfoldable pub deviationOf : Float → Float → Float
-deviationOf alpha t = sqrtOf (decayOf alpha t ⊘ (two ⊗ alpha))
+deviationOf alpha t = sqrtOf (stateVarianceOf alpha t)
 
 -- a bond's volatility from its parts: sigma × B × √((1 - exp(-2 × alpha × t))/(2 × alpha))
 abbrev pub volatilityAt : Float → Float → Float → Float
@@ -65,21 +69,31 @@ thetaOf alpha t sigma forward slope = fusedOf (sigma ⊗ sigma ⊘ (two ⊗ alph
 unfoldable pub shortRateVarianceOf : Float → Float → Float → Float → Float
 shortRateVarianceOf alpha t T sigma = sigma ⊗ sigma ⊗ decayOf alpha (T ⊖ t) ⊘ (two ⊗ alpha)
 
--- d1 = (0.5 × σp × σp + ln(P(T)/(X × P(t))))/σp, the sum fused; d2 = d1 - σp
-unfoldable pub d1Of : Float → Float → Float → Float
-d1Of sigmaP pT strikeValue = fusedOf (half ⊗ sigmaP) sigmaP (lnOf (pT ⊘ strikeValue)) ⊘ sigmaP
+-- ln(P(T)/(X × P(t))): how far a bond lies above its strike, whose value today is X × P(t)
+unfoldable pub moneynessOf : Float → Float → Float
+moneynessOf pT strikeValue = lnOf (pT ⊘ strikeValue)
+
+-- d1 = (0.5 × σp × σp + that)/σp, the sum fused; d2 = d1 - σp
+unfoldable pub d1Of : Float → Float → Float
+d1Of sigmaP moneyness = fusedOf (half ⊗ sigmaP) sigmaP moneyness ⊘ sigmaP
 
 -- a bond put: X × P(t) × N(-d2) - P(T) × N(-d1), fused
-unfoldable pub bondPutOf : Float → Float → Float → Float → Float
-bondPutOf sigmaP strike pt pT =
-    let d1 = d1Of sigmaP pT (strike ⊗ pt) in
-    fusedOf (strike ⊗ pt) (normCdfOf (neg (d1 ⊖ sigmaP))) (neg (pT ⊗ normCdfOf (neg d1)))
+unfoldable pub bondPutAt : Float → Float → Float → Float → Float
+bondPutAt sigmaP moneyness strikeValue pT =
+    let d1 = d1Of sigmaP moneyness in
+    fusedOf strikeValue (normCdfOf (neg (d1 ⊖ sigmaP))) (neg (pT ⊗ normCdfOf (neg d1)))
+
+abbrev pub bondPutOf : Float → Float → Float → Float → Float
+bondPutOf sigmaP strike pt pT = bondPutAt sigmaP (moneynessOf pT (strike ⊗ pt)) (strike ⊗ pt) pT
 
 -- a bond call: P(T) × N(d1) - X × P(t) × N(d2), fused
-unfoldable pub bondCallOf : Float → Float → Float → Float → Float
-bondCallOf sigmaP strike pt pT =
-    let d1 = d1Of sigmaP pT (strike ⊗ pt) in
-    fusedOf pT (normCdfOf d1) (neg (strike ⊗ pt ⊗ normCdfOf (d1 ⊖ sigmaP)))
+unfoldable pub bondCallAt : Float → Float → Float → Float → Float
+bondCallAt sigmaP moneyness strikeValue pT =
+    let d1 = d1Of sigmaP moneyness in
+    fusedOf pT (normCdfOf d1) (neg (strikeValue ⊗ normCdfOf (d1 ⊖ sigmaP)))
+
+abbrev pub bondCallOf : Float → Float → Float → Float → Float
+bondCallOf sigmaP strike pt pT = bondCallAt sigmaP (moneynessOf pT (strike ⊗ pt)) (strike ⊗ pt) pT
 
 -- 1 + tau × K, fused
 unfoldable pub growthOf : Float → Float → Float

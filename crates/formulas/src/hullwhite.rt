@@ -1,6 +1,6 @@
 // hullwhitemodel.rs: the analytic formulas of the one-factor model, on factors that are already fetched.
 ghost use mathlib.Core.Path.{_≡_};
-ghost use Rattle.formulas.specs.HullWhite.{h, decayOf, bOf, forwardOf, driftOf, aAt, aOf, zcbOf, deviationOf, volatilityAt, volatilityOf, slopeOf, thetaOf, shortRateVarianceOf, d1Of, bondPutOf, bondCallOf, growthOf};
+ghost use Rattle.formulas.specs.HullWhite.{h, decayOf, bOf, forwardOf, driftOf, aAt, aOf, zcbOf, stateVarianceOf, deviationOf, volatilityAt, volatilityOf, slopeOf, thetaOf, shortRateVarianceOf, moneynessOf, d1Of, bondPutAt, bondPutOf, bondCallAt, growthOf};
 
 // A day, the step of every finite difference.
 pub fn day() -> f64
@@ -75,15 +75,31 @@ pub fn volatility_at(sigma: f64, b: f64, deviation: f64) -> f64
     sigma * b * deviation
 }
 
-// The volatility of a bond's price. `b_of` and `deviation_of` written out, so that their exps are worked
+// B(t, T), and the variance of the state at the option time for a sigma of 1: what a bond's volatility
+// takes from exp.
+pub struct Decays {
+    pub b: f64,
+    pub variance: f64,
+}
+
+// Both: `b_of` and what stands under the root of `deviation_of` written out, so that their exps are worked
 // side by side.
+pub fn decays_of(alpha: f64, t: f64, bond: f64) -> Decays
+    ensures { λ r. ⌜ (r .b ≡ bOf alpha t bond) × (r .variance ≡ stateVarianceOf alpha t) ⌝ }
+{
+    let e = elementary::exp_two(-2.0 * alpha * t, -alpha * (bond - t));
+    Decays {
+        b: (1.0 - e.second) / alpha,
+        variance: (1.0 - e.first) / (2.0 * alpha),
+    }
+}
+
+// The volatility of a bond's price.
 pub fn volatility_of(alpha: f64, sigma: f64, t: f64, bond: f64) -> f64
     ensures { λ r. ⌜ r ≡ volatilityOf alpha sigma t bond ⌝ }
 {
-    let e = elementary::exp_two(-2.0 * alpha * t, -alpha * (bond - t));
-    let b = (1.0 - e.second) / alpha;
-    let deviation = ieee::sqrt((1.0 - e.first) / (2.0 * alpha));
-    volatility_at(sigma, b, deviation)
+    let d = decays_of(alpha, t, bond);
+    volatility_at(sigma, d.b, ieee::sqrt(d.variance))
 }
 
 // The slope of the forward rate, from its values a day apart.
@@ -108,36 +124,48 @@ pub fn short_rate_variance_of(alpha: f64, t: f64, bond: f64, sigma: f64) -> f64
     sigma * sigma * decay_of(alpha, bond - t) / (2.0 * alpha)
 }
 
-fn bond_d1(sigma_p: f64, p_bond: f64, strike_value: f64) -> f64
-    ensures { λ r. ⌜ r ≡ d1Of «sigma_p» «p_bond» «strike_value» ⌝ }
+// How far a bond lies above its strike.
+pub fn moneyness_of(p_bond: f64, strike_value: f64) -> f64
+    ensures { λ r. ⌜ r ≡ moneynessOf «p_bond» «strike_value» ⌝ }
 {
-    ieee::fused(
-        0.5 * sigma_p,
-        sigma_p,
-        elementary::ln(p_bond / strike_value),
-    )
-        / sigma_p
+    elementary::ln(p_bond / strike_value)
 }
 
-// A put on a bond, from the bond's volatility and the factors at the option's and the bond's time.
-pub fn bond_put_of(sigma_p: f64, strike: f64, p_t: f64, p_bond: f64) -> f64
-    ensures { λ r. ⌜ r ≡ bondPutOf «sigma_p» strike «p_t» «p_bond» ⌝ }
+fn bond_d1(sigma_p: f64, moneyness: f64) -> f64
+    ensures { λ r. ⌜ r ≡ d1Of «sigma_p» moneyness ⌝ }
 {
-    let d1 = bond_d1(sigma_p, p_bond, strike * p_t);
+    ieee::fused(0.5 * sigma_p, sigma_p, moneyness) / sigma_p
+}
+
+// A put on a bond, from the bond's volatility, its moneyness, what its strike is worth today, and its
+// factor.
+pub fn bond_put_at(sigma_p: f64, moneyness: f64, strike_value: f64, p_bond: f64) -> f64
+    ensures { λ r. ⌜ r ≡ bondPutAt «sigma_p» moneyness «strike_value» «p_bond» ⌝ }
+{
+    let d1 = bond_d1(sigma_p, moneyness);
     let d2 = d1 - sigma_p;
     let n = probability::norm_cdf_two(-d1, -d2);
     let taken = p_bond * n.first;
-    ieee::fused(strike * p_t, n.second, -taken)
+    ieee::fused(strike_value, n.second, -taken)
 }
 
-// A call on a bond.
-pub fn bond_call_of(sigma_p: f64, strike: f64, p_t: f64, p_bond: f64) -> f64
-    ensures { λ r. ⌜ r ≡ bondCallOf «sigma_p» strike «p_t» «p_bond» ⌝ }
+// The same from the strike and the factors at the option's and the bond's time.
+pub fn bond_put_of(sigma_p: f64, strike: f64, p_t: f64, p_bond: f64) -> f64
+    ensures { λ r. ⌜ r ≡ bondPutOf «sigma_p» strike «p_t» «p_bond» ⌝ }
 {
-    let d1 = bond_d1(sigma_p, p_bond, strike * p_t);
+    let strike_value = strike * p_t;
+    let moneyness = moneyness_of(p_bond, strike_value);
+    bond_put_at(sigma_p, moneyness, strike_value, p_bond)
+}
+
+// A call on a bond, as `bond_put_at`.
+pub fn bond_call_at(sigma_p: f64, moneyness: f64, strike_value: f64, p_bond: f64) -> f64
+    ensures { λ r. ⌜ r ≡ bondCallAt «sigma_p» moneyness «strike_value» «p_bond» ⌝ }
+{
+    let d1 = bond_d1(sigma_p, moneyness);
     let d2 = d1 - sigma_p;
     let n = probability::norm_cdf_two(d1, d2);
-    let taken = strike * p_t * n.second;
+    let taken = strike_value * n.second;
     ieee::fused(p_bond, n.first, -taken)
 }
 

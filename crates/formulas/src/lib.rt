@@ -2,18 +2,22 @@
 // order, fused where it says mul_add. Nothing is refused here.
 mod hullwhite;
 
+pub use hullwhite::Decays;
 pub use hullwhite::a_at;
 pub use hullwhite::a_of;
 pub use hullwhite::b_of;
-pub use hullwhite::bond_call_of;
+pub use hullwhite::bond_call_at;
+pub use hullwhite::bond_put_at;
 pub use hullwhite::bond_put_of;
 pub use hullwhite::day;
 pub use hullwhite::decay_of;
+pub use hullwhite::decays_of;
 pub use hullwhite::deviation_of;
 pub use hullwhite::drift_of;
 pub use hullwhite::forward_of;
 pub use hullwhite::forward_slope_of;
 pub use hullwhite::growth_of;
+pub use hullwhite::moneyness_of;
 pub use hullwhite::short_rate_variance_of;
 pub use hullwhite::theta_of;
 pub use hullwhite::volatility_at;

@@ -1,17 +1,23 @@
 -- Kinds 1 to 4 of document 01: caplets, floorlets, bond puts and bond calls, on a curve of times ts and factors fs.
 use mathlib.Core.List.{List}
 use lib.Ieee.{Float}
+use Rattle.ieee.specs.Rounded.{_⊗_}
 use Rattle.lists.specs.Refusals.{Outcome, unless, finishing}
 use Rattle.lookups.specs.Lookups.{factorAt, needing}
 use Rattle.lists.specs.Faults.{curveFaults}
-use Rattle.formulas.specs.HullWhite.{volatilityOf, bondPutOf, bondCallOf, optionletStrikeOf, optionletOf}
+use Rattle.formulas.specs.HullWhite.{volatilityOf, moneynessOf, bondPutAt, bondCallAt, optionletStrikeOf, optionletOf}
 use Rattle.options.specs.declared.options.BondOption.{BondOption}
 use Rattle.options.specs.declared.options.BondOption.the-variants.{Put, Call}
 use Rattle.options.specs.Rules.{optionRules}
 
+-- a put or a call, from the bond's volatility, its moneyness, what its strike is worth today, and its factor
+abbrev pub bondOptionAt : BondOption → Float → Float → Float → Float → Float
+bondOptionAt Put sigmaP moneyness strikeValue pT = bondPutAt sigmaP moneyness strikeValue pT
+bondOptionAt Call sigmaP moneyness strikeValue pT = bondCallAt sigmaP moneyness strikeValue pT
+
+-- from the strike and the factors at t and T
 abbrev pub bondOptionOf : BondOption → Float → Float → Float → Float → Float
-bondOptionOf Put sigmaP strike pt pT = bondPutOf sigmaP strike pt pT
-bondOptionOf Call sigmaP strike pt pT = bondCallOf sigmaP strike pt pT
+bondOptionOf option sigmaP strike pt pT = bondOptionAt option sigmaP (moneynessOf pT (strike ⊗ pt)) (strike ⊗ pt) pT
 
 -- a bond option that rules 1 to 7 let through: the factors at t and T, then the formula
 unfoldable pub bondOptionPriced : BondOption → Float → List Float → List Float → Float → Float → Float → Float → Outcome Float

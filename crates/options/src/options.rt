@@ -5,7 +5,7 @@ ghost use mathlib.Core.Bool.{true};
 ghost use Rattle.lists.specs.Checks.{inOrder};
 ghost use Rattle.lists.specs.Refusals.{Priced, outcomeOf};
 ghost use Rattle.lists.specs.Faults.{curveFaults};
-ghost use Rattle.options.specs.Options.{bondOptionOf, bondOptionPriced, optionletPriced, bondOptionOutcome, optionletOutcome};
+ghost use Rattle.options.specs.Options.{bondOptionAt, bondOptionPriced, optionletPriced, bondOptionOutcome, optionletOutcome};
 ghost use Rattle.options.specs.declared.options.BondOption.the-variants as Option;
 use super::rules;
 use lists::Answer;
@@ -169,6 +169,8 @@ pub fn optionlet_on(
     }
 }
 
+// A price behind the rules, as `bond_option_on` has asked them. The exps need no factor and take longest: they
+// come before the lookups, and the root, which waits for them, behind all that does not.
 fn bond_option_priced(
     option: BondOption,
     alpha: f64,
@@ -182,16 +184,20 @@ fn bond_option_priced(
     requires { ⌜ inOrder true (now times) ≡ true ⌝ }
     ensures { λ r. ⌜ outcomeOf r ≡ bondOptionPriced option alpha (now (times .entry)) (now (factors .entry)) t bond strike sigma ⌝ }
 {
+    let decays = formulas::decays_of(alpha, t, bond);
     let Found::At(p_t) = lookups::factor(times, factors, t) else {
         return Price::Refused(Refusal::OffCurve);
     };
     let Found::At(p_bond) = lookups::factor(times, factors, bond) else {
         return Price::Refused(Refusal::OffCurve);
     };
-    let sigma_p = formulas::volatility_of(alpha, sigma, t, bond);
-    lists::served(bond_option(option, sigma_p, strike, p_t, p_bond))
+    let strike_value = strike * p_t;
+    let moneyness = formulas::moneyness_of(p_bond, strike_value);
+    let sigma_p = formulas::volatility_at(sigma, decays.b, ieee::sqrt(decays.variance));
+    lists::served(bond_option(option, sigma_p, moneyness, strike_value, p_bond))
 }
 
+// The same of a caplet or a floorlet, for `optionlet_on`.
 fn optionlet_priced(
     option: BondOption,
     alpha: f64,
@@ -205,23 +211,32 @@ fn optionlet_priced(
     requires { ⌜ inOrder true (now times) ≡ true ⌝ }
     ensures { λ r. ⌜ outcomeOf r ≡ optionletPriced option alpha (now (times .entry)) (now (factors .entry)) strike t end sigma ⌝ }
 {
+    let decays = formulas::decays_of(alpha, t, end);
     let Found::At(p_t) = lookups::factor(times, factors, t) else {
         return Price::Refused(Refusal::OffCurve);
     };
     let Found::At(p_end) = lookups::factor(times, factors, end) else {
         return Price::Refused(Refusal::OffCurve);
     };
-    let sigma_p = formulas::volatility_of(alpha, sigma, t, end);
     let growth = formulas::growth_of(end - t, strike);
-    let price = bond_option(option, sigma_p, 1.0 / growth, p_t, p_end);
+    let strike_value = 1.0 / growth * p_t;
+    let moneyness = formulas::moneyness_of(p_end, strike_value);
+    let sigma_p = formulas::volatility_at(sigma, decays.b, ieee::sqrt(decays.variance));
+    let price = bond_option(option, sigma_p, moneyness, strike_value, p_end);
     lists::served(growth * price)
 }
 
-fn bond_option(option: BondOption, sigma_p: f64, strike: f64, p_t: f64, p_bond: f64) -> f64
-    ensures { λ r. ⌜ r ≡ bondOptionOf option «sigma_p» strike «p_t» «p_bond» ⌝ }
+fn bond_option(
+    option: BondOption,
+    sigma_p: f64,
+    moneyness: f64,
+    strike_value: f64,
+    p_bond: f64,
+) -> f64
+    ensures { λ r. ⌜ r ≡ bondOptionAt option «sigma_p» moneyness «strike_value» «p_bond» ⌝ }
 {
     match option {
-        BondOption::Put => formulas::bond_put_of(sigma_p, strike, p_t, p_bond),
-        BondOption::Call => formulas::bond_call_of(sigma_p, strike, p_t, p_bond),
+        BondOption::Put => formulas::bond_put_at(sigma_p, moneyness, strike_value, p_bond),
+        BondOption::Call => formulas::bond_call_at(sigma_p, moneyness, strike_value, p_bond),
     }
 }

@@ -1,18 +1,17 @@
--- `formulas::bond_d1` meets its contract. Assumes nothing.
-use Rattle.formulas.specs.HullWhite.{d1Of}
+-- `formulas::bond_d1` meets its contract: what the fused sum is, put in. Assumes nothing.
+use mathlib.Core.Path.{refl}
 use borrow.Author.Needs.{needs}
+use lib.Ieee.{ofBits}
+use Rattle.formulas.specs.HullWhite.{d1Of}
 use Rattle.formulas.proofs.hullwhite.bond_d1.Statement.{statement}
 use Rattle.formulas.proofs.hullwhite.bond_d1.Tie as tie
-
-ln-requires : tie.Need-ln-requires
-ln-requires c κs = search needs
 
 fused-requires : tie.Need-fused-requires
 fused-requires c κs = search needs
 
 returns : tie.Need-returns
-unfolding d1Of
-returns c = cc
+unfolding d1Of ofBits
+returns c = rw (c .fused .ensures) refl
 
 pub bond-d1-spec : {M : Type 1} → statement M
-bond-d1-spec = tie.close (tie.spec ln-requires fused-requires returns)
+bond-d1-spec = tie.close (tie.spec fused-requires returns)

@@ -1,23 +1,17 @@
--- `formulas::bond_put_of` meets its contract. Assumes nothing.
-use Rattle.formulas.specs.HullWhite.{bondPutOf}
+-- `formulas::bond_put_of` meets its contract: what the moneyness is, put in. Assumes nothing.
+use mathlib.Core.Path.{refl, _∙_}
 use borrow.Author.Needs.{needs}
 use Rattle.formulas.proofs.hullwhite.bond_put_of.Statement.{statement}
 use Rattle.formulas.proofs.hullwhite.bond_put_of.Tie as tie
 
-bond-d1-requires : tie.Need-bond-d1-requires
-bond-d1-requires c κs = search needs
+moneyness-of-requires : tie.Need-moneyness-of-requires
+moneyness-of-requires c κs = search needs
 
-norm-cdf-two-requires : tie.Need-norm-cdf-two-requires
-norm-cdf-two-requires c κs = search needs
-
-fused-requires : tie.Need-fused-requires
-fused-requires c κs = search needs
+bond-put-at-requires : tie.Need-bond-put-at-requires
+bond-put-at-requires c κs = search needs
 
 returns : tie.Need-returns
-unfolding bondPutOf
-returns c =
-    let n = c .before .before in
-    rw (← n .before .bond-d1 .ensures, ← n .norm-cdf-two .ensures .0, ← n .norm-cdf-two .ensures .1) (c .fused .ensures)
+returns c = c .bond-put-at .ensures ∙ rw (c .before .moneyness-of .ensures) refl
 
 pub bond-put-of-spec : {M : Type 1} → statement M
-bond-put-of-spec = tie.close (tie.spec bond-d1-requires norm-cdf-two-requires fused-requires returns)
+bond-put-of-spec = tie.close (tie.spec moneyness-of-requires bond-put-at-requires returns)

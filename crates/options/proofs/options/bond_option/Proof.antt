@@ -6,22 +6,22 @@ use Rattle.options.proofs.options.bond_option.Tie as tie
 enum-told : tie.Need-enum-told
 enum-told c = search needs
 
-bond-put-of-requires : tie.Need-bond-put-of-requires
-bond-put-of-requires c κs = search needs
+bond-put-at-requires : tie.Need-bond-put-at-requires
+bond-put-at-requires c κs = search needs
 
 enum-told-2 : tie.Need-enum-told-2
 enum-told-2 c = search needs
 
-bond-call-of-requires : tie.Need-bond-call-of-requires
-bond-call-of-requires c κs = search needs
+bond-call-at-requires : tie.Need-bond-call-at-requires
+bond-call-at-requires c κs = search needs
 
 returns : tie.Need-returns
-returns c = rw (c .before .enum-told .given .1) (c .bond-put-of .ensures)
+returns c = rw (c .before .enum-told .given .1) (c .bond-put-at .ensures)
 
 returns-2 : tie.Need-returns-2
-returns-2 c = rw (c .before .enum-told2 .given .1) (c .bond-call-of .ensures)
+returns-2 c = rw (c .before .enum-told2 .given .1) (c .bond-call-at .ensures)
 
 pub bond-option-spec : {M : Type 1} → statement M
 bond-option-spec =
     tie.close
-    (tie.spec enum-told bond-put-of-requires enum-told-2 bond-call-of-requires returns returns-2)
+    (tie.spec enum-told bond-put-at-requires enum-told-2 bond-call-at-requires returns returns-2)

@@ -1,10 +1,14 @@
 -- `options::bond_option_priced` meets its contract: each factor is found or the call is refused by rule 8, and then the formula is worked. Assumes nothing.
-use mathlib.Core.Path.{_∙_}
+use mathlib.Core.Path.{refl, _∙_}
 use borrow.Author.Needs.{needs}
+use Rattle.formulas.specs.HullWhite.{deviationOf}
 use Rattle.options.specs.Options.{bondOptionPriced}
 use Rattle.lookups.proofs.Outcomes.{at, missing}
 use Rattle.options.proofs.options.bond_option_priced.Statement.{statement}
 use Rattle.options.proofs.options.bond_option_priced.Tie as tie
+
+decays-of-requires : tie.Need-decays-of-requires
+decays-of-requires c κs = search needs
 
 factor-requires : tie.Need-factor-requires
 factor-requires c κs = search needs
@@ -34,8 +38,14 @@ returns-2 c =
     let i = c .before .before .before .before in
     rw (at _ (i .p-t .given .1) (i .before .before .factor .ensures), missing _ (c .enum-told2 .given .1) (c .before .before .factor2 .ensures))
 
-volatility-of-requires : tie.Need-volatility-of-requires
-volatility-of-requires c κs = search needs
+moneyness-of-requires : tie.Need-moneyness-of-requires
+moneyness-of-requires c κs = search needs
+
+sqrt-requires : tie.Need-sqrt-requires
+sqrt-requires c κs = search needs
+
+volatility-at-requires : tie.Need-volatility-at-requires
+volatility-at-requires c κs = search needs
 
 bond-option-requires : tie.Need-bond-option-requires
 bond-option-requires c κs = search needs
@@ -44,16 +54,20 @@ served-requires : tie.Need-served-requires
 served-requires c κs = search needs
 
 returns-3 : tie.Need-returns-3
-unfolding bondOptionPriced
+unfolding bondOptionPriced deviationOf
 returns-3 c =
-    let j = c .before .before .before .before in
+    let v = c .before .before in
+    let m = v .before .before in
+    let j = m .before .before in
     let i = j .before .before .before .before in
-    rw (at _ (i .p-t .given .1) (i .before .before .factor .ensures), at _ (j .p-bond .given .1) (j .before .before .factor2 .ensures)) (c .served .ensures ∙ rw (c .before .bond-option .ensures, c .before .before .volatility-of .ensures))
+    let d = i .before .before .before .decays-of .ensures in
+    rw (at _ (i .p-t .given .1) (i .before .before .factor .ensures), at _ (j .p-bond .given .1) (j .before .before .factor2 .ensures)) (c .served .ensures ∙ rw (c .before .bond-option .ensures, v .volatility-at .ensures, v .before .sqrt .ensures .0, d .0, d .1, m .moneyness-of .ensures) refl)
 
 pub bond-option-priced-spec : {M : Type 1} → statement M
 bond-option-priced-spec =
     tie.close
     (tie.spec
+    decays-of-requires
     factor-requires
     enum-known-p-t
     enum-told
@@ -62,7 +76,9 @@ bond-option-priced-spec =
     enum-known-p-bond
     enum-told-2
     returns-2
-    volatility-of-requires
+    moneyness-of-requires
+    sqrt-requires
+    volatility-at-requires
     bond-option-requires
     served-requires
     returns-3)

@@ -1,11 +1,14 @@
 -- `options::optionlet_priced` meets its contract: each factor is found or the call is refused by rule 8, and then the formula is worked. Assumes nothing.
-use mathlib.Core.Path.{_∙_}
+use mathlib.Core.Path.{refl, _∙_}
 use borrow.Author.Needs.{needs}
-use Rattle.formulas.specs.HullWhite.{optionletStrikeOf, optionletOf}
+use Rattle.formulas.specs.HullWhite.{deviationOf, optionletStrikeOf, optionletOf}
 use Rattle.options.specs.Options.{optionletPriced}
 use Rattle.lookups.proofs.Outcomes.{at, missing}
 use Rattle.options.proofs.options.optionlet_priced.Statement.{statement}
 use Rattle.options.proofs.options.optionlet_priced.Tie as tie
+
+decays-of-requires : tie.Need-decays-of-requires
+decays-of-requires c κs = search needs
 
 factor-requires : tie.Need-factor-requires
 factor-requires c κs = search needs
@@ -35,11 +38,17 @@ returns-2 c =
     let i = c .before .before .before .before in
     rw (at _ (i .p-t .given .1) (i .before .before .factor .ensures), missing _ (c .enum-told2 .given .1) (c .before .before .factor2 .ensures))
 
-volatility-of-requires : tie.Need-volatility-of-requires
-volatility-of-requires c κs = search needs
-
 growth-of-requires : tie.Need-growth-of-requires
 growth-of-requires c κs = search needs
+
+moneyness-of-requires : tie.Need-moneyness-of-requires
+moneyness-of-requires c κs = search needs
+
+sqrt-requires : tie.Need-sqrt-requires
+sqrt-requires c κs = search needs
+
+volatility-at-requires : tie.Need-volatility-at-requires
+volatility-at-requires c κs = search needs
 
 bond-option-requires : tie.Need-bond-option-requires
 bond-option-requires c κs = search needs
@@ -48,17 +57,21 @@ served-requires : tie.Need-served-requires
 served-requires c κs = search needs
 
 returns-3 : tie.Need-returns-3
-unfolding optionletPriced optionletStrikeOf optionletOf
+unfolding optionletPriced optionletStrikeOf optionletOf deviationOf
 returns-3 c =
-    let g = c .before .before in
-    let j = g .before .before .before in
+    let v = c .before .before in
+    let m = v .before .before in
+    let g = m .before in
+    let j = g .before .before in
     let i = j .before .before .before .before in
-    rw (at _ (i .p-t .given .1) (i .before .before .factor .ensures), at _ (j .p-end .given .1) (j .before .before .factor2 .ensures)) (c .served .ensures ∙ rw (c .before .bond-option .ensures, g .growth-of .ensures, g .before .volatility-of .ensures))
+    let d = i .before .before .before .decays-of .ensures in
+    rw (at _ (i .p-t .given .1) (i .before .before .factor .ensures), at _ (j .p-end .given .1) (j .before .before .factor2 .ensures)) (c .served .ensures ∙ rw (c .before .bond-option .ensures, v .volatility-at .ensures, v .before .sqrt .ensures .0, d .0, d .1, m .moneyness-of .ensures, g .growth-of .ensures) refl)
 
 pub optionlet-priced-spec : {M : Type 1} → statement M
 optionlet-priced-spec =
     tie.close
     (tie.spec
+    decays-of-requires
     factor-requires
     enum-known-p-t
     enum-told
@@ -67,8 +80,10 @@ optionlet-priced-spec =
     enum-known-p-end
     enum-told-2
     returns-2
-    volatility-of-requires
     growth-of-requires
+    moneyness-of-requires
+    sqrt-requires
+    volatility-at-requires
     bond-option-requires
     served-requires
     returns-3)

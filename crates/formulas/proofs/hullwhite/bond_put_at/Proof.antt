@@ -1,8 +1,8 @@
--- `formulas::bond_call_of` meets its contract. Assumes nothing.
-use Rattle.formulas.specs.HullWhite.{bondCallOf}
+-- `formulas::bond_put_at` meets its contract. Assumes nothing.
+use Rattle.formulas.specs.HullWhite.{bondPutAt}
 use borrow.Author.Needs.{needs}
-use Rattle.formulas.proofs.hullwhite.bond_call_of.Statement.{statement}
-use Rattle.formulas.proofs.hullwhite.bond_call_of.Tie as tie
+use Rattle.formulas.proofs.hullwhite.bond_put_at.Statement.{statement}
+use Rattle.formulas.proofs.hullwhite.bond_put_at.Tie as tie
 
 bond-d1-requires : tie.Need-bond-d1-requires
 bond-d1-requires c κs = search needs
@@ -14,10 +14,10 @@ fused-requires : tie.Need-fused-requires
 fused-requires c κs = search needs
 
 returns : tie.Need-returns
-unfolding bondCallOf
+unfolding bondPutAt
 returns c =
     let n = c .before .before in
     rw (← n .before .bond-d1 .ensures, ← n .norm-cdf-two .ensures .0, ← n .norm-cdf-two .ensures .1) (c .fused .ensures)
 
-pub bond-call-of-spec : {M : Type 1} → statement M
-bond-call-of-spec = tie.close (tie.spec bond-d1-requires norm-cdf-two-requires fused-requires returns)
+pub bond-put-at-spec : {M : Type 1} → statement M
+bond-put-at-spec = tie.close (tie.spec bond-d1-requires norm-cdf-two-requires fused-requires returns)
