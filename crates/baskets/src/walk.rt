@@ -23,8 +23,8 @@ fn diagonal_of(bumped: f64, sigma: f64) -> f64
     (bumped - sigma) / 1e-6
 }
 
-// Every entry's fit, into the lists lent for them. `fit_basket` has asked the rules: all lists are of one
-// length, and the curve's times strictly rise.
+// Every entry's fit, into the lists that `fitted_basket` lends for them. It hands on what `fit_basket` has
+// asked: all lists are of one length, and the curve's times strictly rise.
 pub fn first_fits(
     alpha: f64,
     times: &[f64],
@@ -106,8 +106,8 @@ fn bumped(
     }
 }
 
-// Every entry's bumped fit beside the sigma fitted first. `fit_basket` has asked the rules, and the sigmas
-// are as many as the entries.
+// Every entry's bumped fit beside the sigma fitted first. `fitted_basket` shows the same as above, and the
+// sigmas are as many as the entries.
 pub fn bumped_fits(
     alpha: f64,
     times: &[f64],

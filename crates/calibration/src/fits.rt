@@ -40,8 +40,8 @@ pub fn fit_caplet(
     fit_caplet_on(curve, quote, alpha, times, factors, strike, t, end, vol)
 }
 
-// The same on a curve whose faults are known: the call above shows it, and so does whoever works them
-// once for many jobs.
+// The same on a curve whose faults are known: `fit_caplet` has worked them, and `runfile::fit_told`
+// hands on those that were worked once for all jobs.
 pub fn fit_caplet_on(
     curve: Faults,
     quote: Quote,
@@ -101,8 +101,8 @@ fn caplet_rules(
     lists::and_rule(answer, Refusal::Domain, (vol <= 0.0) | wrong | curve.domain)
 }
 
-// The factors, then the bisection. `fit_caplet_on`, and a basket for all its entries, has asked the rules:
-// the curve's times strictly rise.
+// The factors, then the bisection. `fit_caplet_on` has asked the rules, and `baskets::first_fits` and
+// `baskets::bumped` hand on, for all entries of a basket, that the curve's times strictly rise.
 pub fn caplet_fitted(
     quote: Quote,
     alpha: f64,
@@ -187,8 +187,8 @@ pub fn fit_swaption(
     )
 }
 
-// The same on a curve whose faults are known: the call above shows it, and so does whoever works them
-// once for many jobs.
+// The same on a curve whose faults are known: `fit_swaption` has worked them, and `runfile::fit_told`
+// hands on those that were worked once for all jobs.
 pub fn fit_swaption_on(
     curve: Faults,
     quote: Quote,

@@ -74,7 +74,7 @@ fn after(t: Tally, r: Record, store: &[f64]) -> Tally
     }
 }
 
-// One record more that the place counts, which `slot_of` keeps within the lists.
+// One record more that the place counts, which `after` has from `slot_of`, within the lists.
 fn seen(t: Tally, slot: usize) -> Tally
     requires { ⌜ slot < 22 ⌝ }
     ensures { λ next. ⌜ next .differing ≡ t .differing ⌝ }
@@ -85,7 +85,7 @@ fn seen(t: Tally, slot: usize) -> Tally
     next
 }
 
-// One difference more that the place counts; `slot_of` keeps it within the lists too.
+// One difference more that the place counts; `after` has it from `slot_of` too.
 fn differing(t: Tally, slot: usize) -> Tally
     requires { ⌜ slot < 22 ⌝ }
     ensures { λ next. ⌜ next .differing ≡ oneMore (t .differing) ⌝ }

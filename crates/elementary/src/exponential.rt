@@ -103,6 +103,7 @@ pub struct Reduced {
     pub k: i32,
 }
 
+// `exp`, `exp_two` and `probability::both::quotients` have an x within the limits.
 pub fn reduce(x: f64) -> Reduced
     requires { ⌜ withinLimits x ≡ true ⌝ }
     ensures { λ r. ⌜ (r .r ≡ reducedOf x (kOf x)) × (r .k ≡ kOf x) × (mag (r .k) < 2000) ⌝ }
@@ -146,7 +147,7 @@ fn nearest_whole(p: f64) -> Whole
 }
 
 // The same for a tie too, by a conversion with many branches. Twice p is exact, and cutting it to a
-// whole number loses no tie; p + 0.5 would round.
+// whole number loses no tie; p + 0.5 would round. `nearest_whole` hands its own bound on.
 fn by_halves(p: f64) -> i32
     requires { ⌜ T (moderate p) ⌝ }
     ensures { λ r. ⌜ r ≡ nearestWhole p ⌝ }
@@ -155,7 +156,8 @@ fn by_halves(p: f64) -> i32
     if q >= 0 { (q + 1) / 2 } else { (q - 1) / 2 }
 }
 
-// p starts at 1, and for n = last + turns - 1 down to last becomes 1 + (x × p)/n.
+// p starts at 1, and for n = last + turns - 1 down to last becomes 1 + (x × p)/n. `exp_m1` and `guessed`
+// give both as literals.
 fn series(x: f64, last: u32, turns: u32) -> f64
     requires { ⌜ last < 100 ⌝ }
     requires { ⌜ turns < 100 ⌝ }
@@ -250,7 +252,8 @@ fn same(guess: f64, sum: f64) -> bool
     if guess == sum { guess > 0.0 } else { false }
 }
 
-// p × 2^a × 2^b, a being k/2 toward zero and b = k - a. `reduce` gives a k in range.
+// p × 2^a × 2^b, a being k/2 toward zero and b = k - a. `exp`, `exp_two` and `probability::both::last` have
+// k from `reduce`, in range.
 pub fn scale(p: f64, k: i32) -> f64
     requires { ⌜ mag k < 2000 ⌝ }
     ensures { λ r. ⌜ r ≡ scaleOf p k ⌝ }
@@ -260,7 +263,8 @@ pub fn scale(p: f64, k: i32) -> f64
     p * two_to(a) * two_to(b)
 }
 
-// 2^a exactly: its exponent's field is a + 1023, and it has no further digits.
+// 2^a exactly: its exponent's field is a + 1023, and it has no further digits. `scale` has the bound from
+// its own.
 fn two_to(a: i32) -> f64
     requires { ⌜ mag a < 1022 ⌝ }
     ensures { λ r. ⌜ r ≡ twoTo a ⌝ }

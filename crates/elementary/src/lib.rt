@@ -19,7 +19,7 @@ pub use simple::midpoint;
 pub use simple::min;
 pub use simple::signum;
 
-// Below the public surface: the parts of exp. What each requires is shown by `probability::hart`.
+// Below the public surface: the parts of exp. What each requires is shown by `probability::both`.
 pub use exponential::Reduced;
 pub use exponential::reduce;
 pub use exponential::scale;

@@ -20,7 +20,7 @@ pub fn fixed_of(x: f64) -> u64
 }
 
 // a * y + c, a having two places more than c, and y 62: the exact value, rounded once to 53 digits.
-// `probability::both` shows the bounds from its coefficients.
+// `begun` and `turn` of `probability::both` show the bounds from the coefficients.
 pub fn fixed_step(a: u64, y: u64, c: u64) -> u64
     requires { ⌜ (2 ^ 53 ≤ c) × (a + c < 2 ^ 62) ⌝ }
     ensures { λ r. ⌜ Stepped a y c r ⌝ }

@@ -16,7 +16,7 @@ pub struct Open {
 }
 
 // A positive x that is no subnormal, taken apart. `probability::normal::quotient` has an ordinary
-// argument, as `hart` has tested, and the other numbers that it opens are literals.
+// argument, as `hart` has tested, and the other numbers that it opens are literals; `step` has c in range.
 pub fn opened(x: f64) -> Open
     requires { ⌜ T (not (isNan x)) × (1 ≤ field x) × (field x ≤ 2046) ⌝ }
     ensures { λ r. ⌜ (valueOf (r .sig) (r .exp) ≡ x) × Digits (r .sig) × (r .exp + 1 ≡ field x) ⌝ }
@@ -30,8 +30,8 @@ pub fn opened(x: f64) -> Open
 
 // q * 2^i times y * 2^j, plus c: the exact value, rounded once. The sum is taken at the place of c, with
 // what the product has below it as a sticky digit; a product that is far larger keeps its own place,
-// and c loses no digit there. The two are less than 64 places apart, which the polynomials of
-// `probability::normal` show of their arguments and coefficients.
+// and c loses no digit there. The two are less than 64 places apart, as
+// `probability::normal::quotient` shows of its argument and coefficients.
 pub fn step(q: u64, i: u64, y: u64, j: u64, c: f64) -> Open
     requires { ⌜ Digits q × Digits y × (i ≤ 2000) × (j ≤ 2000) × T (not (isNan c)) × (62 ≤ field c) × (field c ≤ 2000) × (field c + 1026 < i + j + 64) × (i + j < field c + 1090) ⌝ }
     ensures { λ r. ⌜ (valueOf (r .sig) (r .exp) ≡ fusedOf (valueOf q i) (valueOf y j) c) × Digits (r .sig) × (field c ≤ r .exp + 1) × (r .exp ≤ max (field c + 6) (i + j - 1020)) ⌝ }
@@ -70,7 +70,8 @@ fn rounded(h: u64, s: u64, place: u64) -> Open
     }
 }
 
-// q * 2^k in units of 2^-1074 as an f64. `probability::normal` has the bounds from the last step.
+// q * 2^k in units of 2^-1074 as an f64. `probability::normal::quotient` has the bounds from its last
+// steps.
 pub fn closed(q: u64, k: u64) -> f64
     requires { ⌜ Digits q × (k ≤ 2000) ⌝ }
     ensures { λ r. ⌜ r ≡ valueOf q k ⌝ }

@@ -4,7 +4,7 @@ ghost use Prim.Native.Nat.{_+_, _<_, _≤_};
 ghost use lib.ListN.{length};
 ghost use Rattle.layout.specs.Bytes.{fourBytes, eightBytes, floatOf, floatAt};
 
-// The float at place `at`. The records of `records.rt` lie within the file.
+// The float at place `at`. `alpha`, `column` and `job_at` have it within the file.
 pub fn float_at(s: &[u8], at: usize) -> f64
     requires { ⌜ at + 8 ≤ length (now s) ⌝ }
     ensures { λ r. ⌜ r ≡ floatAt (now (s .entry)) at ⌝ }
@@ -23,7 +23,8 @@ pub fn float_of(b: u64) -> f64
     }
 }
 
-// The u64 at place `at`. Whoever calls has its eight bytes: of a record, or of a store of numbers.
+// The u64 at place `at`. Its eight bytes are there: of a float in `float_at`, of a job in `all_known` and
+// `job_at`, of a record in `parsed` of `vectors` and of `calls`, of a store of numbers in `calls::load`.
 pub fn word(s: &[u8], at: usize) -> u64
     requires { ⌜ at + 8 ≤ length (now s) ⌝ }
     ensures { λ r. ⌜ r ≡ eightBytes (now (s .entry)) at ⌝ }
@@ -31,8 +32,8 @@ pub fn word(s: &[u8], at: usize) -> u64
     half(s, at) + 0x1_0000_0000 * half(s, at + 4)
 }
 
-// The u32 at place `at`. Whoever calls has its four bytes: of a u64, of a record, or of the pairs, for which
-// `lay_out` has asked for 48.
+// The u32 at place `at`. Its four bytes are there: of a u64 in `word`, of a pair in `pair`, of a record in
+// `calls::parsed`, of a list that is long enough in `basket_vectors::next` and `main` of `rounds`.
 pub fn half(s: &[u8], at: usize) -> u64
     requires { ⌜ at + 4 ≤ length (now s) ⌝ }
     ensures { λ r. ⌜ r < 0x1_0000_0000 ⌝ }

@@ -6,8 +6,8 @@ ghost use Rattle.lines.specs.Text.{bytesOf, pasted};
 ghost use Rattle.lines.specs.Lines.{decimalOf, hexIn, hexOf, bitsOf, ending};
 
 // Puts n in decimal, and the byte `end`, at place `at`, and answers the place behind them. Nearly every
-// number that is printed has at most three digits: those go straight to their places. The two writers of
-// lines have room for four numbers of 21 bytes and one of 17.
+// number that is printed has at most three digits: those go straight to their places. `write_line` and
+// `write_point` have room for four numbers of 21 bytes and one of 17.
 pub fn put_decimal(n: u64, end: u8, out: &mut [u8], at: usize) -> usize
     requires { ⌜ at + 21 ≤ length (now out) ⌝ }
     ensures { λ r. ⌜ r ≤ at + 21 ⌝ }
@@ -55,8 +55,8 @@ fn put_long(n: u64, end: u8, out: &mut [u8], at: usize) -> usize
     put(&text[..k], end, out, at)
 }
 
-// The same with the 16 hexadecimal digits of n, the first eight and the last eight. The two writers of
-// lines have the room, as for `put_decimal`.
+// The same with the 16 hexadecimal digits of n, the first eight and the last eight. `write_line` and
+// `write_point` have the room, as for `put_decimal`.
 pub fn put_hex(n: u64, end: u8, out: &mut [u8], at: usize) -> usize
     requires { ⌜ at + 17 ≤ length (now out) ⌝ }
     ensures { λ r. ⌜ r ≤ at + 17 ⌝ }
@@ -99,7 +99,8 @@ fn put_word(word: u64, out: &mut [u8], at: usize)
 }
 
 // Puts a text, and the byte `end`, at place `at`, and answers the place behind them. Every text that is
-// put is shorter than the room: a header's, a number's of 20 digits, a point's kind and answer.
+// put is shorter than the room: those of `write_header` and `write_refused`, a number's of 20 digits in
+// `put_long`, a point's kind and answer in `write_point`.
 pub fn put(text: &[u8], end: u8, out: &mut [u8], at: usize) -> usize
     requires { ⌜ at + length (now text) < length (now out) ⌝ }
     ensures { λ r. ⌜ r ≡ at + length (ending end (now (text .entry))) ⌝ }

@@ -52,6 +52,7 @@ pub fn A(alpha: f64, times: &[f64], factors: &[f64], t: f64, bond: f64, sigma: f
     }
 }
 
+// `A` has asked the rules: the curve's times strictly rise.
 fn a_priced(alpha: f64, times: &[f64], factors: &[f64], t: f64, bond: f64, sigma: f64) -> Price
     requires { ⌜ inOrder true (now times) ≡ true ⌝ }
     ensures { λ r. ⌜ outcomeOf r ≡ aPriced alpha (now (times .entry)) (now (factors .entry)) t bond sigma ⌝ }
@@ -89,6 +90,7 @@ pub fn zcb_price(
     }
 }
 
+// `zcb_price` has asked the rules: the curve's times strictly rise.
 fn zcb_priced(
     alpha: f64,
     times: &[f64],
@@ -127,6 +129,7 @@ pub fn forward_rate(times: &[f64], factors: &[f64], t: f64) -> Price
     }
 }
 
+// `forward_rate` has asked the rules: the curve's times strictly rise.
 fn forward_priced(times: &[f64], factors: &[f64], t: f64) -> Price
     requires { ⌜ inOrder true (now times) ≡ true ⌝ }
     ensures { λ r. ⌜ outcomeOf r ≡ forwardPriced (now (times .entry)) (now (factors .entry)) t ⌝ }
@@ -151,6 +154,7 @@ pub fn theta(alpha: f64, times: &[f64], factors: &[f64], t: f64, sigma: f64) -> 
     }
 }
 
+// `theta` has asked the rules: the curve's times strictly rise.
 fn theta_priced(alpha: f64, times: &[f64], factors: &[f64], t: f64, sigma: f64) -> Price
     requires { ⌜ inOrder true (now times) ≡ true ⌝ }
     ensures { λ r. ⌜ outcomeOf r ≡ thetaPriced alpha (now (times .entry)) (now (factors .entry)) t sigma ⌝ }
@@ -164,7 +168,8 @@ fn theta_priced(alpha: f64, times: &[f64], factors: &[f64], t: f64, sigma: f64) 
     theta_from(alpha, times, factors, t, sigma, p, p_plus)
 }
 
-// A difference around t, or, within a day of 0, one ahead of it.
+// A difference around t, or, within a day of 0, one ahead of it. `theta_priced` hands on that the curve's
+// times strictly rise.
 fn theta_from(
     alpha: f64,
     times: &[f64],

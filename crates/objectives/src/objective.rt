@@ -104,8 +104,8 @@ fn value_of(swaption: Swaption) -> Price
     }
 }
 
-// The residual at a sigma, or why there is none: the model's refusal, or a NaN. `solver::solve` and its
-// halvings have the lists of one length of at most 64.
+// The residual at a sigma, or why there is none: the model's refusal, or a NaN. `solve`, `solve_above`,
+// `halve` and `unconverged` of `solver` have the lists of one length of at most 64.
 pub fn residual(
     instrument: Instrument,
     market: f64,

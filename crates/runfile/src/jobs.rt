@@ -31,7 +31,7 @@ fn point_lines(k: u64, values: &[f64], out: &mut [u8]) -> usize
     at
 }
 
-// One line, for a job that is no served path.
+// One line, for a job that is no served path. `path_lines` and `job_lines` have room for far more.
 fn one_line(l: Line, out: &mut [u8]) -> usize
     requires { ⌜ 128 ≤ length (now out) ⌝ }
     ensures { λ r. ⌜ Begins r (lineOf (l .job) (l .kind) (l .answer) (bitsOf (l .value)) (l .note)) (now (out .entry)) (now (out .exit)) ⌝ }
@@ -39,7 +39,8 @@ fn one_line(l: Line, out: &mut [u8]) -> usize
     lines::write_line(l, out, 0)
 }
 
-// Kind 12. A grid without points is served with one line of zeros.
+// Kind 12. A grid without points is served with one line of zeros. `job_lines` hands on the curve's faults
+// and the room, and has the grid of a run file: at most 1,024 points.
 fn path_lines(
     curve: Faults,
     alpha: f64,
@@ -96,7 +97,7 @@ fn path_lines(
 }
 
 // The lines of job k of the file, on the lists that were read from it and the curve's faults, worked once
-// for all jobs. The output has room for a path of 1,024 points.
+// for all jobs. `serving::each_job` is given them, and lends room for a path of 1,024 points.
 pub fn job_lines(
     file: &[u8],
     l: Layout,

@@ -12,7 +12,7 @@ use lists::Faults;
 use options::BondOption;
 use pricers::SwaptionType;
 
-// Kinds 1 to 4: caplet, floorlet, bond put, bond call.
+// Kinds 1 to 4: caplet, floorlet, bond put, bond call. `told_of` hands on the curve's faults.
 fn option_told(
     curve: Faults,
     alpha: f64,
@@ -80,7 +80,8 @@ fn option_told(
     ))
 }
 
-// Kind 5, the model's swaption; 6 and 7, payer and receiver by the pricer.
+// Kind 5, the model's swaption; 6 and 7, payer and receiver by the pricer. `told_of` hands on the curve's
+// faults.
 fn swaption_told(
     curve: Faults,
     alpha: f64,
@@ -145,7 +146,8 @@ fn swaption_told(
     ))
 }
 
-// Kinds 8 and 9, a caplet's fit, Black and normal; 10 and 11, a swaption's.
+// Kinds 8 and 9, a caplet's fit, Black and normal; 10 and 11, a swaption's. `told_of` hands on the curve's
+// faults.
 fn fit_told(
     curve: Faults,
     alpha: f64,
@@ -215,7 +217,7 @@ fn fit_told(
     ))
 }
 
-// A job of kinds 1 to 11. `job_lines` is given the curve's faults; the three above have them from here.
+// A job of kinds 1 to 11. `job_lines` is given the curve's faults.
 pub fn told_of(
     curve: Faults,
     alpha: f64,

@@ -30,7 +30,7 @@ pub fn serve_file(file: &[u8], rounds: u64, detailed: bool) {
     }
 }
 
-// The curve, and its faults, worked once for all jobs.
+// The curve, and its faults, worked once for all jobs. `serve_file` has the layout from `lay_out`.
 fn serve_jobs(file: &[u8], l: Layout, rounds: u64, detailed: bool)
     requires { ⌜ layoutOf (now file) ≡ Parts l ⌝ }
 {
@@ -53,7 +53,7 @@ fn serve_jobs(file: &[u8], l: Layout, rounds: u64, detailed: bool)
     );
 }
 
-// The pillars.
+// The pillars. `serve_jobs` hands on the layout, the curve that it has read, and its faults.
 fn with_pillars(
     file: &[u8],
     l: Layout,
@@ -87,7 +87,7 @@ fn with_pillars(
     );
 }
 
-// The coupons.
+// The coupons. `with_pillars` hands on what it was given, and the pillars that it has read.
 fn with_coupons(
     file: &[u8],
     l: Layout,
@@ -128,7 +128,7 @@ fn with_coupons(
     );
 }
 
-// The grid.
+// The grid. `with_coupons` hands on what it was given, and the coupons that it has read.
 fn with_grid(
     file: &[u8],
     l: Layout,
@@ -173,6 +173,7 @@ fn with_grid(
 }
 
 // The jobs in order, round by round; the last round's lines are written, until the output takes no more.
+// `with_grid` hands on what it was given, and the grid that it has read.
 fn each_job(
     file: &[u8],
     l: Layout,

@@ -49,8 +49,8 @@ pub fn swaption_price(
     )
 }
 
-// The same on a curve whose faults are known: the call above shows it, and so does whoever works them
-// once for many jobs.
+// The same on a curve whose faults are known: `swaption_price` has worked them, and
+// `runfile::swaption_told` hands on those that were worked once for all jobs.
 pub fn swaption_price_on(
     curve: Faults,
     alpha: f64,

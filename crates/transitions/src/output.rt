@@ -24,7 +24,7 @@ pub fn finish(values: &[f64], out: &mut [f64]) -> Answer
     }
 }
 
-// Writes the values over the front of the output.
+// Writes the values over the front of the output. `finish` hands on that it has room for them.
 fn store(values: &[f64], out: &mut [f64])
     requires { ⌜ length (now values) ≤ length (now out) ⌝ }
     ensures { λ _. ⌜ now (out .exit) ≡ now (values .entry) ++ drop (length (now (values .entry))) (now (out .entry)) ⌝ }
