@@ -55,7 +55,7 @@ unfoldable pub expM1Of : Float → Float
 unfolding expOf
 expM1Of y = cond (le (absOf y) half) (y ⊗ seriesOf y 2 16 one) (expOf y ⊖ one)
 
--- ---- for private functions' contracts
+-- ---- for contracts below the public surface
 -- none of the cases that come before the series of exp
 abbrev pub withinLimits : Float → Bool
 withinLimits x = not (isNan x) && not (lt expTop x) && not (lt x expBottom)

@@ -5,5 +5,5 @@ pub mod Exp
 pub mod ExactCases
 pub mod Ln
 pub mod Density
--- for private functions' contracts only, as is `moderate` at the end of Exp
+-- for private functions' contracts only, as is `moderate` at the end of Exp; `withinLimits` beside it is for contracts below the public surface
 pub mod Units

@@ -82,8 +82,8 @@ pub fn exp_m1(y: f64) -> f64
     }
 }
 
-// ---- The parts of exp: `probability::both` takes them apart, to work a series of its own beside that
-// of exp, and shows what each requires.
+// ---- The parts of exp. `probability::both` takes them too, to work exp's series beside Hart's polynomials.
+
 // Whether exp works x by its series.
 pub fn within_limits(x: f64) -> bool
     ensures { λ r. ⌜ r ≡ withinLimits x ⌝ }

@@ -19,7 +19,7 @@ pub use simple::midpoint;
 pub use simple::min;
 pub use simple::signum;
 
-// Below the public surface: the parts of exp. What each requires is shown by `probability::both`.
+// Below the public surface: the parts of exp. What each requires is shown by `exp`, `exp_two` and `probability::both`.
 pub use exponential::Reduced;
 pub use exponential::reduce;
 pub use exponential::scale;

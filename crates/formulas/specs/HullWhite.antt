@@ -69,7 +69,7 @@ thetaOf alpha t sigma forward slope = fusedOf (sigma ⊗ sigma ⊘ (two ⊗ alph
 unfoldable pub shortRateVarianceOf : Float → Float → Float → Float → Float
 shortRateVarianceOf alpha t T sigma = sigma ⊗ sigma ⊗ decayOf alpha (T ⊖ t) ⊘ (two ⊗ alpha)
 
--- ln(P(T)/(X × P(t))): how far a bond lies above its strike, whose value today is X × P(t)
+-- ln(P(T)/(X × P(t))): the logarithm of a bond's factor over X × P(t), what its strike is worth today
 unfoldable pub moneynessOf : Float → Float → Float
 moneynessOf pT strikeValue = lnOf (pT ⊘ strikeValue)
 
@@ -91,9 +91,6 @@ unfoldable pub bondCallAt : Float → Float → Float → Float → Float
 bondCallAt sigmaP moneyness strikeValue pT =
     let d1 = d1Of sigmaP moneyness in
     fusedOf pT (normCdfOf d1) (neg (strikeValue ⊗ normCdfOf (d1 ⊖ sigmaP)))
-
-abbrev pub bondCallOf : Float → Float → Float → Float → Float
-bondCallOf sigmaP strike pt pT = bondCallAt sigmaP (moneynessOf pT (strike ⊗ pt)) (strike ⊗ pt) pT
 
 -- 1 + tau × K, fused
 unfoldable pub growthOf : Float → Float → Float

@@ -75,20 +75,20 @@ pub fn volatility_at(sigma: f64, b: f64, deviation: f64) -> f64
     sigma * b * deviation
 }
 
-// B(t, T), and the variance of the state at the option time for a sigma of 1: what a bond's volatility
-// takes from exp.
-pub struct Decays {
+// What a bond's volatility takes from exp: B(t, T), and the variance of the state at the option time for a
+// sigma of 1.
+pub struct VolatilityParts {
     pub b: f64,
     pub variance: f64,
 }
 
 // Both: `b_of` and what stands under the root of `deviation_of` written out, so that their exps are worked
 // side by side.
-pub fn decays_of(alpha: f64, t: f64, bond: f64) -> Decays
+pub fn volatility_parts(alpha: f64, t: f64, bond: f64) -> VolatilityParts
     ensures { λ r. ⌜ (r .b ≡ bOf alpha t bond) × (r .variance ≡ stateVarianceOf alpha t) ⌝ }
 {
     let e = elementary::exp_two(-2.0 * alpha * t, -alpha * (bond - t));
-    Decays {
+    VolatilityParts {
         b: (1.0 - e.second) / alpha,
         variance: (1.0 - e.first) / (2.0 * alpha),
     }
@@ -98,7 +98,7 @@ pub fn decays_of(alpha: f64, t: f64, bond: f64) -> Decays
 pub fn volatility_of(alpha: f64, sigma: f64, t: f64, bond: f64) -> f64
     ensures { λ r. ⌜ r ≡ volatilityOf alpha sigma t bond ⌝ }
 {
-    let d = decays_of(alpha, t, bond);
+    let d = volatility_parts(alpha, t, bond);
     volatility_at(sigma, d.b, ieee::sqrt(d.variance))
 }
 
@@ -124,7 +124,7 @@ pub fn short_rate_variance_of(alpha: f64, t: f64, bond: f64, sigma: f64) -> f64
     sigma * sigma * decay_of(alpha, bond - t) / (2.0 * alpha)
 }
 
-// How far a bond lies above its strike.
+// The logarithm of a bond's factor over what its strike is worth today.
 pub fn moneyness_of(p_bond: f64, strike_value: f64) -> f64
     ensures { λ r. ⌜ r ≡ moneynessOf «p_bond» «strike_value» ⌝ }
 {

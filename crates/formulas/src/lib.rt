@@ -2,7 +2,7 @@
 // order, fused where it says mul_add. Nothing is refused here.
 mod hullwhite;
 
-pub use hullwhite::Decays;
+pub use hullwhite::VolatilityParts;
 pub use hullwhite::a_at;
 pub use hullwhite::a_of;
 pub use hullwhite::b_of;
@@ -11,7 +11,6 @@ pub use hullwhite::bond_put_at;
 pub use hullwhite::bond_put_of;
 pub use hullwhite::day;
 pub use hullwhite::decay_of;
-pub use hullwhite::decays_of;
 pub use hullwhite::deviation_of;
 pub use hullwhite::drift_of;
 pub use hullwhite::forward_of;
@@ -22,4 +21,5 @@ pub use hullwhite::short_rate_variance_of;
 pub use hullwhite::theta_of;
 pub use hullwhite::volatility_at;
 pub use hullwhite::volatility_of;
+pub use hullwhite::volatility_parts;
 pub use hullwhite::zcb_of;

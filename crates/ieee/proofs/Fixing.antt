@@ -2,14 +2,14 @@
 use mathlib.Core.Path.{_≡_, refl, sym, ap, ap₂, _∙_, subst}
 use mathlib.Core.Bool.{Bool, false}
 use Prim.Native.Nat.{ℕ, _+_, _-_, _*_, _/_, _%_, _^_, _≤_, _<_, min}
-use native.Mathlib.Nat.{le-trans, le-of-eq, lt-of-lt-of-le, lt-of-le-of-lt, mul-pos, mul-assoc, mul-comm, mul-right-comm, mul-div-cancel, mul-le-mul-right, le-of-mul-le-mul-right, eq-of-mul-eq-mul-right, mod-eq-of-lt, le-of-lt, le-add-left, add-mul-div-right, add-mul-mod-self-right, div-le-of-le-mul}
+use native.Mathlib.Nat.{le-trans, le-of-eq, lt-of-lt-of-le, mul-pos, mul-assoc, mul-comm, mul-div-cancel, mul-le-mul-right, le-of-mul-le-mul-right, eq-of-mul-eq-mul-right, mod-eq-of-lt, le-of-lt, le-add-left, add-mul-div-right, add-mul-mod-self-right, div-le-of-le-mul}
 use native.Mathlib.Omega.{arith}
-use lib.Dec.{T, lit<, lit≤}
+use lib.Dec.{T, lit≤}
 use lib.Pow.{pow-add, pow-pos, pow-mono, shl-lt}
 use lib.Count.{leadingZeros}
 use mir.Syntax.{w64}
 use mir.Val.{Fits}
-use lib.Ieee.{Float, nan, inf, fin, binary64, size, down, round, fits, toBits}
+use lib.Ieee.{Float, nan, inf, fin, binary64, down, round, fits, toBits}
 use lib.Ieee.Exact.{HasValue}
 use lib.Ieee.Fits.{round-fits}
 use lib.Ieee.Scale.{round-same}

@@ -27,5 +27,5 @@ pub record Stepped (a y c r : ℕ) : Type 0 where
   pub value : (g : ℕ) (x z k : Float) → g ≤ 60 → Held x a (g + 2) → Held z y 62 → Held k c g → Held (fusedOf x z k) r g
 
 -- r is that fused sum
-abbrev pub Ended : ℕ → ℕ → ℕ → ℕ → Float → Type 0
-Ended a y c g r = (x z k : Float) → Held x a (g + 2) → Held z y 62 → Held k c g → r ≡ fusedOf x z k
+abbrev pub SteppedLast : ℕ → ℕ → ℕ → ℕ → Float → Type 0
+SteppedLast a y c g r = (x z k : Float) → Held x a (g + 2) → Held z y 62 → Held k c g → r ≡ fusedOf x z k

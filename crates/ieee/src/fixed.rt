@@ -6,7 +6,7 @@ ghost use Prim.Native.Nat.{_+_, _^_, _≤_, _<_};
 ghost use lib.Dec.{T};
 ghost use lib.Ieee.{isNan};
 ghost use Rattle.ieee.specs.Open.{field};
-ghost use Rattle.ieee.specs.Fixed.{Held, settledOf, Settled, Stepped, Ended};
+ghost use Rattle.ieee.specs.Fixed.{Held, settledOf, Settled, Stepped, SteppedLast};
 use significands::wide;
 
 // x * 2^62, for an x from 2^-10 up and below 4, which loses no digit. `probability::both::quotients` has
@@ -32,13 +32,14 @@ pub fn fixed_step(a: u64, y: u64, c: u64) -> u64
 // The last step of a chain, as an f64: c has so many places. `probability::both::last` shows the bounds.
 pub fn fixed_last(a: u64, y: u64, c: u64, places: u64) -> f64
     requires { ⌜ (2 ^ 53 ≤ c) × (a + c < 2 ^ 62) × (places ≤ 60) ⌝ }
-    ensures { λ r. ⌜ Ended a y c places r ⌝ }
+    ensures { λ r. ⌜ SteppedLast a y c places r ⌝ }
 {
     let v = wide::product(a, y);
     packed(v.hi + c, wide::mark(v.lo), places)
 }
 
-// h, and a little more where the sticky digit s is 1, to 53 digits. That digit is put below the others
+// h, and a little more where the sticky digit s is 1, to 53 digits: the digits of `open::rounded`, put back to
+// their places, which that one hands on as an exponent. The sticky digit is put below the others
 // when they stand in their place, so that nothing waits for it. `fixed_step` has the bounds from its own.
 fn settled(h: u64, s: u64) -> u64
     requires { ⌜ (2 ^ 53 ≤ h) × (h < 2 ^ 62) × (s ≤ 1) ⌝ }

@@ -185,7 +185,7 @@ fn bond_option_priced(
     requires { ⌜ inOrder true (now times) ≡ true ⌝ }
     ensures { λ r. ⌜ outcomeOf r ≡ bondOptionPriced option alpha (now (times .entry)) (now (factors .entry)) t bond strike sigma ⌝ }
 {
-    let decays = formulas::decays_of(alpha, t, bond);
+    let parts = formulas::volatility_parts(alpha, t, bond);
     let Found::At(p_t) = lookups::factor(times, factors, t) else {
         return Price::Refused(Refusal::OffCurve);
     };
@@ -194,7 +194,7 @@ fn bond_option_priced(
     };
     let strike_value = strike * p_t;
     let moneyness = formulas::moneyness_of(p_bond, strike_value);
-    let sigma_p = formulas::volatility_at(sigma, decays.b, ieee::sqrt(decays.variance));
+    let sigma_p = formulas::volatility_at(sigma, parts.b, ieee::sqrt(parts.variance));
     lists::served(bond_option(option, sigma_p, moneyness, strike_value, p_bond))
 }
 
@@ -212,7 +212,7 @@ fn optionlet_priced(
     requires { ⌜ inOrder true (now times) ≡ true ⌝ }
     ensures { λ r. ⌜ outcomeOf r ≡ optionletPriced option alpha (now (times .entry)) (now (factors .entry)) strike t end sigma ⌝ }
 {
-    let decays = formulas::decays_of(alpha, t, end);
+    let parts = formulas::volatility_parts(alpha, t, end);
     let Found::At(p_t) = lookups::factor(times, factors, t) else {
         return Price::Refused(Refusal::OffCurve);
     };
@@ -222,7 +222,7 @@ fn optionlet_priced(
     let growth = formulas::growth_of(end - t, strike);
     let strike_value = 1.0 / growth * p_t;
     let moneyness = formulas::moneyness_of(p_end, strike_value);
-    let sigma_p = formulas::volatility_at(sigma, decays.b, ieee::sqrt(decays.variance));
+    let sigma_p = formulas::volatility_at(sigma, parts.b, ieee::sqrt(parts.variance));
     let price = bond_option(option, sigma_p, moneyness, strike_value, p_end);
     lists::served(growth * price)
 }

@@ -1,11 +1,11 @@
--- Hart's polynomials in fixed point: the sums stay below 2 ^ 62 (`begins`, `goes-on`, `room`), stand for the polynomials (`numerator-is`, `denominator-is`), and are read back as f64s (`read-back`); the series of exp beside them (`thirteen`). Assumes nothing.
+-- Hart's polynomials in fixed point: the sums stay below 2 ^ 62 (`begins`, `goes-on`, `room`), and stand for the polynomials (`numerator-is`, `denominator-is`); the series of exp beside them (`thirteen`); an argument in fixed point is below the threshold (`near-limit`, `near-threshold`); what lies above it from all of these (`assembled`). Assumes nothing.
 use mathlib.Core.Path.{_≡_, refl, sym, ap, _∙_, subst}
 use mathlib.Core.Bool.{true, false, true≢false}
 use mathlib.Core.List.{List, [], _∷_}
 use Prim.Native.Nat.{ℕ, _+_, _-_, _*_, _^_, _≤_, _<_}
 use native.Mathlib.Nat.{le-trans, le-of-eq, le-of-lt, mul-le-mul-right, le-of-mul-le-mul-right}
 use native.Mathlib.Omega.{arith}
-use lib.Dec.{T, lit<, lit≤}
+use lib.Dec.{lit≤}
 use lib.IntN.{ℤ, pos}
 use lib.Ieee.{Float, nan, inf, fin, binary64, up, down, lt, neg, fits, ofInt, ofBits}
 use borrow.Author.Tests.{le-ltb, lt-ltb}
@@ -96,7 +96,7 @@ abbrev denSix : List Float
 denSix = decimal 175566716318264 14 ∷ decimal 16064177579207 12 ∷ decimal 867807322029461 13 ∷ decimal 296564248779674 12 ∷ decimal 637333633378831 12 ∷ decimal 793826512519948 12 ∷ []
 
 module _ (z : Float) (y : ℕ) (Z : Held z y 62) where
-  pub numerator-is : (n1 n2 n3 n4 n5 : ℕ) → Stepped 0x48_37b4_2d5f_ef78 y 0x166_989b_e8ea_71f0 n1 → Stepped n1 y 0x32f_ddfe_550d_e460 n2 → Stepped n2 y 0x43d_3632_ec09_0c40 n3
+  numerator-is : (n1 n2 n3 n4 n5 : ℕ) → Stepped 0x48_37b4_2d5f_ef78 y 0x166_989b_e8ea_71f0 n1 → Stepped n1 y 0x32f_ddfe_550d_e460 n2 → Stepped n2 y 0x43d_3632_ec09_0c40 n3
       → Stepped n3 y 0x380_a263_94b1_a780 n4 → Stepped n4 y 0x1ba_6d5c_7a28_cf20 n5 → Held (horner fusedOf z numFirst numFive) n5 49
   numerator-is n1 n2 n3 n4 n5 s1 s2 s3 s4 s5 =
       let a1 = s1 .value 57 _ z _ (lit≤ tt) num0 Z num1 in
@@ -105,7 +105,7 @@ module _ (z : Float) (y : ℕ) (Z : Held z y 62) where
       let a4 = s4 .value 51 _ z _ (lit≤ tt) a3 Z num4 in
       s5 .value 49 _ z _ (lit≤ tt) a4 Z num5
 
-  pub denominator-is : (d1 d2 d3 d4 d5 d6 : ℕ) → Stepped 0xb5_04f3_33f9_de50 y 0x382_e6ce_710f_a220 d1 → Stepped d1 y 0x808_36f8_8dea_4e80 d2 → Stepped d2 y 0xad8_fbc2_19d2_cd00 d3
+  denominator-is : (d1 d2 d3 d4 d5 d6 : ℕ) → Stepped 0xb5_04f3_33f9_de50 y 0x382_e6ce_710f_a220 d1 → Stepped d1 y 0x808_36f8_8dea_4e80 d2 → Stepped d2 y 0xad8_fbc2_19d2_cd00 d3
       → Stepped d3 y 0x944_8394_dd3c_1000 d4 → Stepped d4 y 0x4fa_aad1_fe85_ddc0 d5 → Stepped d5 y 0x18c_e9cb_2989_74a0 d6 → Held (horner fusedOf z denFirst denSix) d6 47
   denominator-is d1 d2 d3 d4 d5 d6 s1 s2 s3 s4 s5 s6 =
       let b1 = s1 .value 57 _ z _ (lit≤ tt) den0 Z den1 in
@@ -144,7 +144,7 @@ two-terms r p n m = one ⊕ (r ⊗ (one ⊕ (r ⊗ p) ⊘ n)) ⊘ m
 abbrev lit : ℕ → Float
 lit n = ofBits binary64 n
 
-pub thirteen : (r p0 p1 p2 p3 p4 p5 p6 : Float) → p0 ≡ one ⊕ (r ⊗ one) ⊘ ofInt binary64 (pos 13)
+thirteen : (r p0 p1 p2 p3 p4 p5 p6 : Float) → p0 ≡ one ⊕ (r ⊗ one) ⊘ ofInt binary64 (pos 13)
     → p1 ≡ two-terms r p0 (lit 0x4028_0000_0000_0000) (lit 0x4026_0000_0000_0000) → p2 ≡ two-terms r p1 (lit 0x4024_0000_0000_0000) (lit 0x4022_0000_0000_0000)
     → p3 ≡ two-terms r p2 (lit 0x4020_0000_0000_0000) (lit 0x401c_0000_0000_0000) → p4 ≡ two-terms r p3 (lit 0x4018_0000_0000_0000) (lit 0x4014_0000_0000_0000)
     → p5 ≡ two-terms r p4 (lit 0x4010_0000_0000_0000) (lit 0x4008_0000_0000_0000) → p6 ≡ two-terms r p5 two one
@@ -164,7 +164,7 @@ module _ (m : ℕ) (e : ℤ) (y : ℕ) (word : y < 2 ^ 64) (is : m * up e * 2 ^ 
           swap : (D M : ℕ) → M * 4 * D ≡ 4 * D * M
           swap D M = omega arith
 
-pub near-limit : (z : Float) (y : ℕ) → y < 2 ^ 64 → Held z y 62 → lt limit z ≡ false
+near-limit : (z : Float) (y : ℕ) → y < 2 ^ 64 → Held z y 62 → lt limit z ≡ false
 unfolding decimal lt
 near-limit nan y word Z = absurd (Z .value)
 near-limit (inf t) y word Z = absurd (Z .value)
@@ -174,7 +174,7 @@ near-limit (fin false m e) y word Z = le-ltb (37 * down e) (m * up e * 1) (go (m
     go : (a d : ℕ) → a ≤ 4 * d → a * 1 ≤ 37 * d
     go a d h = omega arith
 
-pub near-threshold : (z : Float) (y : ℕ) → y < 2 ^ 64 → Held z y 62 → lt z threshold ≡ true
+near-threshold : (z : Float) (y : ℕ) → y < 2 ^ 64 → Held z y 62 → lt z threshold ≡ true
 unfolding decimal lt
 near-threshold nan y word Z = absurd (Z .value)
 near-threshold (inf t) y word Z = absurd (Z .value)

@@ -26,7 +26,7 @@ pub record Turned (num den : ℕ) (p : Float) (y : ℕ) (r : Float) (c d : ℕ) 
   pub denominator : Stepped den y d den'
   pub series : p' ≡ one ⊕ (r ⊗ (one ⊕ (r ⊗ p) ⊘ n)) ⊘ m
 
--- the last turn: with 49 and 47 places before it, v is the exp times the quotient of the two polynomials
+-- the last turn: with 49 and 47 places before it, v is e × num / den, as Hart has it
 abbrev pub Ended : ℕ → ℕ → Float → ℕ → Float → ℤ → Float → Type 0
 Ended num den p y r k v =
     (z a b : Float) → Held z y 62 → Held a num 49 → Held b den 47

@@ -144,7 +144,7 @@ fn turn(num: u64, den: u64, p: f64, y: u64, r: f64, c: u64, d: u64, n: f64, m: f
     }
 }
 
-// The last turn, whose steps have 47 and 45 places, and the exp times the quotient. `quotients` has the
+// The last turn, whose steps have 47 and 45 places, and e × num / den. `quotients` has the
 // bounds from the coefficients before, and k from `reduce`.
 fn last(num: u64, den: u64, p: f64, y: u64, r: f64, k: i32) -> f64
     requires { ⌜ (num + 0x6e_1a7a_a5d3_1f94 < 2 ^ 62) × (den + 0x37_0d3d_52e9_8fca < 2 ^ 62) × (mag k < 2000) ⌝ }

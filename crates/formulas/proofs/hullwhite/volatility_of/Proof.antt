@@ -5,8 +5,8 @@ use Rattle.formulas.specs.HullWhite.{deviationOf}
 use Rattle.formulas.proofs.hullwhite.volatility_of.Statement.{statement}
 use Rattle.formulas.proofs.hullwhite.volatility_of.Tie as tie
 
-decays-of-requires : tie.Need-decays-of-requires
-decays-of-requires c κs = search needs
+volatility-parts-requires : tie.Need-volatility-parts-requires
+volatility-parts-requires c κs = search needs
 
 sqrt-requires : tie.Need-sqrt-requires
 sqrt-requires c κs = search needs
@@ -17,9 +17,9 @@ volatility-at-requires c κs = search needs
 returns : tie.Need-returns
 unfolding deviationOf
 returns c =
-    let d = c .before .before .decays-of .ensures in
+    let d = c .before .before .volatility-parts .ensures in
     rw (c .volatility-at .ensures, c .before .sqrt .ensures .0, d .0, d .1) refl
 
 pub volatility-of-spec : {M : Type 1} → statement M
 volatility-of-spec =
-    tie.close (tie.spec decays-of-requires sqrt-requires volatility-at-requires returns)
+    tie.close (tie.spec volatility-parts-requires sqrt-requires volatility-at-requires returns)

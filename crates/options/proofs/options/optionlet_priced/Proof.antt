@@ -7,8 +7,8 @@ use Rattle.lookups.proofs.Outcomes.{at, missing}
 use Rattle.options.proofs.options.optionlet_priced.Statement.{statement}
 use Rattle.options.proofs.options.optionlet_priced.Tie as tie
 
-decays-of-requires : tie.Need-decays-of-requires
-decays-of-requires c κs = search needs
+volatility-parts-requires : tie.Need-volatility-parts-requires
+volatility-parts-requires c κs = search needs
 
 factor-requires : tie.Need-factor-requires
 factor-requires c κs = search needs
@@ -64,14 +64,14 @@ returns-3 c =
     let g = m .before in
     let j = g .before .before in
     let i = j .before .before .before .before in
-    let d = i .before .before .before .decays-of .ensures in
+    let d = i .before .before .before .volatility-parts .ensures in
     rw (at _ (i .p-t .given .1) (i .before .before .factor .ensures), at _ (j .p-end .given .1) (j .before .before .factor2 .ensures)) (c .served .ensures ∙ rw (c .before .bond-option .ensures, v .volatility-at .ensures, v .before .sqrt .ensures .0, d .0, d .1, m .moneyness-of .ensures, g .growth-of .ensures) refl)
 
 pub optionlet-priced-spec : {M : Type 1} → statement M
 optionlet-priced-spec =
     tie.close
     (tie.spec
-    decays-of-requires
+    volatility-parts-requires
     factor-requires
     enum-known-p-t
     enum-told

@@ -1,5 +1,5 @@
 -- `probability::last` meets its contract: by what the last steps and `scale` give. Assumes nothing.
-use mathlib.Core.Path.{_≡_, ap, ap₂, _∙_}
+use mathlib.Core.Path.{ap, ap₂, _∙_}
 use borrow.Author.Needs.{needs}
 use lib.Ieee.{Float, ofBits}
 use Rattle.ieee.specs.Rounded.{_⊗_, _⊘_}

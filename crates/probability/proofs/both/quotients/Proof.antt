@@ -1,9 +1,6 @@
 -- `probability::quotients` meets its contract: the sizes after each turn leave room for the next, and the turns of each argument put together are what lies above it. Assumes nothing.
-use native.Mathlib.Nat.{le-trans}
 use borrow.Author.Needs.{needs}
 use lib.Dec.{lit<, lit≤}
-use Prim.Native.Nat.{ℕ, _+_, _<_, _≤_}
-use native.Mathlib.Omega.{arith}
 use Rattle.probability.proofs.Turning.{Within, begins, room, goes-on, k-small, assembled}
 use Rattle.probability.proofs.both.quotients.Statement.{statement}
 use Rattle.probability.proofs.both.quotients.Tie as tie

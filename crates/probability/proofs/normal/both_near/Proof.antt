@@ -1,5 +1,5 @@
 -- `probability::both_near` meets its contract: by its four tests. Assumes nothing.
-use mathlib.Core.Path.{_≡_, sym, _∙_}
+use mathlib.Core.Path.{sym, _∙_}
 use mathlib.Core.Bool.{true, false, false≢true}
 use borrow.Author.Needs.{needs}
 use Rattle.probability.proofs.normal.both_near.Statement.{statement}
