@@ -12,7 +12,8 @@ use lists::Faults;
 use options::BondOption;
 use pricers::SwaptionType;
 
-// Kinds 1 to 4: caplet, floorlet, bond put, bond call. `told_of` hands on the curve's faults.
+// Kinds 1 to 4: caplet, floorlet, bond put, bond call.
+// `told_of` hands on the curve's faults.
 fn option_told(
     curve: Faults,
     alpha: f64,
@@ -80,8 +81,8 @@ fn option_told(
     ))
 }
 
-// Kind 5, the model's swaption; 6 and 7, payer and receiver by the pricer. `told_of` hands on the curve's
-// faults.
+// Kind 5, the model's swaption; 6 and 7, payer and receiver by the pricer.
+// `told_of` hands on the curve's faults.
 fn swaption_told(
     curve: Faults,
     alpha: f64,
@@ -146,8 +147,8 @@ fn swaption_told(
     ))
 }
 
-// Kinds 8 and 9, a caplet's fit, Black and normal; 10 and 11, a swaption's. `told_of` hands on the curve's
-// faults.
+// Kinds 8 and 9, a caplet's fit, Black and normal; 10 and 11, a swaption's.
+// `told_of` hands on the curve's faults.
 fn fit_told(
     curve: Faults,
     alpha: f64,
