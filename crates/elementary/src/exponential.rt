@@ -59,7 +59,7 @@ pub fn exp_two(x: f64, y: f64) -> Two
         if within_limits(y) {
             let d = reduce(x);
             let e = reduce(y);
-            let p = guessed_two(d.r, e.r);
+            let p = series_two(d.r, e.r);
             return Two {
                 first: scale(p.first, d.k),
                 second: scale(p.second, e.k),
@@ -212,37 +212,6 @@ fn guessed(x: f64) -> f64
         }
     }
     p
-}
-
-// The same for two numbers.
-fn guessed_two(x: f64, y: f64) -> Two
-    ensures { λ r. ⌜ (r .first ≡ seriesOf x 1 13 one) × (r .second ≡ seriesOf y 1 13 one) ⌝ }
-{
-    let mut p = 1.0;
-    let mut q = 1.0;
-    let mut k: u32 = 13;
-    while k > 0 {
-        k -= 1;
-        let n = (1 + k) as f64;
-        let first = x * p;
-        let second = y * q;
-        let guess = 1.0 + first * (1.0 / n);
-        let other = 1.0 + second * (1.0 / n);
-        if same(guess, 1.0 + first / n) {
-            p = guess;
-        } else {
-            return series_two(x, y);
-        }
-        if same(other, 1.0 + second / n) {
-            q = other;
-        } else {
-            return series_two(x, y);
-        }
-    }
-    Two {
-        first: p,
-        second: q,
-    }
 }
 
 // Whether a guess is the sum, which is above 0 where it is: of two equal zeros the signs might differ.

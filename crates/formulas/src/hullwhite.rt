@@ -82,15 +82,14 @@ pub struct VolatilityParts {
     pub variance: f64,
 }
 
-// Both: `b_of` and what stands under the root of `deviation_of` written out, so that their exps are worked
-// side by side.
+// Both. The root waits for the variance, so its exp comes first.
 pub fn volatility_parts(alpha: f64, t: f64, bond: f64) -> VolatilityParts
     ensures { λ r. ⌜ (r .b ≡ bOf alpha t bond) × (r .variance ≡ stateVarianceOf alpha t) ⌝ }
 {
-    let e = elementary::exp_two(-2.0 * alpha * t, -alpha * (bond - t));
+    let variance = decay_of(alpha, t) / (2.0 * alpha);
     VolatilityParts {
-        b: (1.0 - e.second) / alpha,
-        variance: (1.0 - e.first) / (2.0 * alpha),
+        b: b_of(alpha, t, bond),
+        variance,
     }
 }
 

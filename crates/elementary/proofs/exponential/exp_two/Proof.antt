@@ -34,8 +34,8 @@ reduce-requires c κs = x-within c
 reduce-requires-2 : tie.Need-reduce-requires-2
 reduce-requires-2 c κs = y-within (c .before)
 
-guessed-two-requires : tie.Need-guessed-two-requires
-guessed-two-requires c κs = search needs
+series-two-requires : tie.Need-series-two-requires
+series-two-requires c κs = search needs
 
 scale-requires : tie.Need-scale-requires
 scale-requires c κs = search needs
@@ -49,8 +49,8 @@ returns c =
     let e = p .before in
     let d = e .before in
     let s = d .before in (
-      from-parts _ (x-within s) _ _ _ _ (d .reduce .ensures .0) (d .reduce .ensures .1) (p .guessed-two .ensures .0) (c .before .before .scale .ensures),
-      from-parts _ (y-within s) _ _ _ _ (e .reduce2 .ensures .0) (e .reduce2 .ensures .1) (p .guessed-two .ensures .1) (c .scale2 .ensures),
+      from-parts _ (x-within s) _ _ _ _ (d .reduce .ensures .0) (d .reduce .ensures .1) (p .series-two .ensures .0) (c .before .before .scale .ensures),
+      from-parts _ (y-within s) _ _ _ _ (e .reduce2 .ensures .0) (e .reduce2 .ensures .1) (p .series-two .ensures .1) (c .scale2 .ensures),
     )
 
 exp-requires : tie.Need-exp-requires
@@ -70,7 +70,7 @@ exp-two-spec =
     within-limits-requires-2
     reduce-requires
     reduce-requires-2
-    guessed-two-requires
+    series-two-requires
     scale-requires
     scale-requires-2
     returns

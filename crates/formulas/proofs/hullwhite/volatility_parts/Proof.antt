@@ -1,16 +1,19 @@
--- `formulas::volatility_parts` meets its contract: what the two exps give, put in. Assumes nothing.
+-- `formulas::volatility_parts` meets its contract: what B and the decay are, put in. Assumes nothing.
 use mathlib.Core.Path.{refl}
 use borrow.Author.Needs.{needs}
-use Rattle.formulas.specs.HullWhite.{bOf, decayOf}
+use lib.Ieee.{ofBits}
 use Rattle.formulas.proofs.hullwhite.volatility_parts.Statement.{statement}
 use Rattle.formulas.proofs.hullwhite.volatility_parts.Tie as tie
 
-exp-two-requires : tie.Need-exp-two-requires
-exp-two-requires c κs = search needs
+decay-of-requires : tie.Need-decay-of-requires
+decay-of-requires c κs = search needs
+
+b-of-requires : tie.Need-b-of-requires
+b-of-requires c κs = search needs
 
 returns : tie.Need-returns
-unfolding bOf decayOf
-returns c = let e = c .before .before .exp-two .ensures in (rw (e .1) refl, rw (e .0) refl)
+unfolding ofBits
+returns c = (c .b-of .ensures, rw (c .before .decay-of .ensures) refl)
 
 pub volatility-parts-spec : {M : Type 1} → statement M
-volatility-parts-spec = tie.close (tie.spec exp-two-requires returns)
+volatility-parts-spec = tie.close (tie.spec decay-of-requires b-of-requires returns)
