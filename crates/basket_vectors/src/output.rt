@@ -33,5 +33,5 @@ fn floats(list: &[f64; 64]) {
 // The 16 hexadecimal digits of the bits, a space before them. A NaN has those of one.
 fn float(x: f64) {
     io::write_all(libc::STDOUT_FILENO, b" ");
-    io::print_hex(libc::STDOUT_FILENO, lines::bits_of(x), 16);
+    io::print_hex(libc::STDOUT_FILENO, fields::bits_of(x), 16);
 }

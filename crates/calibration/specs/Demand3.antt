@@ -11,8 +11,8 @@ use Rattle.lists.specs.Faults.{curveFaults}
 use Rattle.search.specs.Reached.{Unbracketed}
 use Rattle.search.specs.Facts.{Located}
 use Rattle.terms.specs.Begun.{Begun}
-use Rattle.swaptions.specs.Price.{Valued}
-use Rattle.swaptions.specs.Demand3.{sumOf}
+use Rattle.jamshidian.specs.Price.{Valued}
+use Rattle.jamshidian.specs.PricedSum.{sumOf}
 use Rattle.bisection.specs.declared.result.Fit.{Fit}
 use Rattle.bisection.specs.declared.result.Fitted.{Fitted}
 use Rattle.bisection.specs.Result.{fittedOutcome}

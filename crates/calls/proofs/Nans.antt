@@ -5,7 +5,7 @@ use lib.Dec.{T}
 use lib.Ieee.{Float, nan, binary64, ne, isNan, toBits}
 use lib.Ieee.Bits.{cond-no}
 use lib.Ieee.Compare.{differs-from-itself}
-use Rattle.lines.proofs.Nans.{number-is}
+use Rattle.fields.proofs.Nans.{number-is}
 use Rattle.calls.specs.Match.{matchesOf, sameOf}
 
 nan-is : (x : Float) → ne x x ≡ true → x ≡ nan

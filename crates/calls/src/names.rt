@@ -2,6 +2,17 @@
 
 // Writes the function's name; 0 is for records that name none.
 pub fn write(function: u64) {
+    if function < 8 {
+        write_early(function)
+    } else if function < 15 {
+        write_middle(function)
+    } else {
+        write_late(function)
+    }
+}
+
+// The names up to 7.
+fn write_early(function: u64) {
     match function {
         1 => io::write_all(1, b"B"),
         2 => io::write_all(1, b"zcb_price_volatility"),
@@ -10,21 +21,35 @@ pub fn write(function: u64) {
         5 => io::write_all(1, b"black_put"),
         6 => io::write_all(1, b"bachelier_call"),
         7 => io::write_all(1, b"A"),
+        _ => io::write_all(1, b"malformed"),
+    }
+    ;
+}
+
+// Those from 8 to 14.
+fn write_middle(function: u64) {
+    match function {
         8 => io::write_all(1, b"zcb_price"),
         9 => io::write_all(1, b"theta"),
         10 => io::write_all(1, b"forward_rate"),
         11 => io::write_all(1, b"bond_put_price"),
         12 => io::write_all(1, b"bond_call_price"),
         13 => io::write_all(1, b"caplet_price"),
-        14 => io::write_all(1, b"floorlet_price"),
+        _ => io::write_all(1, b"floorlet_price"),
+    }
+    ;
+}
+
+// Those from 15 on.
+fn write_late(function: u64) {
+    match function {
         15 => io::write_all(1, b"annuity"),
         16 => io::write_all(1, b"piecewise_variance"),
         17 => io::write_all(1, b"volatility"),
         18 => io::write_all(1, b"d1_d2"),
         19 => io::write_all(1, b"pillars_reached"),
         20 => io::write_all(1, b"transition_variances"),
-        21 => io::write_all(1, b"generate"),
-        _ => io::write_all(1, b"malformed"),
+        _ => io::write_all(1, b"generate"),
     }
     ;
 }

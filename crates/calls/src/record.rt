@@ -2,7 +2,7 @@
 ghost use mathlib.Core.Path.{_≡_};
 ghost use Prim.Native.Nat.{_+_, _≤_};
 ghost use lib.ListN.{length};
-ghost use Rattle.calls.specs.Records.{recordOf};
+ghost use Rattle.calls.specs.Records.{numbersOf, listsOf, recordOf};
 
 // A call and what it should answer. A plain number is its bits; a list is its place in the store.
 pub struct Record {
@@ -29,27 +29,77 @@ pub struct Record {
     pub second: u64,
 }
 
+// The plain numbers of a record.
+struct Numbers {
+    a: u64,
+    b: u64,
+    c: u64,
+    d: u64,
+    e: u64,
+}
+
+// The lists of a record.
+struct Lists {
+    times: u64,
+    factors: u64,
+    pillars: u64,
+    sigmas: u64,
+    grid: u64,
+    draws: u64,
+}
+
 // The record that starts at index `at` of s. `tallied` asks for no more records than s has whole.
 pub fn parsed(s: &[u8], at: usize) -> Record
     requires { ⌜ at + 96 ≤ length (now s) ⌝ }
     ensures { λ r. ⌜ r ≡ recordOf (now (s .entry)) at ⌝ }
 {
+    let n = read_numbers(s, at);
+    let l = read_lists(s, at);
     Record {
         function: layout::half(s, at),
         answer: layout::half(s, at + 4),
         room: layout::half(s, at + 8),
+        a: n.a,
+        b: n.b,
+        c: n.c,
+        d: n.d,
+        e: n.e,
+        times: l.times,
+        factors: l.factors,
+        pillars: l.pillars,
+        sigmas: l.sigmas,
+        grid: l.grid,
+        draws: l.draws,
+        first: layout::word(s, at + 80),
+        second: layout::word(s, at + 88),
+    }
+}
+
+// Its numbers; `parsed` has it whole in s.
+fn read_numbers(s: &[u8], at: usize) -> Numbers
+    requires { ⌜ at + 96 ≤ length (now s) ⌝ }
+    ensures { λ r. ⌜ r ≡ numbersOf (now (s .entry)) at ⌝ }
+{
+    Numbers {
         a: layout::word(s, at + 16),
         b: layout::word(s, at + 24),
         c: layout::word(s, at + 32),
         d: layout::word(s, at + 40),
         e: layout::word(s, at + 48),
+    }
+}
+
+// Its lists; `parsed` has it whole in s.
+fn read_lists(s: &[u8], at: usize) -> Lists
+    requires { ⌜ at + 96 ≤ length (now s) ⌝ }
+    ensures { λ r. ⌜ r ≡ listsOf (now (s .entry)) at ⌝ }
+{
+    Lists {
         times: layout::half(s, at + 56),
         factors: layout::half(s, at + 60),
         pillars: layout::half(s, at + 64),
         sigmas: layout::half(s, at + 68),
         grid: layout::half(s, at + 72),
         draws: layout::half(s, at + 76),
-        first: layout::word(s, at + 80),
-        second: layout::word(s, at + 88),
     }
 }

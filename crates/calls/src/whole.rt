@@ -16,5 +16,5 @@ fn write_price(price: Price) {
     let reply = lists::told(price);
     io::print_decimal(1, reply.answer);
     io::write_all(1, b" ");
-    io::print_hex(1, lines::bits_of(reply.value), 16);
+    io::print_hex(1, fields::bits_of(reply.value), 16);
 }

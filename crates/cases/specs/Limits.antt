@@ -6,7 +6,7 @@ use Rattle.ieee.specs.Rounded.{_⊖_, _⊗_, _⊘_}
 use Rattle.ieee.specs.Decimal.{decimal}
 use Rattle.ieee.specs.Numbers.{two}
 use Rattle.elementary.specs.Simple.{absOf}
-use Rattle.elementary.specs.Exp.{expOf, expM1Of}
+use Rattle.exponential.specs.Exp.{expOf, expM1Of}
 use Rattle.schedules.specs.Variance.{weightOf}
 use Rattle.closedform.specs.declared.bond_option.SwaptionType.{SwaptionType}
 use Rattle.closedform.specs.BondOption.{intrinsicOf, positiveOf, movingOf, bondOptionOf}

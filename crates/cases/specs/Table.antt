@@ -13,17 +13,17 @@ use Rattle.ieee.specs.Same.{same, same-is}
 use Rattle.ieee.specs.Fused.{fusedOf}
 use Rattle.ieee.specs.Sqrt.{sqrtOf}
 use Rattle.elementary.specs.Simple.{signumOf}
-use Rattle.elementary.specs.Exp.{expOf, nearestWhole, seriesOf}
+use Rattle.exponential.specs.Exp.{expOf, nearestWhole, seriesOf}
 use Rattle.elementary.specs.Ln.{lnOf, places, significandOf, exponentOf, oddSeriesOf}
 use Rattle.probability.specs.NormCdf.{normCdfOf, normCdfDualOf, normBy, upperOf}
 use Rattle.lists.specs.declared.refusals.Refusal.the-variants as R
 use Rattle.lists.specs.Refusals.{Outcome, served, refused, following, numberOf, answerOf, answerNumber, valueOr}
-use Rattle.search.specs.Sum.{couponsOnto, couponSum}
+use Rattle.coupons.specs.Sum.{couponsOnto, couponSum}
 use Rattle.search.specs.Rate.{rungOf, orRung, ladderOf, movedTo, halveOf, thenHalve, halvingsOf, finish, joined, criticalOf}
 use Rattle.search.specs.Values.{Values, criticalOutcome}
 use Rattle.closedform.specs.declared.bond_option.SwaptionType.the-variants as Swaption
 use Rattle.closedform.specs.Newton.{bondAt, sumsAfter, sumsFrom, sumsOf, stepped}
-use Rattle.pricers.specs.Pricer.{pricedBy}
+use Rattle.valuations.specs.Value.{pricedBy}
 
 -- ---- the numbers that specs/Numbers.antt of `ieee` does not have
 abbrev minusZero : Float

@@ -5,7 +5,7 @@ use lib.Ieee.{Float, lt}
 use Rattle.ieee.specs.Rounded.{_⊕_, _⊖_, _⊗_, _⊘_}
 use Rattle.ieee.specs.Numbers.{zero, half}
 use Rattle.ieee.specs.Sqrt.{sqrtOf}
-use Rattle.elementary.specs.Exp.{expOf}
+use Rattle.exponential.specs.Exp.{expOf}
 use Rattle.elementary.specs.Ln.{lnOf}
 
 -- √variance where the variance is above 0, else 0

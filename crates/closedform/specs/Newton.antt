@@ -6,7 +6,7 @@ use Rattle.ieee.specs.Rounded.{_⊕_, _⊖_, _⊗_, _⊘_}
 use Rattle.ieee.specs.Decimal.{decimal}
 use Rattle.ieee.specs.Numbers.{zero, one}
 use Rattle.elementary.specs.Simple.{absOf}
-use Rattle.elementary.specs.Exp.{expOf}
+use Rattle.exponential.specs.Exp.{expOf}
 use Rattle.lists.specs.declared.refusals.Refusal.the-variants as R
 use Rattle.lists.specs.Refusals.{Outcome, served, refused}
 use Rattle.closedform.specs.declared.newton.Sums.{Sums}

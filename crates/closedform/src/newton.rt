@@ -19,7 +19,7 @@ pub enum Step {
 pub fn bond_at(rate: f64, a: f64, b: f64) -> f64
     ensures { λ r. ⌜ r ≡ bondAt rate a b ⌝ }
 {
-    a * elementary::exp(rate * -b)
+    a * exponential::exp(rate * -b)
 }
 
 // The sums with one term more.
@@ -50,7 +50,7 @@ fn newton_sums(rate: f64, c: &[f64], a: &[f64], b: &[f64]) -> Sums
     total
 }
 
-// The step. `pricers::priced_by` has the lists of one length.
+// The step. `valuations::priced_by` has the lists of one length.
 pub fn implicit_critical_rate(rate: f64, c: &[f64], a: &[f64], b: &[f64]) -> Step
     requires { ⌜ (length (now a) ≡ length (now c)) × (length (now b) ≡ length (now c)) ⌝ }
     ensures { λ r. ⌜ stepOutcome r ≡ stepped rate (sumsOf rate (now (c .entry)) (now (a .entry)) (now (b .entry))) ⌝ }

@@ -33,7 +33,7 @@ fn component(
 }
 
 // The components, each times its coefficient. `own` says whether the coupons have discount factors of
-// their own. `pricers::priced_by` has the lists of one length.
+// their own. `valuations::priced_by` has the lists of one length.
 pub fn components(
     option: SwaptionType,
     own: bool,

@@ -1,9 +1,6 @@
--- What the contracts of the elementary functions say, in the order of document 01.
+-- What the contracts of the elementary functions say; those of exp and of what is built on it are in `exponential`.
 pub mod Constants
 pub mod Simple
-pub mod Exp
-pub mod ExactCases
 pub mod Ln
-pub mod Density
--- for private functions' contracts only, as is `moderate` at the end of Exp; `withinLimits` beside it is for contracts below the public surface
+-- for private functions' contracts only
 pub mod Units

@@ -7,7 +7,11 @@ ghost use lib.Ieee.Positive.{positive};
 ghost use Rattle.ieee.specs.Numbers.{zero};
 ghost use Rattle.elementary.specs.Ln.{significandOf, exponentOf, ExactSplit, oddSeriesOf, joinedOf, lnOf};
 ghost use Rattle.elementary.specs.Units.{Widened};
-use super::exponential;
+
+// The two parts of ln 2: a whole number of at most 11 binary digits times the first is exact.
+pub const LN_2_HIGH: f64 = 0.693147180369123816490;
+
+pub const LN_2_LOW: f64 = 1.90821492927058770002e-10;
 
 pub fn ln(x: f64) -> f64
     ensures { λ r. ⌜ r ≡ lnOf x ⌝ }
@@ -94,7 +98,7 @@ fn joined(m: f64, k: i32) -> f64
     let s = (m - 1.0) / (m + 1.0);
     let t = odd_series(s * s);
     let n = k as f64;
-    n * exponential::LN_2_HIGH + (2.0 * (s * t) + n * exponential::LN_2_LOW)
+    n * LN_2_HIGH + (2.0 * (s * t) + n * LN_2_LOW)
 }
 
 // t starts at 0, and for n = 25, 23, .. 1 becomes 1/n + z × t.

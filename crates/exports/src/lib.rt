@@ -6,9 +6,9 @@ ghost use lib.Ieee.Positive.{positive};
 ghost use Rattle.ieee.specs.Fused.{fusedOf};
 ghost use Rattle.ieee.specs.Rows.{Gives};
 ghost use Rattle.ieee.specs.Sqrt.{sqrtOf, ClosestRoot};
-ghost use Rattle.elementary.specs.Density.{densityOf};
-ghost use Rattle.elementary.specs.ExactCases.{exactCases};
-ghost use Rattle.elementary.specs.Exp.{expOf, expM1Of};
+ghost use Rattle.exponential.specs.Density.{densityOf};
+ghost use Rattle.exponential.specs.ExactCases.{exactCases};
+ghost use Rattle.exponential.specs.Exp.{expOf, expM1Of};
 ghost use Rattle.elementary.specs.Ln.{significandOf, exponentOf, ExactSplit, lnOf};
 ghost use Rattle.probability.specs.AsWritten.{normCdfDualAsWritten};
 ghost use Rattle.probability.specs.Between.{Probability};
@@ -36,14 +36,14 @@ pub extern "C" fn calstwid_exp(x: f64) -> f64
     ensures { λ r. ⌜ r ≡ expOf x ⌝ }
     ensures exact { λ r. ⌜ Gives exactCases x r ⌝ }
 {
-    elementary::exp(x)
+    exponential::exp(x)
 }
 
 #[no_mangle]
 pub extern "C" fn calstwid_exp_m1(y: f64) -> f64
     ensures { λ r. ⌜ r ≡ expM1Of y ⌝ }
 {
-    elementary::exp_m1(y)
+    exponential::exp_m1(y)
 }
 
 #[no_mangle]
@@ -59,7 +59,7 @@ pub extern "C" fn calstwid_ln(x: f64) -> f64
 pub extern "C" fn calstwid_norm_pdf(d: f64) -> f64
     ensures { λ r. ⌜ r ≡ densityOf d ⌝ }
 {
-    elementary::norm_pdf(d)
+    exponential::norm_pdf(d)
 }
 
 // The normal distribution function with fused steps, as the f64 pricers take it.

@@ -5,7 +5,7 @@ use Rattle.ieee.specs.Decimal.{decimal}
 use Rattle.ieee.specs.Numbers.{half, one, two, four}
 use Rattle.ieee.specs.Fused.{fusedOf}
 use Rattle.ieee.specs.Sqrt.{sqrtOf}
-use Rattle.elementary.specs.Exp.{expOf}
+use Rattle.exponential.specs.Exp.{expOf}
 use Rattle.elementary.specs.Ln.{lnOf}
 use Rattle.probability.specs.NormCdf.{normCdfOf}
 

@@ -13,14 +13,14 @@ pub fn day() -> f64
 pub fn b_of(alpha: f64, t: f64, bond: f64) -> f64
     ensures { λ r. ⌜ r ≡ bOf alpha t bond ⌝ }
 {
-    (1.0 - elementary::exp(-alpha * (bond - t))) / alpha
+    (1.0 - exponential::exp(-alpha * (bond - t))) / alpha
 }
 
 // 1 less the decay of twice the mean reversion over a time.
 pub fn decay_of(alpha: f64, t: f64) -> f64
     ensures { λ r. ⌜ r ≡ decayOf alpha t ⌝ }
 {
-    1.0 - elementary::exp(-2.0 * alpha * t)
+    1.0 - exponential::exp(-2.0 * alpha * t)
 }
 
 // The forward rate over a day, from the factors at its two ends.
@@ -43,7 +43,7 @@ pub fn a_at(alpha: f64, sigma: f64, decay: f64, b: f64, drift: f64) -> f64
     ensures { λ r. ⌜ r ≡ aAt alpha sigma decay b drift ⌝ }
 {
     let spread = sigma * sigma / (4.0 * alpha) * decay * b;
-    elementary::exp(ieee::fused(spread, -b, drift))
+    exponential::exp(ieee::fused(spread, -b, drift))
 }
 
 // A(t, T).
@@ -58,7 +58,7 @@ pub fn a_of(alpha: f64, t: f64, sigma: f64, b: f64, forward: f64, p_t: f64, p_bo
 pub fn zcb_of(a: f64, b: f64, rate: f64) -> f64
     ensures { λ r. ⌜ r ≡ zcbOf a b rate ⌝ }
 {
-    a * elementary::exp(-b * rate)
+    a * exponential::exp(-b * rate)
 }
 
 // The deviation of the state at the option time, for a sigma of 1.

@@ -26,9 +26,10 @@ use Rattle.quotes.specs.Utils.{d1d2Worked, d1d2Outcome, blackCallOutcome, black
 use Rattle.options.specs.Options.{bondOptionOf, bondOptionPriced, bondOptionOutcome, optionletPriced, optionletOutcome}
 use Rattle.models.specs.Curves as Curves
 use Rattle.schedules.specs.Parameters as Schedules
-use Rattle.paths.specs.declared.path.State.{State}
+use Rattle.walks.specs.declared.walk.State.{State}
 use Rattle.transitions.specs.Written.{finishingList}
-use Rattle.paths.specs.Generate.{stateAfter, shiftOf, startState, pathFrom, generateOutcome}
+use Rattle.walks.specs.Path.{stateAfter, shiftOf, startState, pathFrom}
+use Rattle.paths.specs.Generate.{generateOutcome}
 use Rattle.transitions.specs.Transition.{variancesOf, transitionOutcome}
 
 -- not refused for want of a bracket

@@ -9,5 +9,3 @@ pub mod WholeRoot
 pub mod Sqrt
 -- for contracts below the public surface only, as is `stickyRoot` at the end of WholeRoot
 pub mod Terms
-pub mod Open
-pub mod Fixed

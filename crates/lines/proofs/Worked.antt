@@ -1,8 +1,9 @@
 -- The definitions at document 01's whole case, and at a few numbers, worked by the checker.
 use mathlib.Core.Path.{_≡_, refl}
 use mathlib.Core.List.{_++_}
-use Rattle.lines.specs.Text.{ascii}
-use Rattle.lines.specs.Lines.{decimalIn, decimalOf, hexIn, ending, lineOf}
+use Rattle.fields.specs.Text.{ascii}
+use Rattle.fields.specs.Fields.{decimalIn, decimalOf, hexIn, ending}
+use Rattle.lines.specs.Lines.{lineOf}
 
 zero-is : decimalOf 0 ≡ ascii "0"
 unfolding decimalIn

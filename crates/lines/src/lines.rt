@@ -2,9 +2,9 @@
 ghost use mathlib.Core.Path.{_≡_};
 ghost use Prim.Native.Nat.{_+_, _≤_};
 ghost use lib.ListN.{length};
-ghost use Rattle.lines.specs.Text.{Begins, pasted};
-ghost use Rattle.lines.specs.Lines.{header, refusedLine, bitsOf, lineOf};
-use crate::fields;
+ghost use Rattle.fields.specs.Text.{Begins, pasted};
+ghost use Rattle.fields.specs.Fields.{bitsOf};
+ghost use Rattle.lines.specs.Lines.{header, refusedLine, lineOf};
 
 pub struct Line {
     pub job: u64,

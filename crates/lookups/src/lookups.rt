@@ -21,7 +21,7 @@ pub struct Spot {
 // strictly rise: behind rule 4 this is handed on by `options::bond_option_priced`,
 // `options::optionlet_priced`, `models::a_priced`, `models::zcb_priced`, `models::forward_priced`,
 // `models::theta_priced`, `models::theta_from`, `quotes::annuity_priced`, `terms::fetch`,
-// `swaptions::model_priced`, `pricers::pricer_priced`, `calibration::caplet_fitted` and
+// `swaptions::model_priced`, `valuations::pricer_priced`, `calibration::caplet_fitted` and
 // `calibration::swaption_fitted`.
 pub fn factor(times: &[f64], factors: &[f64], t: f64) -> Found
     requires { ⌜ inOrder true (now times) ≡ true ⌝ }
@@ -31,7 +31,7 @@ pub fn factor(times: &[f64], factors: &[f64], t: f64) -> Found
     factor_at(times, factors, place, t)
 }
 
-// The same, looked for at the place `hint` first. `paths::forward_near` hands on that the times rise.
+// The same, looked for at the place `hint` first. `walks::forward_near` hands on that the times rise.
 pub fn factor_near(times: &[f64], factors: &[f64], hint: usize, t: f64) -> Spot
     requires { ⌜ inOrder true (now times) ≡ true ⌝ }
     ensures { λ r. ⌜ foundOf (r .found) ≡ factorAt (now (times .entry)) (now (factors .entry)) t ⌝ }

@@ -12,8 +12,8 @@ use Rattle.search.specs.Reached.{Unbracketed}
 use Rattle.search.specs.Facts.{Located}
 use Rattle.terms.proofs.Callers.{root-located, wants-bracket, no-bracket}
 use Rattle.terms.specs.Terms.{coefficientsOf, bsOf, driftsOf, affinesOf}
-use Rattle.swaptions.specs.Price.{Valued, putsOf, priceAt}
-use Rattle.swaptions.specs.Demand3.{sumOf}
+use Rattle.jamshidian.specs.Price.{Valued, putsOf, priceAt}
+use Rattle.jamshidian.specs.PricedSum.{sumOf}
 use Rattle.objectives.specs.declared.market.Quote.{Quote}
 use Rattle.objectives.specs.Market.{swaptionMarketOf}
 use Rattle.objectives.specs.Objective.{valueAlone, modelPriceAt, swaptionObjective}

@@ -5,7 +5,7 @@ use Rattle.ieee.specs.Rounded.{_⊖_}
 use Rattle.lists.specs.Refusals.{Outcome, served, following}
 use Rattle.formulas.specs.HullWhite.{forwardOf, decayOf, deviationOf, volatilityAt, volatilityOf, bondPutOf, optionletStrikeOf, optionletOf}
 use Rattle.terms.specs.Terms.{coefficientsOf, bsOf, driftsOf}
-use Rattle.swaptions.specs.Price.{Valued, priceAt}
+use Rattle.jamshidian.specs.Price.{Valued, priceAt}
 use Rattle.objectives.specs.declared.market.Quote.{Quote}
 use Rattle.objectives.specs.declared.objective.Instrument.{Instrument}
 use Rattle.objectives.specs.declared.objective.Instrument.the-variants as I

@@ -6,10 +6,10 @@ ghost use lib.ListN.{length};
 ghost use Rattle.lists.specs.Refusals.{outcomeOf};
 ghost use Rattle.bisection.specs.Solve.{residualAt};
 ghost use Rattle.objectives.specs.Objective.{capletAt, modelPriceOf, valueAlone, objectiveOf};
-ghost use Rattle.swaptions.specs.Price.{swaptionOutcome};
+ghost use Rattle.jamshidian.specs.Price.{swaptionOutcome};
+use jamshidian::Swaption;
 use lists::Price;
 use lists::Refusal;
-use swaptions::Swaption;
 
 // An instrument without its market price. A caplet has B and the deviation of its start, the strike of
 // its bond put, its own strike, start and end, and the factors there. A swaption has what its price at a
@@ -90,7 +90,7 @@ fn model_price(
             decay,
             deviation,
             p_t,
-        } => value_of(swaptions::price_at(alpha, sigma, decay, deviation, p_t, c, b, drift, p)),
+        } => value_of(jamshidian::price_at(alpha, sigma, decay, deviation, p_t, c, b, drift, p)),
     }
 }
 

@@ -124,7 +124,7 @@ pub fn bond_call_price(
 }
 
 // The same on a curve whose faults are known: `bond_put_price` and `bond_call_price` have worked them, and
-// `runfile::option_told` hands on those that were worked once for all jobs.
+// `kinds::option_told` hands on those that were worked once for all jobs.
 pub fn bond_option_on(
     option: BondOption,
     curve: Faults,
@@ -148,7 +148,7 @@ pub fn bond_option_on(
     }
 }
 
-// The same of a caplet or a floorlet, for `caplet_price`, `floorlet_price` and `runfile::option_told`.
+// The same of a caplet or a floorlet, for `caplet_price`, `floorlet_price` and `kinds::option_told`.
 pub fn optionlet_on(
     option: BondOption,
     curve: Faults,

@@ -1,4 +1,4 @@
 -- What the functions' proofs cite, and, in Served, what a caller knows of a path.
-pub mod Walks
+pub mod Starts
 pub mod Outcomes
 pub mod Served

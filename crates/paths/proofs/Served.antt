@@ -19,9 +19,10 @@ use Rattle.lookups.specs.Lookups.{Maybe, just, nothing, factorAt, required, nee
 use Rattle.lists.specs.Faults.{curveFaults, pillarFaults, gridFaults}
 use Rattle.lists.proofs.Outcomes.{not-both, served-is}
 use Rattle.formulas.specs.HullWhite.{h, forwardOf}
-use Rattle.paths.specs.declared.path.State.{State}
+use Rattle.walks.specs.declared.walk.State.{State}
 use Rattle.transitions.specs.Written.{finishingList}
-use Rattle.paths.specs.Generate.{startsBelow, pathRules, stateAfter, shiftOf, pathFrom, startState, generateOutcome}
+use Rattle.walks.specs.Path.{stateAfter, shiftOf, pathFrom, startState}
+use Rattle.paths.specs.Generate.{startsBelow, pathRules, generateOutcome}
 use Rattle.paths.proofs.Outcomes.{grid-fits}
 
 -- ---- what is served was let through at each step

@@ -1,3 +1,2 @@
 -- What the contracts of a short-rate path say.
 pub mod Generate
-pub mod Walk

@@ -1,6 +1,5 @@
 // A short-rate path (kind 12), written over a lent list. All values are worked first and written only
 // where none is refused, so that a refusal leaves the lent output as it was.
-mod decays;
 mod path;
 
 pub use path::generate;

@@ -16,7 +16,7 @@ use Rattle.lists.specs.Checks.{allOf}
 use Rattle.lists.proofs.Outcomes.{not-both}
 use Rattle.formulas.specs.HullWhite.{forwardOf}
 use Rattle.schedules.specs.Variance.{varianceOf}
-use Rattle.search.specs.Sum.{couponSum}
+use Rattle.coupons.specs.Sum.{couponSum}
 use Rattle.search.specs.Values.{Values}
 use Rattle.search.specs.Reached.{Unbracketed}
 use Rattle.search.specs.Facts.{Located}
@@ -28,7 +28,8 @@ use Rattle.closedform.specs.declared.bond_option.SwaptionType.{SwaptionType}
 use Rattle.closedform.specs.Affine.{deviationOf, affinesOf}
 use Rattle.closedform.specs.Newton.{flatLimit, sumsOf, stepped}
 use Rattle.closedform.specs.Components.{componentsOf}
-use Rattle.pricers.specs.Pricer.{Valued, finishingValuation, pricedBy, pricerPriced, rulesOn, pricerOutcome}
+use Rattle.valuations.specs.Value.{Valued, finishingValuation, pricedBy, pricerPriced}
+use Rattle.pricers.specs.Pricer.{rulesOn, pricerOutcome}
 use Rattle.pricers.specs.Demand3.{sumOf}
 
 -- ---- rule 13

@@ -1,4 +1,3 @@
--- What the functions' proofs cite: the fronts of arrays, how a pricing goes, and demand 3.
-pub mod Parts
-pub mod Pricing
+-- What the functions' proofs cite: how the rules go, and demand 3.
+pub mod Outcomes
 pub mod Demand3

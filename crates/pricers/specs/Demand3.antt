@@ -8,12 +8,13 @@ use Rattle.lists.specs.declared.refusals.Refusal.the-variants as R
 use Rattle.lists.specs.Refusals.{served, refused}
 use Rattle.formulas.specs.HullWhite.{forwardOf}
 use Rattle.schedules.specs.Variance.{varianceOf}
-use Rattle.search.specs.Sum.{couponSum}
+use Rattle.coupons.specs.Sum.{couponSum}
 use Rattle.terms.specs.Terms.{coefficientsOf, bsOf}
 use Rattle.terms.specs.Begun.{RootFound, WantsBracket}
-use Rattle.pricers.specs.declared.pricer.Valuation.{Valuation}
+use Rattle.valuations.specs.declared.value.Valuation.{Valuation}
 use Rattle.closedform.specs.Affine.{affinesOf}
-use Rattle.pricers.specs.Pricer.{Valued, valuationOutcome, rulesOn}
+use Rattle.valuations.specs.Value.{Valued, valuationOutcome}
+use Rattle.pricers.specs.Pricer.{rulesOn}
 
 -- the priced coupon sum, as a function of the rate, of a swaption whose factors at t, t + h and the payment times are pt, pPlus and ps
 abbrev pub sumOf : Float → List Float → List Float → Float → List Float → List Float → Float → Float → Float → List Float → Float → Float

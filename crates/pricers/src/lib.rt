@@ -3,6 +3,5 @@
 mod pricer;
 
 pub use closedform::SwaptionType;
-pub use pricer::Valuation;
 pub use pricer::swaption_value;
 pub use pricer::swaption_value_on;

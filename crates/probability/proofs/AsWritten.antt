@@ -7,9 +7,10 @@ use lib.Ieee.{Float, nan, inf, fin, binary64, up, down, unlike, round, sub, mul,
 use Rattle.ieee.specs.Rounded.{_⊖_, _⊗_}
 use Rattle.ieee.specs.Numbers.{zero, half, one, two, three, four}
 use Rattle.elementary.specs.Simple.{absOf}
-use Rattle.elementary.specs.Exp.{expOf}
-use Rattle.elementary.proofs.Range.{round-neg}
-use Rattle.probability.specs.NormCdf.{limit, threshold, numFirst, denFirst, productThenSum, hartOf, tailOf, normBy, normCdfDualOf}
+use Rattle.exponential.specs.Exp.{expOf}
+use Rattle.exponential.proofs.Range.{round-neg}
+use Rattle.polynomials.specs.Polynomials.{numFirst, denFirst, productThenSum, hartOf}
+use Rattle.probability.specs.NormCdf.{limit, threshold, tailOf, normBy, normCdfDualOf}
 use Rattle.probability.specs.AsWritten.{cumAsWritten, normCdfDualAsWritten}
 
 -- ---- what changes no bit

@@ -14,9 +14,10 @@ use lib.Ieee.Positive.{num, den}
 use Rattle.ieee.specs.Numbers as Numbers
 use Rattle.ieee.specs.Numbers.{half, one}
 use Rattle.elementary.specs.Constants.{log2e, ln2hi, ln2lo, expTop, expBottom}
-use Rattle.elementary.specs.Exp.{expOf, expWithin, nearestWhole, reducedOf, seriesOf, scaleOf}
-use Rattle.elementary.proofs.Range.{round-neg}
-use Rattle.probability.specs.NormCdf.{hartOf, tailOf, upperOf, normBy, limit, threshold}
+use Rattle.exponential.specs.Exp.{expOf, expWithin, nearestWhole, reducedOf, seriesOf, scaleOf}
+use Rattle.exponential.proofs.Range.{round-neg}
+use Rattle.polynomials.specs.Polynomials.{hartOf}
+use Rattle.probability.specs.NormCdf.{tailOf, upperOf, normBy, limit, threshold}
 use Rattle.probability.specs.Between.{Probability}
 use Rattle.probability.proofs.NonNeg.{nn, Below, cross→le, le→cross, mul-below}
 use Rattle.probability.proofs.Hart.{below-self}

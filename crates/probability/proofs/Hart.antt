@@ -7,7 +7,7 @@ use lib.Dec.{T}
 use lib.Ieee.{Float, nan, inf, fin, binary64, add, mul, le}
 use lib.Ieee.Fits.{and-l, and-r, and-i}
 use lib.Ieee.Positive.{num, den}
-use Rattle.probability.specs.NormCdf.{horner, productThenSum}
+use Rattle.polynomials.specs.Polynomials.{horner, productThenSum}
 use Rattle.probability.proofs.NonNeg.{nn, shape, Below, cross→le, mul-below, add-below, mul-shape}
 
 -- each coefficient is no more than the other list's

@@ -1,6 +1,5 @@
 -- What the functions' proofs cite.
 pub mod Literals
-pub mod Chain
 pub mod Turning
 pub mod Joining
 pub mod NonNeg

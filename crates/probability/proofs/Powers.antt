@@ -15,10 +15,10 @@ use lib.Ieee.Back.{round-whole}
 use lib.Ieee.Exact.{HasValue}
 use lib.Ieee.Positive.{num, den, den-pos}
 use Rattle.ieee.specs.Numbers.{one}
-use Rattle.elementary.specs.Exp.{seriesOf, scaleOf, twoTo}
-use Rattle.elementary.proofs.Nearest.{sgn}
+use Rattle.exponential.specs.Exp.{seriesOf, scaleOf, twoTo}
+use Rattle.exponential.proofs.Nearest.{sgn}
 use Rattle.elementary.proofs.Ints.{subℕ-lt}
-use Rattle.elementary.proofs.Range.{round-neg, round-sgn}
+use Rattle.exponential.proofs.Range.{round-neg, round-sgn}
 use Rattle.probability.proofs.NonNeg.{nn, Below, cross→le, mul-is, div-is}
 use Rattle.probability.proofs.Sizes.{Upto, upto-neg, upto-below, below-upto, add-size, mul-size, div-size, one-more-sgn, one-less}
 

@@ -10,7 +10,7 @@ use lib.IntN.{pos}
 use lib.Ieee.{Float, fin, binary64, add, mul, div, le, fits, ofBits}
 use lib.Ieee.Fits.{and-l, and-r, add-fits}
 use lib.Ieee.Positive.{num, den, den-pos, through, first-pos}
-use Rattle.probability.specs.NormCdf.{horner, hartOf, productThenSum, numFirst, numRest, denFirst, denRest}
+use Rattle.polynomials.specs.Polynomials.{horner, hartOf, productThenSum, numFirst, numRest, denFirst, denRest}
 use Rattle.probability.proofs.NonNeg.{nn, Below, cross→le, le→cross, mul-is, div-is}
 use Rattle.probability.proofs.Hart.{Orderly, lower, chain, horner-below, below-self, chain-first, twice-orderly}
 use Rattle.probability.proofs.Self.{round-upto}

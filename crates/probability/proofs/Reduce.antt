@@ -15,8 +15,8 @@ use lib.Ieee.Exact.{HasValue, round-exact}
 use lib.Ieee.Fits.{down-pos}
 use lib.Ieee.Positive.{num, den, den-pos, value→cross}
 use Rattle.elementary.specs.Constants.{log2e, ln2hi, ln2lo}
-use Rattle.elementary.specs.Exp.{reducedOf}
-use Rattle.elementary.proofs.Range.{round-neg}
+use Rattle.exponential.specs.Exp.{reducedOf}
+use Rattle.exponential.proofs.Range.{round-neg}
 use Rattle.elementary.proofs.Splits.{small}
 use Rattle.probability.proofs.NonNeg.{nn, Below, cross→le, le→cross, mul-is, round-below}
 use Rattle.probability.proofs.Self.{round-self, round-upto}

@@ -11,7 +11,7 @@ use lib.Ieee.{Float, nan, inf, fin, binary64, up, down, round, fits}
 use lib.Ieee.Exact.{round-exact}
 use lib.Ieee.Fits.{and-l, and-r, down-pos, round-fits}
 use lib.Ieee.Positive.{num, den, den-pos}
-use Rattle.elementary.proofs.Nearest.{fits-digits, fits-low, pow-inj}
+use Rattle.elementary.proofs.Fitting.{fits-digits, fits-low, pow-inj}
 use Rattle.elementary.proofs.Digits53.{lift}
 use Rattle.elementary.proofs.Floats.{zero-exp}
 use Rattle.elementary.proofs.Unique.{value-unique}

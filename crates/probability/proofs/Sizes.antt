@@ -11,8 +11,8 @@ use lib.Ieee.{Float, nan, inf, fin, binary64, up, down, unlike, round, sum, add,
 use lib.Ieee.Fits.{down-pos}
 use lib.Ieee.Positive.{num, den, den-pos, through}
 use lib.Ieee.Scale.{finite}
-use Rattle.elementary.proofs.Nearest.{sgn}
-use Rattle.elementary.proofs.Range.{round-neg, round-sgn}
+use Rattle.exponential.proofs.Nearest.{sgn}
+use Rattle.exponential.proofs.Range.{round-neg, round-sgn}
 use Rattle.probability.proofs.NonNeg.{nn, Below, cross→le, le→cross, sums}
 use Rattle.probability.proofs.Self.{round-upto}
 

@@ -19,10 +19,11 @@ use Rattle.ieee.specs.Rounded.{_⊕_, _⊗_, _⊘_}
 use Rattle.ieee.specs.Decimal.{decimal}
 use Rattle.ieee.specs.Numbers.{half, one, two}
 use Rattle.ieee.specs.Fused.{fusedOf}
-use Rattle.ieee.specs.Fixed.{Held, Stepped}
-use Rattle.elementary.specs.Exp.{kOf, reducedOf, seriesOf, withinLimits, expOf}
-use Rattle.elementary.proofs.Limits.{from-parts}
-use Rattle.probability.specs.NormCdf.{horner, limit, threshold, numFirst, numRest, denFirst, denRest, upperOf}
+use Rattle.steps.specs.Fixed.{Held, Stepped}
+use Rattle.exponential.specs.Exp.{kOf, reducedOf, seriesOf, withinLimits, expOf}
+use Rattle.exponential.proofs.Limits.{from-parts}
+use Rattle.polynomials.specs.Polynomials.{horner, numFirst, numRest, denFirst, denRest}
+use Rattle.probability.specs.NormCdf.{limit, threshold, upperOf}
 use Rattle.probability.specs.Turns.{Room, Begun, Turned, Ended}
 
 -- ---- the coefficients in fixed point: antt compares each with the printed one

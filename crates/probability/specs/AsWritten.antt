@@ -7,8 +7,9 @@ use Rattle.ieee.specs.Rounded.{_⊕_, _⊖_, _⊗_, _⊘_}
 use Rattle.ieee.specs.Numbers.{zero, half, one, two, three, four}
 use Rattle.elementary.specs.Constants.{sqrt2pi}
 use Rattle.elementary.specs.Simple.{absOf}
-use Rattle.elementary.specs.Exp.{expOf}
-use Rattle.probability.specs.NormCdf.{limit, threshold, tailStart, numFirst, numRest, denFirst, denRest, productThenSum, horner}
+use Rattle.exponential.specs.Exp.{expOf}
+use Rattle.polynomials.specs.Polynomials.{numFirst, numRest, denFirst, denRest, productThenSum, horner}
+use Rattle.probability.specs.NormCdf.{limit, threshold, tailStart}
 
 -- the first step's product is z × a; the later ones are a × z
 abbrev pub firstSwapped : Float → Float → List Float → Float

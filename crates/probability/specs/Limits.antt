@@ -6,7 +6,7 @@ use Rattle.ieee.specs.Rounded.{_⊖_, _⊗_}
 use Rattle.ieee.specs.Decimal.{decimal}
 use Rattle.ieee.specs.Numbers.{zero, half, one}
 use Rattle.elementary.specs.Simple.{absOf}
-use Rattle.elementary.specs.Exp.{expOf}
+use Rattle.exponential.specs.Exp.{expOf}
 use Rattle.probability.specs.NormCdf.{limit, threshold, tailOf, upperOf, normBy}
 
 -- exp(-z × z × 0.5)

@@ -7,8 +7,8 @@ use Rattle.ieee.specs.Rounded.{_⊕_, _⊗_, _⊘_}
 use Rattle.ieee.specs.Decimal.{decimal}
 use Rattle.ieee.specs.Numbers.{one, two}
 use Rattle.ieee.specs.Fused.{fusedOf}
-use Rattle.ieee.specs.Fixed.{Held, Stepped}
-use Rattle.elementary.specs.Exp.{scaleOf}
+use Rattle.steps.specs.Fixed.{Held, Stepped}
+use Rattle.exponential.specs.Exp.{scaleOf}
 
 -- a step of each polynomial stays below 2 ^ 62
 abbrev pub Room : ℕ → ℕ → ℕ → ℕ → Type 0

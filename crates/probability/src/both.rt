@@ -9,9 +9,9 @@ ghost use lib.Signed.{mag};
 ghost use Rattle.ieee.specs.Rounded.{_⊗_};
 ghost use Rattle.ieee.specs.Numbers.{half};
 ghost use Rattle.ieee.specs.Fused.{fusedOf};
-ghost use Rattle.elementary.specs.Exp.{withinLimits};
+ghost use Rattle.exponential.specs.Exp.{withinLimits};
 ghost use Rattle.probability.specs.NormCdf.{upperOf};
-ghost use Rattle.probability.specs.Sized.{Near};
+ghost use Rattle.polynomials.specs.Sized.{Near};
 ghost use Rattle.probability.specs.Turns.{Room, Turned, Begun, Ended};
 
 // Hart's coefficients, the n-th times 2^(59 - 2 n): a step takes two places off.
@@ -79,21 +79,21 @@ struct Shares {
 
 // What lies above z and above w, the exponents of their exps being a and b. `norm_cdf_two` has them, and
 // has tested all four by `both_near`.
-pub fn quotients(z: f64, w: f64, a: f64, b: f64) -> elementary::Two
+pub fn quotients(z: f64, w: f64, a: f64, b: f64) -> exponential::Two
     requires { ⌜ Near z × Near w × (withinLimits a ≡ true) × (withinLimits b ≡ true) × (a ≡ neg z ⊗ z ⊗ half) × (b ≡ neg w ⊗ w ⊗ half) ⌝ }
     ensures { λ r. ⌜ (r .first ≡ upperOf fusedOf z) × (r .second ≡ upperOf fusedOf w) ⌝ }
 {
-    let y = ieee::fixed_of(z);
-    let x = ieee::fixed_of(w);
-    let e = elementary::reduce(a);
-    let f = elementary::reduce(b);
+    let y = steps::fixed_of(z);
+    let x = steps::fixed_of(w);
+    let e = exponential::reduce(a);
+    let f = exponential::reduce(b);
     let s = begun(y, x, e.r, f.r);
     let s = turn_two(s, y, x, e.r, f.r, NUM_1, DEN_2, 12.0, 11.0);
     let s = turn_two(s, y, x, e.r, f.r, NUM_2, DEN_3, 10.0, 9.0);
     let s = turn_two(s, y, x, e.r, f.r, NUM_3, DEN_4, 8.0, 7.0);
     let s = turn_two(s, y, x, e.r, f.r, NUM_4, DEN_5, 6.0, 5.0);
     let s = turn_two(s, y, x, e.r, f.r, NUM_5, DEN_6, 4.0, 3.0);
-    elementary::Two {
+    exponential::Two {
         first: last(s.num, s.den, s.p, y, e.r, e.k),
         second: last(s.num2, s.den2, s.p2, x, f.r, f.k),
     }
@@ -105,10 +105,10 @@ fn begun(y: u64, x: u64, r: f64, q: f64) -> Shares
 {
     Shares {
         num: NUM_0,
-        den: ieee::fixed_step(DEN_0, y, DEN_1),
+        den: steps::fixed_step(DEN_0, y, DEN_1),
         p: 1.0 + (r * 1.0) / 13.0,
         num2: NUM_0,
-        den2: ieee::fixed_step(DEN_0, x, DEN_1),
+        den2: steps::fixed_step(DEN_0, x, DEN_1),
         p2: 1.0 + (q * 1.0) / 13.0,
     }
 }
@@ -138,8 +138,8 @@ fn turn(num: u64, den: u64, p: f64, y: u64, r: f64, c: u64, d: u64, n: f64, m: f
 {
     let first = 1.0 + (r * p) / n;
     Share {
-        num: ieee::fixed_step(num, y, c),
-        den: ieee::fixed_step(den, y, d),
+        num: steps::fixed_step(num, y, c),
+        den: steps::fixed_step(den, y, d),
         p: 1.0 + (r * first) / m,
     }
 }
@@ -151,8 +151,8 @@ fn last(num: u64, den: u64, p: f64, y: u64, r: f64, k: i32) -> f64
     ensures { λ v. ⌜ Ended num den p y r k v ⌝ }
 {
     let first = 1.0 + (r * p) / 2.0;
-    let e = elementary::scale(1.0 + (r * first) / 1.0, k);
-    let above = ieee::fixed_last(num, y, NUM_6, 47);
-    let below = ieee::fixed_last(den, y, DEN_7, 45);
+    let e = exponential::scale(1.0 + (r * first) / 1.0, k);
+    let above = steps::fixed_last(num, y, NUM_6, 47);
+    let below = steps::fixed_last(den, y, DEN_7, 45);
     e * above / below
 }

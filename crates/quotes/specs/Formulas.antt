@@ -5,7 +5,7 @@ use Rattle.ieee.specs.Numbers.{half}
 use Rattle.ieee.specs.Fused.{fusedOf}
 use Rattle.ieee.specs.Sqrt.{sqrtOf}
 use Rattle.elementary.specs.Ln.{lnOf}
-use Rattle.elementary.specs.Density.{densityOf}
+use Rattle.exponential.specs.Density.{densityOf}
 use Rattle.probability.specs.NormCdf.{normCdfOf}
 
 -- d1 = 0.5 × vol × √tau + ln(F/K)/(vol × √tau), the sum fused

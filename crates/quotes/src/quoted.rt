@@ -41,7 +41,7 @@ pub fn bachelier_call_of(fwd: f64, strike: f64, vol: f64, tau: f64) -> f64
 {
     let sigma_sqrt_tau = vol * ieee::sqrt(tau);
     let d = (fwd - strike) / sigma_sqrt_tau;
-    let spread = sigma_sqrt_tau * elementary::norm_pdf(d);
+    let spread = sigma_sqrt_tau * exponential::norm_pdf(d);
     ieee::fused(fwd - strike, probability::norm_cdf(d), spread)
 }
 

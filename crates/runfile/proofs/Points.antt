@@ -7,7 +7,8 @@ use native.Mathlib.Omega.{arith}
 use lib.ListN.{length, getD, take}
 use lib.Seq.{take-suc, length-take-le}
 use lib.Ieee.{Float, nan}
-use Rattle.lines.specs.Lines.{bitsOf, lineOf}
+use Rattle.fields.specs.Fields.{bitsOf}
+use Rattle.lines.specs.Lines.{lineOf}
 use Rattle.runfile.specs.Output.{pointLines}
 
 -- one point more

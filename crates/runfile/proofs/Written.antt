@@ -20,11 +20,13 @@ use Rattle.layout.specs.Layout.{layoutOf}
 use Rattle.layout.specs.Request.{Request, requestOf}
 use Rattle.layout.proofs.Kept.{kept}
 use Rattle.layout.proofs.Lists.{column-length}
-use Rattle.lines.specs.Text.{Begins}
-use Rattle.lines.specs.Lines.{bitsOf, lineOf}
-use Rattle.runfile.specs.declared.told.Told.{Told}
-use Rattle.runfile.specs.Told.{listsOf, optionTold, swaptionTold, fitTold}
-use Rattle.runfile.specs.Output.{toldOf, toldLine, pointLines, pathLines, pathOf, jobLines}
+use Rattle.fields.specs.Text.{Begins}
+use Rattle.fields.specs.Fields.{bitsOf}
+use Rattle.lines.specs.Lines.{lineOf}
+use Rattle.kinds.specs.declared.told.Told.{Told}
+use Rattle.kinds.specs.Told.{listsOf, optionTold, swaptionTold, fitTold}
+use Rattle.kinds.specs.Told.{toldOf}
+use Rattle.runfile.specs.Output.{toldLine, pointLines, pathLines, pathOf, jobLines}
 
 -- ---- an outcome, from the answer without its values
 module _ {B : Type 0} (o : Outcome B) (answer : Answer) where

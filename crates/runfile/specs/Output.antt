@@ -2,7 +2,7 @@
 use Prim.Native.Nat.{ℕ, zero, suc}
 use mathlib.Core.Bool.{cond}
 use mathlib.Core.List.{List, [], _∷_, _++_}
-use lib.Dec.{ltb, eqb}
+use lib.Dec.{eqb}
 use lib.ListN.{length}
 use lib.Ieee.{Float}
 use Rattle.ieee.specs.Numbers as Numbers
@@ -13,14 +13,12 @@ use Rattle.layout.specs.declared.parts.Laid.{Laid}
 use Rattle.layout.specs.declared.parts.Laid.the-variants.{Parts, Broken}
 use Rattle.layout.specs.Layout.{layoutOf}
 use Rattle.layout.specs.Request.{Request, requestOf}
-use Rattle.lines.specs.Lines.{header, refusedLine, bitsOf, lineOf}
-use Rattle.runfile.specs.declared.told.Told.{Told}
-use Rattle.runfile.specs.Told.{optionTold, swaptionTold, fitTold}
+use Rattle.fields.specs.Fields.{bitsOf}
+use Rattle.lines.specs.Lines.{header, refusedLine, lineOf}
+use Rattle.kinds.specs.declared.told.Told.{Told}
+use Rattle.kinds.specs.Told.{toldOf}
 
 -- kinds 1 to 11: one line
-unfoldable pub toldOf : Request → Job → Told
-toldOf q j = cond (ltb (j .kind) 5) (optionTold q j) (cond (ltb (j .kind) 8) (swaptionTold q j) (fitTold q j))
-
 abbrev pub toldLine : ℕ → ℕ → Told → List ℕ
 toldLine k kind t = lineOf k kind (t .answer) (bitsOf (t .value)) (t .note)
 

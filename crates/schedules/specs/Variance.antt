@@ -6,7 +6,7 @@ use Rattle.ieee.specs.Rounded.{_⊕_, _⊖_, _⊗_, _⊘_}
 use Rattle.ieee.specs.Decimal.{decimal}
 use Rattle.ieee.specs.Numbers.{zero, two}
 use Rattle.elementary.specs.Simple.{absOf, maxOf, minOf}
-use Rattle.elementary.specs.Exp.{expOf, expM1Of}
+use Rattle.exponential.specs.Exp.{expOf, expM1Of}
 
 -- 1.0e-12; "|alpha| 1e-12 uses the exponential weight"
 abbrev pub flat : Float

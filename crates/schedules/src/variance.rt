@@ -58,8 +58,8 @@ fn weight(alpha: f64, end: f64, lower: f64, upper: f64) -> f64
     if elementary::abs(alpha) < 1.0e-12 {
         upper - lower
     } else {
-        elementary::exp(-2.0 * alpha * (end - upper))
-            * (-elementary::exp_m1(-2.0 * alpha * (upper - lower)))
+        exponential::exp(-2.0 * alpha * (end - upper))
+            * (-exponential::exp_m1(-2.0 * alpha * (upper - lower)))
             / (2.0 * alpha)
     }
 }

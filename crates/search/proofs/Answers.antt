@@ -5,7 +5,7 @@ use Prim.Native.Nat.{ℕ}
 use lib.Ieee.{Float}
 use Rattle.search.specs.declared.Bracket.{Bracket}
 use Rattle.search.specs.declared.Critical.{Critical}
-use Rattle.search.specs.Sum.{couponSum, weightsOf, weightedSum, weights-ahead}
+use Rattle.coupons.specs.Sum.{couponSum, weightsOf, weightedSum, weights-ahead}
 use Rattle.search.specs.Rate.{criticalOf}
 use Rattle.search.specs.Facts.{Located, Searched}
 use Rattle.search.proofs.Demand3.{accepted}

@@ -8,7 +8,6 @@ pub mod Middle
 pub mod Law
 pub mod HalvingLaw
 pub mod SameValue
-pub mod Sums
 pub mod LadderSteps
 pub mod HalvingSteps
 pub mod Every

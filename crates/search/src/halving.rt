@@ -1,10 +1,9 @@
 // The halvings of a bracket.
 ghost use mathlib.Core.Path.{_≡_};
 ghost use mathlib.Core.Bool.{true};
-ghost use Rattle.search.specs.Sum.{weightedSum};
+ghost use Rattle.coupons.specs.Sum.{weightedSum};
 ghost use Rattle.search.specs.Rate.{halveOf, halvingsOf};
 use super::Bracket;
-use super::coupons;
 
 // What a halving, or a run of them, comes to: a bracket, or a stop at a NaN sum.
 pub enum Halving {

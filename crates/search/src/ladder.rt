@@ -1,8 +1,7 @@
 // A ladder of rates: 61 rungs, each twice as far out as the one before, left at the first good one.
 ghost use mathlib.Core.Path.{_≡_};
-ghost use Rattle.search.specs.Sum.{weightedSum};
+ghost use Rattle.coupons.specs.Sum.{weightedSum};
 ghost use Rattle.search.specs.Rate.{rateAt, good, ladderOf};
-use super::coupons;
 
 // What a ladder comes to: its first good rung, a NaN sum that was met before one, or neither.
 pub enum Ladder {

@@ -1,13 +1,10 @@
 // The critical rate of a list of coupon terms, `find_critical_rate` of the Rust: two ladders of
 // rates, and 200 halvings between their first good rungs. One search serves every kind of swaption.
-ghost use Rattle.search.specs.Sum.{weightedSum};
+ghost use Rattle.coupons.specs.Sum.{weightedSum};
 ghost use Rattle.search.specs.Facts.{Searched};
 
-mod coupons;
 mod halving;
 mod ladder;
-
-pub use coupons::coupon_sum;
 
 // Two rates with their sums.
 pub struct Bracket {

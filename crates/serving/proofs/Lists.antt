@@ -6,7 +6,7 @@ use lib.Ieee.{Float}
 use Rattle.layout.specs.declared.parts.Layout.{Layout}
 use Rattle.layout.specs.Bytes.{floatAt}
 use Rattle.layout.specs.Request.{requestOf, columnOf, jobsOf}
-use Rattle.runfile.specs.Told.{listsOf}
+use Rattle.kinds.specs.Told.{listsOf}
 
 module _ (file : List ℕ) (l : Layout) (alpha : Float) where
   pub curve-read : (times factors : List Float) → alpha ≡ floatAt file (l .model .offset) → times ≡ columnOf file (l .curve) 16 0 → factors ≡ columnOf file (l .curve) 16 1

@@ -3,9 +3,9 @@ use super::text;
 use bisection::Ends;
 use bisection::Fit;
 use bisection::Fitted;
-use pricers::Valuation;
+use jamshidian::Swaption;
 use search::Bracket;
-use swaptions::Swaption;
+use valuations::Valuation;
 
 fn no_bracket() -> Bracket {
     Bracket {

@@ -5,7 +5,7 @@ ghost use Rattle.lists.specs.Faults.{curveFaults};
 ghost use Rattle.layout.specs.declared.parts.Laid.the-variants.{Parts};
 ghost use Rattle.layout.specs.Layout.{layoutOf};
 ghost use Rattle.layout.specs.Request.{requestOf};
-ghost use Rattle.runfile.specs.Told.{listsOf};
+ghost use Rattle.kinds.specs.Told.{listsOf};
 use super::details;
 use layout::Laid;
 use layout::Layout;

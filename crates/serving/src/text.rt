@@ -4,7 +4,7 @@ use search::Bracket;
 // A float as the 16 hexadecimal digits of its bits, a space before them. A NaN has those of one.
 pub fn float(x: f64) {
     io::write_all(libc::STDOUT_FILENO, b" ");
-    io::print_hex(libc::STDOUT_FILENO, lines::bits_of(x), 16);
+    io::print_hex(libc::STDOUT_FILENO, fields::bits_of(x), 16);
 }
 
 pub fn number(n: u64) {

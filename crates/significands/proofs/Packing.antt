@@ -15,7 +15,7 @@ use lib.Ieee.Fits.{down-pos, odd-fits, nearest-le, inf-fits}
 use lib.Ieee.Bits.{ofBits-toBits, nanBits-is}
 use lib.Ieee.Exact.{HasValue, units-val}
 use lib.Ieee.Nearest.{closest, closest-same, nearest-ge}
-use Rattle.significands.specs.Words.{words, jammed, Width}
+use Rattle.wide.specs.Words.{words, jammed, Width}
 use Rattle.significands.proofs.Rounding.{Drops, dropped, round-int, round-close, jam-close, closest-close, pow-lt-back, size-gt, compare-lt, compare-gt, order}
 
 -- ---- a quarter, to the nearest

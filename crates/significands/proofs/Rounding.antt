@@ -14,7 +14,7 @@ use lib.Ieee.{Format, prec, low, size, nearest, units, round}
 use lib.Ieee.Digits.{size-lt, size-le, size-reaches}
 use lib.Ieee.Fits.{round-is, two, two-le-pos}
 use lib.Ieee.Nearest.{closest, closest-same, div-same}
-use Rattle.significands.specs.Words.{jammed}
+use Rattle.wide.specs.Words.{jammed}
 
 -- ---- powers and sizes
 

@@ -1,3 +1,2 @@
 -- What the contracts of `significands` say.
-pub mod Words
 pub mod Parts

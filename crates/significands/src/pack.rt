@@ -5,8 +5,7 @@ ghost use Prim.Native.Nat.{_+_, _-_, _*_, _^_, _≤_, _<_, max};
 ghost use lib.Ieee as Ieee;
 ghost use lib.Ieee.{binary64, units, toBits};
 ghost use lib.Ieee.Nearest.{closest};
-ghost use Rattle.significands.specs.Words.{words};
-use super::wide;
+ghost use Rattle.wide.specs.Words.{words};
 
 // ±v * 2^exp in units of 2^-2277, rounded to nearest, ties to even. A sum where little cancels has
 // digits enough in its upper word, and where it is far from the subnormals and from the infinities

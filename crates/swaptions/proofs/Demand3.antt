@@ -22,9 +22,9 @@ use Rattle.terms.proofs.Callers.{Late, past-rules, searching, root-located, wan
 use Rattle.terms.specs.Terms.{coefficientsOf, bsOf, driftsOf, affinesOf}
 use Rattle.terms.specs.Begun.{Begun, RootFound, WantsBracket}
 use Rattle.terms.proofs.Begun.{Searches, looked-up, looks-up}
-use Rattle.swaptions.specs.Price.{Valued, noValued, putsOf, priceAt, finishingSwaption}
+use Rattle.jamshidian.specs.Price.{Valued, noValued, putsOf, priceAt, finishingSwaption}
 use Rattle.swaptions.specs.Model.{rulesOn, termsPriced, modelPriced, modelOutcome}
-use Rattle.swaptions.specs.Demand3.{sumOf}
+use Rattle.jamshidian.specs.PricedSum.{sumOf}
 
 -- ---- rule 13 after the price
 keeps : (w v : Valued) → finishingSwaption w ≡ served v → w ≡ v

@@ -21,15 +21,15 @@ use Rattle.lists.proofs.Outcomes.{neither}
 use Rattle.lists.proofs.CurveLaws.{curve-rises}
 use Rattle.formulas.specs.HullWhite.{forwardOf, decayOf, deviationOf}
 use Rattle.search.specs.declared.Critical.{Critical}
-use Rattle.search.specs.Sum.{weightsOf, weightedSum}
+use Rattle.coupons.specs.Sum.{weightsOf, weightedSum}
 use Rattle.search.specs.Values.{criticalOutcome}
 use Rattle.search.specs.Facts.{Searched}
 use Rattle.search.proofs.Answers.{priced}
 use Rattle.terms.specs.Terms.{coefficientsOf, bsOf, driftsOf, affinesOf}
-use Rattle.swaptions.specs.declared.price.Swaption.{Swaption}
-use Rattle.swaptions.specs.declared.price.Swaption.the-variants as S
-use Rattle.swaptions.specs.declared.price.Root.{Root}
-use Rattle.swaptions.specs.Price.{Valued, swaptionOutcome, noValued, putsOf, priceAt, finishingSwaption}
+use Rattle.jamshidian.specs.declared.price.Swaption.{Swaption}
+use Rattle.jamshidian.specs.declared.price.Swaption.the-variants as S
+use Rattle.jamshidian.specs.declared.price.Root.{Root}
+use Rattle.jamshidian.specs.Price.{Valued, swaptionOutcome, noValued, putsOf, priceAt, finishingSwaption}
 use Rattle.swaptions.specs.Model.{modelRules, rulesOn, termsPriced, modelPriced, modelOutcome}
 
 -- ---- the rules do not ask where the faults come from
@@ -61,13 +61,6 @@ module _ (alpha : Float) (ts fs payments accruals : List Float) (strike t sigma 
         sym (eqb-true (length payments) (length accruals) (not-false (eqb (length payments) (length accruals)) (both .1))),
         curve-rises ts fs (none .1 .1 .1 .0),
       )
-
--- ---- the price at a sigma, by what the search r over the weights ws comes to
-module _ (alpha sigma decay deviation pt : Float) (cs bs drifts ps : List Float) {affs ws : List Float} {r : Critical} where
-  pub price-is : affs ≡ affinesOf alpha sigma decay bs drifts → ws ≡ weightsOf cs affs → Searched (weightedSum ws bs) r → (x : Critical) → r ≡ x
-      → following (criticalOutcome x) (λ root. served (record { value = putsOf sigma deviation pt (root .rate) cs affs bs ps; root = root })) ≡ priceAt alpha sigma decay deviation pt cs bs drifts ps
-  unfolding priceAt
-  price-is e f g x h = rw (← e, ← priced cs affs bs ws r f g .is, h)
 
 -- ---- the terms, each as its call worked it, and the price on them
 pub terms-are : (alpha strike t sigma pt pPlus : Float) (payments accruals ps : List Float) {cs bs ds : List Float} {forward decay deviation : Float} {o q : Outcome Valued}

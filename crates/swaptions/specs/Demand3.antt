@@ -7,19 +7,11 @@ use lib.Ieee.{Float}
 use mathlib.Core.Logic.{_↔_}
 use Rattle.lists.specs.declared.refusals.Refusal.the-variants as R
 use Rattle.lists.specs.Refusals.{served, refused}
-use Rattle.formulas.specs.HullWhite.{forwardOf, decayOf}
-use Rattle.search.specs.Sum.{couponSum}
-use Rattle.terms.specs.Terms.{coefficientsOf, bsOf, driftsOf, affinesOf}
 use Rattle.terms.specs.Begun.{RootFound, WantsBracket}
-use Rattle.swaptions.specs.declared.price.Swaption.{Swaption}
-use Rattle.swaptions.specs.Price.{Valued, swaptionOutcome}
+use Rattle.jamshidian.specs.declared.price.Swaption.{Swaption}
+use Rattle.jamshidian.specs.Price.{Valued, swaptionOutcome}
+use Rattle.jamshidian.specs.PricedSum.{sumOf}
 use Rattle.swaptions.specs.Model.{rulesOn}
-
--- the priced coupon sum, as a function of the rate, of a swaption whose factors at t, t + h and the payment times are pt, pPlus and ps
-abbrev pub sumOf : Float → Float → List Float → List Float → Float → Float → Float → Float → List Float → Float → Float
-sumOf alpha t payments accruals strike sigma pt pPlus ps =
-    let bs = bsOf alpha t payments in
-    couponSum (coefficientsOf strike accruals) (affinesOf alpha sigma (decayOf alpha t) bs (driftsOf (forwardOf pt pPlus) pt bs ps)) bs
 
 module _ (alpha : Float) (ts fs payments accruals : List Float) (strike t sigma : Float) where
   -- an answer that is accepted with coupons: its root is located among the sums of the terms priced

@@ -16,7 +16,7 @@ use Rattle.lookups.specs.Lookups.{factorAt, needing}
 use Rattle.lists.specs.Faults.{curveFaults, couponFaults}
 use Rattle.formulas.specs.HullWhite.{h, forwardOf, decayOf, deviationOf}
 use Rattle.terms.specs.Terms.{coefficientsOf, bsOf, driftsOf, factorsAt}
-use Rattle.swaptions.specs.Price.{Valued, noValued, priceAt, finishingSwaption}
+use Rattle.jamshidian.specs.Price.{Valued, noValued, priceAt, finishingSwaption}
 
 -- rules 1 to 7, a line a rule; `later`: every payment time is above the option time. Rule 7 lets kind 5 have no coupons
 abbrev pub modelRules : Faults → Faults → Bool → Float → Float → Float → Float → List Rule

@@ -6,12 +6,11 @@ ghost use lib.ListN.{length};
 ghost use Rattle.lists.specs.Checks.{inOrder};
 ghost use Rattle.lists.specs.Refusals.{served, reported, firstOf, following};
 ghost use Rattle.lists.specs.Faults.{curveFaults};
-ghost use Rattle.swaptions.specs.Price.{swaptionOutcome, noValued, finishingSwaption};
+ghost use Rattle.jamshidian.specs.Price.{swaptionOutcome, noValued, finishingSwaption};
 ghost use Rattle.swaptions.specs.Model.{modelRules, termsPriced, modelPriced, modelOutcome};
 ghost use Rattle.swaptions.specs.Demand3.{Rooted, RefusedSo};
-use super::price;
-use super::price::Root;
-use super::price::Swaption;
+use jamshidian::Root;
+use jamshidian::Swaption;
 use lists::Answer;
 use lists::Faults;
 use lists::Refusal;
@@ -50,7 +49,7 @@ pub fn swaption_price(
 }
 
 // The same on a curve whose faults are known: `swaption_price` has worked them, and
-// `runfile::swaption_told` hands on those that were worked once for all jobs.
+// `kinds::swaption_told` hands on those that were worked once for all jobs.
 pub fn swaption_price_on(
     curve: Faults,
     alpha: f64,
@@ -193,7 +192,7 @@ fn terms_priced(
     terms::drifts(forward, p_t, &b[..n], p, &mut drift[..n]);
     let decay = formulas::decay_of(alpha, t);
     let deviation = formulas::deviation_of(alpha, t);
-    let swaption = price::price_at(
+    let swaption = jamshidian::price_at(
         alpha,
         sigma,
         decay,

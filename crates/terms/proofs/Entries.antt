@@ -9,7 +9,7 @@ use lib.Dec.{eqb, eqb·suc-suc, eqb·zero-suc}
 use lib.ListN.{length, getD, length-map}
 use lib.Ieee.{Float, nan}
 use Rattle.ieee.specs.Rounded.{_⊗_}
-use Rattle.search.specs.Sum.{weightsOf}
+use Rattle.coupons.specs.Sum.{weightsOf}
 use Rattle.lists.specs.Refusals.{Outcome, served, refused, prepend}
 use Rattle.lookups.specs.Lookups.{Maybe, just, nothing, factorAt, needing}
 use Rattle.lists.proofs.Outcomes.{not-both, served-is}

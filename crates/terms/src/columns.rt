@@ -2,7 +2,7 @@
 // swaption has asked rule 1: its coupons' lists are of one length, and each list it lends has that length.
 ghost use mathlib.Core.Path.{_≡_};
 ghost use lib.ListN.{length};
-ghost use Rattle.search.specs.Sum.{weightsOf};
+ghost use Rattle.coupons.specs.Sum.{weightsOf};
 ghost use Rattle.terms.specs.Terms.{coefficientAt, coefficientsOf, bsOf, driftsOf, affinesOf};
 
 // The coefficient of one coupon: the last one's has the notional beside it.
@@ -16,7 +16,7 @@ fn coefficient(last: bool, accrual: f64, strike: f64) -> f64
     }
 }
 
-// The coefficients of the coupons. `swaptions::terms_priced`, `pricers::pricer_priced` and
+// The coefficients of the coupons. `swaptions::terms_priced`, `valuations::pricer_priced` and
 // `calibration::swaption_worked` lend a place for each.
 pub fn coefficients(strike: f64, accruals: &[f64], out: &mut [f64])
     requires { ⌜ length (now out) ≡ length (now accruals) ⌝ }
@@ -30,7 +30,7 @@ pub fn coefficients(strike: f64, accruals: &[f64], out: &mut [f64])
 }
 
 // B from t to each payment time. The same three lend a place for each: `swaptions::terms_priced`,
-// `pricers::pricer_priced` and `calibration::swaption_worked`.
+// `valuations::pricer_priced` and `calibration::swaption_worked`.
 pub fn bs(alpha: f64, t: f64, payments: &[f64], out: &mut [f64])
     requires { ⌜ length (now out) ≡ length (now payments) ⌝ }
     ensures { λ _. ⌜ now (out .exit) ≡ bsOf alpha t (now (payments .entry)) ⌝ }
@@ -55,7 +55,7 @@ pub fn drifts(forward: f64, p_t: f64, b: &[f64], p: &[f64], out: &mut [f64])
     }
 }
 
-// A of each term at a sigma. `swaptions::price_at` is given a drift for each B.
+// A of each term at a sigma. `jamshidian::price_at` is given a drift for each B.
 pub fn affines(alpha: f64, sigma: f64, decay: f64, b: &[f64], drift: &[f64], out: &mut [f64])
     requires { ⌜ (length (now out) ≡ length (now b)) × (length (now drift) ≡ length (now b)) ⌝ }
     ensures { λ _. ⌜ now (out .exit) ≡ affinesOf alpha sigma decay (now (b .entry)) (now (drift .entry)) ⌝ }
@@ -67,8 +67,8 @@ pub fn affines(alpha: f64, sigma: f64, decay: f64, b: &[f64], drift: &[f64], out
     }
 }
 
-// The weight of each term in the coupon sum, coefficient × A. `swaptions::price_at` has worked an A for each
-// coefficient, and `pricers::priced_by` is given one.
+// The weight of each term in the coupon sum, coefficient × A. `jamshidian::price_at` has worked an A for each
+// coefficient, and `valuations::priced_by` is given one.
 pub fn weights(c: &[f64], a: &[f64], out: &mut [f64])
     requires { ⌜ (length (now out) ≡ length (now c)) × (length (now a) ≡ length (now c)) ⌝ }
     ensures { λ _. ⌜ now (out .exit) ≡ weightsOf (now (c .entry)) (now (a .entry)) ⌝ }

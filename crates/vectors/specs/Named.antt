@@ -6,8 +6,8 @@ use lib.Ieee.{Float}
 use Rattle.ieee.specs.Numbers.{zero, one}
 use Rattle.ieee.specs.Fused.{fusedOf}
 use Rattle.ieee.specs.Sqrt.{sqrtOf}
-use Rattle.elementary.specs.Density.{densityOf}
-use Rattle.elementary.specs.Exp.{expOf, expM1Of}
+use Rattle.exponential.specs.Density.{densityOf}
+use Rattle.exponential.specs.Exp.{expOf, expM1Of}
 use Rattle.elementary.specs.Ln.{lnOf}
 use Rattle.elementary.specs.Simple.{signumOf, midpointOf, maxOf, minOf, absOf}
 use lib.Ieee.Scale.{finite}

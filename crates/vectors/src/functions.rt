@@ -33,10 +33,10 @@ fn result(function: u64, a: f64, b: f64, c: f64) -> f64
     match function {
         1 => ieee::fused(a, b, c),
         2 => ieee::sqrt(a),
-        3 => elementary::exp(a),
-        4 => elementary::exp_m1(a),
+        3 => exponential::exp(a),
+        4 => exponential::exp_m1(a),
         5 => elementary::ln(a),
-        6 => elementary::norm_pdf(a),
+        6 => exponential::norm_pdf(a),
         7 => probability::norm_cdf(a),
         8 => probability::norm_cdf_dual(a),
         9 => elementary::signum(a),

@@ -5,7 +5,7 @@ use lib.Ieee.{Float}
 use Rattle.lookups.proofs.Outcomes.{at, missing}
 use Rattle.terms.proofs.Fetched.{fetch-refused, fetch-all}
 use Rattle.calibration.specs.Fits.{swaptionFitted}
-use Rattle.swaptions.proofs.Lending.{lent-is, back-fits, back-is, values-are}
+use Rattle.jamshidian.proofs.Lending.{lent-is, back-fits, back-is, values-are}
 use borrow.Author.Needs.{needs}
 use Rattle.calibration.proofs.fits.swaption_fitted.Statement.{statement}
 use Rattle.calibration.proofs.fits.swaption_fitted.Tie as tie

@@ -2,7 +2,7 @@
 use mathlib.Core.Path.{sym, _∙_}
 use mathlib.Core.List.{List}
 use lib.Ieee.{Float}
-use Rattle.swaptions.proofs.Lending.{lent-is, back-fits, back-is, values-are}
+use Rattle.jamshidian.proofs.Lending.{lent-is, back-fits, back-is, values-are}
 use Rattle.calibration.proofs.Worked.{swaption-fit}
 use borrow.Author.Needs.{needs}
 use Rattle.calibration.proofs.fits.swaption_worked.Statement.{statement}

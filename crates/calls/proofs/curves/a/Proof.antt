@@ -25,7 +25,7 @@ A-requires : tie.Need-A-requires
 A-requires c κs = search needs
 
 returns : tie.Need-returns
-returns c = cc
+returns c = rw (c .A .ensures .outcome, c .before .float-of4 .ensures, c .before .before .float-of3 .ensures, c .before .before .before .float-of2 .ensures, c .before .before .before .before .part2 .ensures, c .before .before .before .before .before .part .ensures, c .before .before .before .before .before .before .float-of .ensures)
 
 pub a-spec : {M : Type 1} → statement M
 a-spec =

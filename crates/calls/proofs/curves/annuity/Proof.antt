@@ -19,7 +19,7 @@ annuity-requires : tie.Need-annuity-requires
 annuity-requires c κs = search needs
 
 returns : tie.Need-returns
-returns c = cc
+returns c = rw (c .annuity .ensures .outcome, c .before .part4 .ensures, c .before .before .part3 .ensures, c .before .before .before .part2 .ensures, c .before .before .before .before .part .ensures)
 
 pub annuity-spec : {M : Type 1} → statement M
 annuity-spec =

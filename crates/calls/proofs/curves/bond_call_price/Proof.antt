@@ -28,7 +28,7 @@ bond-call-price-requires : tie.Need-bond-call-price-requires
 bond-call-price-requires c κs = search needs
 
 returns : tie.Need-returns
-returns c = cc
+returns c = rw (c .bond-call-price .ensures .outcome, c .before .float-of5 .ensures, c .before .before .float-of4 .ensures, c .before .before .before .float-of3 .ensures, c .before .before .before .before .float-of2 .ensures, c .before .before .before .before .before .part2 .ensures, c .before .before .before .before .before .before .part .ensures, c .before .before .before .before .before .before .before .float-of .ensures)
 
 pub bond-call-price-spec : {M : Type 1} → statement M
 bond-call-price-spec =

@@ -28,7 +28,7 @@ bond-put-price-requires : tie.Need-bond-put-price-requires
 bond-put-price-requires c κs = search needs
 
 returns : tie.Need-returns
-returns c = cc
+returns c = rw (c .bond-put-price .ensures .outcome, c .before .float-of5 .ensures, c .before .before .float-of4 .ensures, c .before .before .before .float-of3 .ensures, c .before .before .before .before .float-of2 .ensures, c .before .before .before .before .before .part2 .ensures, c .before .before .before .before .before .before .part .ensures, c .before .before .before .before .before .before .before .float-of .ensures)
 
 pub bond-put-price-spec : {M : Type 1} → statement M
 bond-put-price-spec =

@@ -28,7 +28,7 @@ caplet-price-requires : tie.Need-caplet-price-requires
 caplet-price-requires c κs = search needs
 
 returns : tie.Need-returns
-returns c = cc
+returns c = rw (← c .before .before .before .before .before .before .before .float-of .ensures, ← c .before .before .before .before .before .before .part .ensures, ← c .before .before .before .before .before .part2 .ensures, ← c .before .before .before .before .float-of2 .ensures, ← c .before .before .before .float-of3 .ensures, ← c .before .before .float-of4 .ensures, ← c .before .float-of5 .ensures) (c .caplet-price .ensures .outcome)
 
 pub caplet-price-spec : {M : Type 1} → statement M
 caplet-price-spec =

@@ -16,7 +16,7 @@ forward-rate-requires : tie.Need-forward-rate-requires
 forward-rate-requires c κs = search needs
 
 returns : tie.Need-returns
-returns c = cc
+returns c = rw (c .forward-rate .ensures .outcome, c .before .float-of .ensures, c .before .before .part2 .ensures, c .before .before .before .part .ensures)
 
 pub forward-rate-spec : {M : Type 1} → statement M
 forward-rate-spec =

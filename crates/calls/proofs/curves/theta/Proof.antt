@@ -22,7 +22,7 @@ theta-requires : tie.Need-theta-requires
 theta-requires c κs = search needs
 
 returns : tie.Need-returns
-returns c = cc
+returns c = rw (c .theta .ensures .outcome, c .before .float-of3 .ensures, c .before .before .float-of2 .ensures, c .before .before .before .part2 .ensures, c .before .before .before .before .part .ensures, c .before .before .before .before .before .float-of .ensures)
 
 pub theta-spec : {M : Type 1} → statement M
 theta-spec =

@@ -28,7 +28,7 @@ zcb-price-requires : tie.Need-zcb-price-requires
 zcb-price-requires c κs = search needs
 
 returns : tie.Need-returns
-returns c = cc
+returns c = rw (c .zcb-price .ensures .outcome, c .before .float-of5 .ensures, c .before .before .float-of4 .ensures, c .before .before .before .float-of3 .ensures, c .before .before .before .before .float-of2 .ensures, c .before .before .before .before .before .part2 .ensures, c .before .before .before .before .before .before .part .ensures, c .before .before .before .before .before .before .before .float-of .ensures)
 
 pub zcb-price-spec : {M : Type 1} → statement M
 zcb-price-spec =

@@ -16,7 +16,7 @@ B-requires : tie.Need-B-requires
 B-requires c κs = search needs
 
 returns : tie.Need-returns
-returns c = cc
+returns c = rw (c .B .ensures .outcome, c .before .float-of3 .ensures, c .before .before .float-of2 .ensures, c .before .before .before .float-of .ensures)
 
 pub b-spec : {M : Type 1} → statement M
 b-spec =

@@ -19,7 +19,7 @@ bachelier-call-requires : tie.Need-bachelier-call-requires
 bachelier-call-requires c κs = search needs
 
 returns : tie.Need-returns
-returns c = cc
+returns c = rw (c .bachelier-call .ensures .outcome, c .before .float-of4 .ensures, c .before .before .float-of3 .ensures, c .before .before .before .float-of2 .ensures, c .before .before .before .before .float-of .ensures)
 
 pub bachelier-call-spec : {M : Type 1} → statement M
 bachelier-call-spec =

@@ -19,7 +19,7 @@ black-put-requires : tie.Need-black-put-requires
 black-put-requires c κs = search needs
 
 returns : tie.Need-returns
-returns c = cc
+returns c = rw (c .black-put .ensures .outcome, c .before .float-of4 .ensures, c .before .before .float-of3 .ensures, c .before .before .before .float-of2 .ensures, c .before .before .before .before .float-of .ensures)
 
 pub black-put-spec : {M : Type 1} → statement M
 black-put-spec =

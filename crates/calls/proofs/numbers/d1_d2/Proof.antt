@@ -19,7 +19,7 @@ d1-d2-requires : tie.Need-d1-d2-requires
 d1-d2-requires c κs = search needs
 
 returns : tie.Need-returns
-returns c = cc
+returns c = rw (c .d1-d2 .ensures .0, c .before .float-of4 .ensures, c .before .before .float-of3 .ensures, c .before .before .before .float-of2 .ensures, c .before .before .before .before .float-of .ensures)
 
 pub d1-d2-spec : {M : Type 1} → statement M
 d1-d2-spec =

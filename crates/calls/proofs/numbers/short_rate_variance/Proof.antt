@@ -19,7 +19,7 @@ short-rate-variance-requires : tie.Need-short-rate-variance-requires
 short-rate-variance-requires c κs = search needs
 
 returns : tie.Need-returns
-returns c = cc
+returns c = rw (c .short-rate-variance .ensures .outcome, c .before .float-of4 .ensures, c .before .before .float-of3 .ensures, c .before .before .before .float-of2 .ensures, c .before .before .before .before .float-of .ensures)
 
 pub short-rate-variance-spec : {M : Type 1} → statement M
 short-rate-variance-spec =

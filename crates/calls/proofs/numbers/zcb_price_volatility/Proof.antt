@@ -19,7 +19,7 @@ zcb-price-volatility-requires : tie.Need-zcb-price-volatility-requires
 zcb-price-volatility-requires c κs = search needs
 
 returns : tie.Need-returns
-returns c = cc
+returns c = rw (c .zcb-price-volatility .ensures .outcome, c .before .float-of4 .ensures, c .before .before .float-of3 .ensures, c .before .before .before .float-of2 .ensures, c .before .before .before .before .float-of .ensures)
 
 pub zcb-price-volatility-spec : {M : Type 1} → statement M
 zcb-price-volatility-spec =

@@ -22,7 +22,7 @@ piecewise-variance-requires : tie.Need-piecewise-variance-requires
 piecewise-variance-requires c κs = search needs
 
 returns : tie.Need-returns
-returns c = cc
+returns c = rw (c .piecewise-variance .ensures .outcome, c .before .float-of3 .ensures, c .before .before .float-of2 .ensures, c .before .before .before .part2 .ensures, c .before .before .before .before .part .ensures, c .before .before .before .before .before .float-of .ensures)
 
 pub piecewise-variance-spec : {M : Type 1} → statement M
 piecewise-variance-spec =

@@ -16,7 +16,7 @@ pillars-reached-requires : tie.Need-pillars-reached-requires
 pillars-reached-requires c κs = search needs
 
 returns : tie.Need-returns
-returns c = cc
+returns c = rw (c .pillars-reached .ensures .0, c .before .float-of .ensures, c .before .before .part2 .ensures, c .before .before .before .part .ensures)
 
 pub pillars-reached-spec : {M : Type 1} → statement M
 pillars-reached-spec =

@@ -16,7 +16,7 @@ volatility-requires : tie.Need-volatility-requires
 volatility-requires c κs = search needs
 
 returns : tie.Need-returns
-returns c = cc
+returns c = rw (c .volatility .ensures .outcome, c .before .float-of .ensures, c .before .before .part2 .ensures, c .before .before .before .part .ensures)
 
 pub volatility-spec : {M : Type 1} → statement M
 volatility-spec =

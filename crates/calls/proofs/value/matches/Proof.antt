@@ -6,7 +6,7 @@ use lib.Dec.{T, ltb, eqb}
 use lib.Ieee.{Float, nan, binary64, isNan, ofBits, toBits}
 use lib.Ieee.Bits.{nanBits-above, nanBits-is, cond-no}
 use lib.Ieee.Compare.{differs-from-itself}
-use Rattle.lines.proofs.Nans.{number-is}
+use Rattle.fields.proofs.Nans.{number-is}
 use Rattle.calls.specs.Match.{matchesOf}
 use Rattle.calls.proofs.value.matches.Statement.{statement}
 use Rattle.calls.proofs.value.matches.Tie as tie

@@ -1,6 +1,6 @@
 -- `calls::value::same` meets its contract: only a NaN differs from itself. Assumes nothing.
 use mathlib.Core.Path.{_∙_}
-use Rattle.lines.proofs.Nans.{number-is}
+use Rattle.fields.proofs.Nans.{number-is}
 use Rattle.calls.proofs.Nans.{same-nan, same-number}
 use borrow.Author.Needs.{needs}
 use Rattle.calls.proofs.value.same.Statement.{statement}

@@ -16,11 +16,11 @@ moving-requires c κs = search needs
 
 returns : tie.Need-returns
 unfolding bondOptionOf
-returns c = rw (← still-is, c .before .before .if1 .taken) (cc)
+returns c = rw (← still-is, c .before .before .if1 .taken, c .positive .ensures, c .before .intrinsic .ensures)
 
 returns-2 : tie.Need-returns-2
 unfolding bondOptionOf
-returns-2 c = rw (← still-is, c .before .if1 .left) (cc)
+returns-2 c = rw (← still-is, c .before .if1 .left, c .moving .ensures)
 
 pub bond-option-spec : {M : Type 1} → statement M
 bond-option-spec =

@@ -9,7 +9,7 @@ ln-requires c κs = search needs
 
 returns : tie.Need-returns
 unfolding d1Of
-returns c = cc
+returns c = rw (c .ln .ensures .0)
 
 pub d1-spec : {M : Type 1} → statement M
 d1-spec = tie.close (tie.spec ln-requires returns)

@@ -27,11 +27,11 @@ normal-requires-4 c κs = search needs
 
 returns : tie.Need-returns
 unfolding movingOf
-returns c = rw (c .before .before .enum-told .given .1) (cc)
+returns c = rw (c .before .before .enum-told .given .1, c .normal2 .ensures, c .before .normal .ensures, c .before .before .before .before .d1 .ensures)
 
 returns-2 : tie.Need-returns-2
 unfolding movingOf
-returns-2 c = rw (c .before .before .enum-told2 .given .1) (cc)
+returns-2 c = rw (c .before .before .enum-told2 .given .1, c .normal4 .ensures, c .before .normal3 .ensures, c .before .before .before .before .d1 .ensures)
 
 pub moving-spec : {M : Type 1} → statement M
 moving-spec =

@@ -9,7 +9,7 @@ exp-requires c κs = search needs
 
 returns : tie.Need-returns
 unfolding bondAt
-returns c = cc
+returns c = rw (c .exp .ensures .0)
 
 pub bond-at-spec : {M : Type 1} → statement M
 bond-at-spec = tie.close (tie.spec exp-requires returns)

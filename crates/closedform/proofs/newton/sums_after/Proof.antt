@@ -9,7 +9,7 @@ bond-at-requires c κs = search needs
 
 returns : tie.Need-returns
 unfolding sumsAfter
-returns c = cc
+returns c = rw (c .before .before .bond-at .ensures)
 
 pub sums-after-spec : {M : Type 1} → statement M
 sums-after-spec = tie.close (tie.spec bond-at-requires returns)

@@ -12,7 +12,7 @@ exp-requires c κs = search needs
 
 returns : tie.Need-returns
 unfolding affineOf
-returns c = cc
+returns c = rw (c .exp .ensures .0, c .before .ln .ensures .0)
 
 pub affine-spec : {M : Type 1} → statement M
 affine-spec = tie.close (tie.spec ln-requires exp-requires returns)

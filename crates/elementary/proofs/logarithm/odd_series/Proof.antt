@@ -4,7 +4,7 @@ use borrow.Author.Needs.{needs}
 use Prim.Native.Nat.{_≤_}
 use lib.Ieee.{binary64, ofBits}
 use Rattle.elementary.specs.Ln.{oddSeriesOf}
-use Rattle.elementary.proofs.Turns.{odd-turn, odd-end}
+use Rattle.elementary.proofs.OddTurns.{odd-turn, odd-end}
 use Rattle.elementary.proofs.logarithm.odd_series.Statement.{statement}
 use Rattle.elementary.proofs.logarithm.odd_series.Tie as tie
 

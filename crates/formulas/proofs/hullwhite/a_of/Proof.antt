@@ -13,7 +13,7 @@ a-at-requires : tie.Need-a-at-requires
 a-at-requires c κs = search needs
 
 returns : tie.Need-returns
-returns c = cc
+returns c = rw (c .a-at .ensures, c .before .decay-of .ensures, c .before .before .drift-of .ensures)
 
 pub a-of-spec : {M : Type 1} → statement M
 a-of-spec = tie.close (tie.spec drift-of-requires decay-of-requires a-at-requires returns)

@@ -9,7 +9,7 @@ exp-requires c κs = search needs
 
 returns : tie.Need-returns
 unfolding bOf
-returns c = cc
+returns c = rw (c .exp .ensures .0)
 
 pub b-of-spec : {M : Type 1} → statement M
 b-of-spec = tie.close (tie.spec exp-requires returns)

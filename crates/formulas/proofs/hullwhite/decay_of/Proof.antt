@@ -9,7 +9,7 @@ exp-requires c κs = search needs
 
 returns : tie.Need-returns
 unfolding decayOf
-returns c = cc
+returns c = rw (c .exp .ensures .0)
 
 pub decay-of-spec : {M : Type 1} → statement M
 decay-of-spec = tie.close (tie.spec exp-requires returns)

@@ -12,7 +12,7 @@ sqrt-requires c κs = search needs
 
 returns : tie.Need-returns
 unfolding deviationOf
-returns c = cc
+returns c = rw (c .sqrt .ensures .0, c .before .decay-of .ensures)
 
 pub deviation-of-spec : {M : Type 1} → statement M
 deviation-of-spec = tie.close (tie.spec decay-of-requires sqrt-requires returns)

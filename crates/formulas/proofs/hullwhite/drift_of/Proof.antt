@@ -12,7 +12,7 @@ fused-requires c κs = search needs
 
 returns : tie.Need-returns
 unfolding driftOf
-returns c = cc
+returns c = rw (c .fused .ensures, c .before .ln .ensures .0)
 
 pub drift-of-spec : {M : Type 1} → statement M
 drift-of-spec = tie.close (tie.spec ln-requires fused-requires returns)

@@ -9,7 +9,7 @@ day-requires c κs = search needs
 
 returns : tie.Need-returns
 unfolding slopeOf
-returns c = cc
+returns c = rw (c .day .ensures)
 
 pub forward-slope-of-spec : {M : Type 1} → statement M
 forward-slope-of-spec = tie.close (tie.spec day-requires returns)

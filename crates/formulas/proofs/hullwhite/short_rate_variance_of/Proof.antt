@@ -9,7 +9,7 @@ decay-of-requires c κs = search needs
 
 returns : tie.Need-returns
 unfolding shortRateVarianceOf
-returns c = cc
+returns c = rw (c .decay-of .ensures)
 
 pub short-rate-variance-of-spec : {M : Type 1} → statement M
 short-rate-variance-of-spec = tie.close (tie.spec decay-of-requires returns)

@@ -15,7 +15,7 @@ fused-requires-2 c κs = search needs
 
 returns : tie.Need-returns
 unfolding thetaOf
-returns c = cc
+returns c = rw (c .fused2 .ensures, c .before .decay-of .ensures, c .before .before .fused .ensures)
 
 pub theta-of-spec : {M : Type 1} → statement M
 theta-of-spec = tie.close (tie.spec fused-requires decay-of-requires fused-requires-2 returns)

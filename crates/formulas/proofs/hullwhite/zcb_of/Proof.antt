@@ -9,7 +9,7 @@ exp-requires c κs = search needs
 
 returns : tie.Need-returns
 unfolding zcbOf
-returns c = cc
+returns c = rw (c .exp .ensures .0)
 
 pub zcb-of-spec : {M : Type 1} → statement M
 zcb-of-spec = tie.close (tie.spec exp-requires returns)

@@ -2,7 +2,7 @@
 use native.Mathlib.Omega.{arith}
 use denote.Ref.{now}
 use Rattle.lines.specs.Lines.{header}
-use Rattle.lines.proofs.Writing.{start, next, begins}
+use Rattle.fields.proofs.Writing.{start, next, begins}
 use borrow.Author.Needs.{needs}
 use Rattle.lines.proofs.lines.write_header.Statement.{statement}
 use Rattle.lines.proofs.lines.write_header.Tie as tie

@@ -2,8 +2,9 @@
 use native.Mathlib.Omega.{arith}
 use denote.Ref.{now}
 use lib.ListN.{take}
-use Rattle.lines.specs.Lines.{decimalOf, hexOf, ending, lineOf}
-use Rattle.lines.proofs.Writing.{start-at, next, five-from-there}
+use Rattle.fields.specs.Fields.{decimalOf, hexOf, ending}
+use Rattle.lines.specs.Lines.{lineOf}
+use Rattle.fields.proofs.Writing.{start-at, next, five-from-there}
 use borrow.Author.Needs.{needs}
 use Rattle.lines.proofs.lines.write_line.Statement.{statement}
 use Rattle.lines.proofs.lines.write_line.Tie as tie

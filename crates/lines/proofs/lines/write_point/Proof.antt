@@ -2,10 +2,11 @@
 use native.Mathlib.Omega.{arith}
 use denote.Ref.{now}
 use lib.ListN.{take}
-use Rattle.lines.specs.Text.{ascii}
-use Rattle.lines.specs.Lines.{decimalOf, hexOf, ending, lineOf}
+use Rattle.fields.specs.Text.{ascii}
+use Rattle.fields.specs.Fields.{decimalOf, hexOf, ending}
+use Rattle.lines.specs.Lines.{lineOf}
 use Rattle.lines.proofs.Worked.{path-fields}
-use Rattle.lines.proofs.Writing.{start-at, next, four-from-there}
+use Rattle.fields.proofs.Writing.{start-at, next, four-from-there}
 use borrow.Author.Needs.{needs}
 use Rattle.lines.proofs.lines.write_point.Statement.{statement}
 use Rattle.lines.proofs.lines.write_point.Tie as tie

@@ -2,7 +2,7 @@
 use native.Mathlib.Omega.{arith}
 use denote.Ref.{now}
 use Rattle.lines.specs.Lines.{refusedLine}
-use Rattle.lines.proofs.Writing.{start, next, begins}
+use Rattle.fields.proofs.Writing.{start, next, begins}
 use borrow.Author.Needs.{needs}
 use Rattle.lines.proofs.lines.write_refused.Statement.{statement}
 use Rattle.lines.proofs.lines.write_refused.Tie as tie

@@ -13,7 +13,7 @@ in-order-requires : tie.Need-in-order-requires
 in-order-requires c κs = search needs
 
 returns : tie.Need-returns
-returns c = cc
+returns c = rw (c .in-order .ensures, c .before .all2 .ensures, c .before .before .all .ensures)
 
 pub grid-faults-spec : {M : Type 1} → statement M
 grid-faults-spec = tie.close (tie.spec all-requires all-requires-2 in-order-requires returns)

@@ -16,7 +16,7 @@ all-requires-3 : tie.Need-all-requires-3
 all-requires-3 c κs = search needs
 
 returns : tie.Need-returns
-returns c = cc
+returns c = rw (c .all3 .ensures, c .before .in-order .ensures, c .before .before .all2 .ensures, c .before .before .before .all .ensures)
 
 pub pillar-faults-spec : {M : Type 1} → statement M
 pillar-faults-spec =

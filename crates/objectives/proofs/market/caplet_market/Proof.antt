@@ -9,7 +9,7 @@ vanilla-call-requires c κs = search needs
 
 returns : tie.Need-returns
 unfolding capletMarketOf
-returns c = cc
+returns c = rw (c .vanilla-call .ensures)
 
 pub caplet-market-spec : {M : Type 1} → statement M
 caplet-market-spec = tie.close (tie.spec vanilla-call-requires returns)

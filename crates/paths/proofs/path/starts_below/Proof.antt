@@ -2,7 +2,7 @@
 use mathlib.Core.Path.{sym}
 use borrow.Author.Needs.{needs}
 use denote.Ref.{now}
-use Rattle.paths.proofs.Walks.{starts-none, starts-first}
+use Rattle.paths.proofs.Starts.{starts-none, starts-first}
 use Rattle.paths.proofs.path.starts_below.Statement.{statement}
 use Rattle.paths.proofs.path.starts_below.Tie as tie
 

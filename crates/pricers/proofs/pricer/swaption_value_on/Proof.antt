@@ -2,8 +2,9 @@
 use mathlib.Core.Path.{_≡_, _∙_, ap}
 use denote.Ref.{now}
 use Rattle.lists.specs.Refusals.{reported, firstOf}
-use Rattle.pricers.specs.Pricer.{noValued, rulesOn}
-use Rattle.pricers.proofs.Pricing.{same-rules, turned-down, let-through, lists-fit}
+use Rattle.valuations.specs.Value.{noValued}
+use Rattle.pricers.specs.Pricer.{rulesOn}
+use Rattle.pricers.proofs.Outcomes.{same-rules, turned-down, let-through, lists-fit}
 use Rattle.pricers.proofs.Demand3.{rooted, refused-so}
 use borrow.Author.Needs.{needs}
 use Rattle.pricers.proofs.pricer.swaption_value_on.Statement.{statement}

@@ -3,7 +3,7 @@ use mathlib.Core.Path.{ap, ap₂, _∙_}
 use borrow.Author.Needs.{needs}
 use lib.Ieee.{Float, ofBits}
 use Rattle.ieee.specs.Rounded.{_⊗_, _⊘_}
-use Rattle.elementary.specs.Exp.{scaleOf}
+use Rattle.exponential.specs.Exp.{scaleOf}
 use Rattle.probability.proofs.Turning.{num6, den7, k-back}
 use Rattle.probability.proofs.both.last.Statement.{statement}
 use Rattle.probability.proofs.both.last.Tie as tie

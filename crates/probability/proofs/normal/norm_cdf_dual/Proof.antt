@@ -2,7 +2,8 @@
 use mathlib.Core.Path.{_≡_, sym, _∙_, subst}
 use borrow.Author.Needs.{needs}
 use lib.Ieee.{Float}
-use Rattle.probability.specs.NormCdf.{normCdfDualOf, productThenSum}
+use Rattle.polynomials.specs.Polynomials.{productThenSum}
+use Rattle.probability.specs.NormCdf.{normCdfDualOf}
 use Rattle.probability.specs.Between.{Probability}
 use Rattle.probability.proofs.Between.{norm-within}
 use Rattle.probability.specs.AsWritten.{normCdfDualAsWritten}

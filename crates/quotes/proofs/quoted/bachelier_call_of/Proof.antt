@@ -18,7 +18,7 @@ fused-requires c κs = search needs
 
 returns : tie.Need-returns
 unfolding bachelierCallOf
-returns c = cc
+returns c = rw (c .fused .ensures, c .before .norm-cdf .ensures .0, c .before .before .norm-pdf .ensures, c .before .before .before .sqrt .ensures .0)
 
 pub bachelier-call-of-spec : {M : Type 1} → statement M
 bachelier-call-of-spec =

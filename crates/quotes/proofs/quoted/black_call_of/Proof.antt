@@ -21,7 +21,7 @@ fused-requires c κs = search needs
 
 returns : tie.Need-returns
 unfolding blackCallOf
-returns c = cc
+returns c = rw (c .fused .ensures, c .before .norm-cdf2 .ensures .0, c .before .before .norm-cdf .ensures .0, c .before .before .before .d2-of .ensures, c .before .before .before .before .d1-of .ensures)
 
 pub black-call-of-spec : {M : Type 1} → statement M
 black-call-of-spec =

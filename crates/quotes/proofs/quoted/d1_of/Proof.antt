@@ -15,7 +15,7 @@ fused-requires c κs = search needs
 
 returns : tie.Need-returns
 unfolding d1Of
-returns c = cc
+returns c = rw (c .fused .ensures, c .before .ln .ensures .0, c .before .before .sqrt .ensures .0)
 
 pub d1-of-spec : {M : Type 1} → statement M
 d1-of-spec = tie.close (tie.spec sqrt-requires ln-requires fused-requires returns)

@@ -7,7 +7,7 @@ use denote.Ref.{now}
 use Rattle.layout.specs.declared.records.Job.{Job}
 use Rattle.layout.specs.Request.{Request, requestOf, jobAt, jobsOf}
 use Rattle.layout.proofs.Kept.{kept}
-use Rattle.runfile.specs.Told.{listsOf}
+use Rattle.kinds.specs.Told.{listsOf}
 use Rattle.runfile.proofs.Written.{path-job, told-job, told-lists, grid-short}
 use Rattle.runfile.proofs.jobs.job_lines.Statement.{statement}
 use Rattle.runfile.proofs.jobs.job_lines.Tie as tie

@@ -3,8 +3,9 @@ use borrow.Author.Needs.{needs}
 use mathlib.Core.List.{[]}
 use native.Mathlib.Omega.{arith}
 use denote.Ref.{now}
-use Rattle.lines.specs.Lines.{bitsOf, lineOf}
-use Rattle.lines.proofs.Writing.{start, next, begins}
+use Rattle.fields.specs.Fields.{bitsOf}
+use Rattle.lines.specs.Lines.{lineOf}
+use Rattle.fields.proofs.Writing.{start, next, begins}
 use Rattle.runfile.proofs.jobs.one_line.Statement.{statement}
 use Rattle.runfile.proofs.jobs.one_line.Tie as tie
 

@@ -7,8 +7,9 @@ use denote.Ref.{now}
 use lib.ListN.{length, take, getD}
 use lib.Seq.{take-all}
 use lib.Ieee.{nan}
-use Rattle.lines.specs.Lines.{bitsOf, lineOf}
-use Rattle.lines.proofs.Writing.{Begun, start, next, begins}
+use Rattle.fields.specs.Fields.{bitsOf}
+use Rattle.lines.specs.Lines.{lineOf}
+use Rattle.fields.proofs.Writing.{Begun, start, next, begins}
 use Rattle.runfile.specs.Output.{pointLines}
 use Rattle.runfile.proofs.Points.{points-turn}
 use Rattle.runfile.proofs.jobs.point_lines.Statement.{statement}

@@ -5,7 +5,7 @@ use native.Mathlib.Omega.{arith}
 use borrow.Author.Needs.{needs}
 use lib.Arith.{digits-lt}
 use lib.Ieee.{binary64}
-use Rattle.significands.specs.Words.{words}
+use Rattle.wide.specs.Words.{words}
 use Rattle.significands.proofs.Packing.{width-le, not-zero, drops, whole, Whole, rounded, rounded-zero}
 use Rattle.significands.proofs.Rounding.{Drops}
 use Rattle.significands.proofs.pack.any.Statement.{statement}

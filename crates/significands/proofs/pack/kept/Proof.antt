@@ -4,7 +4,7 @@ use Prim.Native.Nat.{ℕ, _+_, _-_, _^_, _<_}
 use native.Mathlib.Omega.{arith}
 use borrow.Author.Needs.{needs}
 use lib.Ieee.Nearest.{closest}
-use Rattle.significands.specs.Words.{words, jammed}
+use Rattle.wide.specs.Words.{words, jammed}
 use Rattle.significands.proofs.Packing.{kept-left, kept-right, kept-small, shift-small, lower-word}
 use Rattle.significands.proofs.pack.kept.Statement.{statement}
 use Rattle.significands.proofs.pack.kept.Tie as tie

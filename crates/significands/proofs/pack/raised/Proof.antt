@@ -6,7 +6,7 @@ use native.Mathlib.Omega.{arith}
 use borrow.Author.Needs.{needs}
 use lib.Dec.{lit<}
 use lib.Ieee.{binary64, round}
-use Rattle.significands.proofs.Words.{zeros-fit}
+use Rattle.wide.proofs.Words.{zeros-fit}
 use Rattle.significands.proofs.Packing.{zeros-pos, up-small, raised-full, raised-value, word-digits, word-rounds}
 use Rattle.significands.proofs.pack.raised.Statement.{statement}
 use Rattle.significands.proofs.pack.raised.Tie as tie

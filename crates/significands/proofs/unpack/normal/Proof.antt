@@ -5,7 +5,7 @@ use native.Mathlib.Nat.{zero-mul}
 use native.Mathlib.Omega.{arith}
 use lib.Count.{leadingZeros}
 use Rattle.significands.proofs.Unpacking.{normal-zero, zeros-range, normal-value, normal-of}
-use Rattle.significands.proofs.Words.{zeros-fit}
+use Rattle.wide.proofs.Words.{zeros-fit}
 use Rattle.significands.proofs.unpack.normal.Statement.{statement}
 use Rattle.significands.proofs.unpack.normal.Tie as tie
 

@@ -5,7 +5,7 @@ use lib.Ieee.{Float}
 use Rattle.lookups.proofs.Outcomes.{at, missing}
 use Rattle.terms.proofs.Fetched.{fetch-refused, fetch-all}
 use Rattle.swaptions.specs.Model.{modelPriced}
-use Rattle.swaptions.proofs.Lending.{lent-is, back-fits, back-is, values-are}
+use Rattle.jamshidian.proofs.Lending.{lent-is, back-fits, back-is, values-are}
 use borrow.Author.Needs.{needs}
 use Rattle.swaptions.proofs.model.model_priced.Statement.{statement}
 use Rattle.swaptions.proofs.model.model_priced.Tie as tie

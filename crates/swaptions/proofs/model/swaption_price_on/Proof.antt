@@ -2,7 +2,7 @@
 use mathlib.Core.Path.{_≡_, _∙_, ap}
 use denote.Ref.{now}
 use Rattle.lists.specs.Refusals.{firstOf, reported}
-use Rattle.swaptions.specs.Price.{noValued}
+use Rattle.jamshidian.specs.Price.{noValued}
 use Rattle.swaptions.specs.Model.{rulesOn}
 use Rattle.swaptions.proofs.Outcomes.{same-rules, turned-down, no-coupons, with-coupons, lists-fit}
 use Rattle.swaptions.proofs.Demand3.{rooted, refused-so}

@@ -3,7 +3,7 @@ use borrow.Author.Needs.{needs}
 use mathlib.Core.Path.{refl}
 use Prim.Native.Nat.{_-_}
 use lib.ListN.{length}
-use Rattle.search.specs.Sum.{weightsOf}
+use Rattle.coupons.specs.Sum.{weightsOf}
 use Rattle.terms.proofs.Filling.{Filling, start, turn, end}
 use Rattle.terms.proofs.Entries.{weights-length, weights-at}
 use Rattle.terms.proofs.columns.weights.Statement.{statement}

@@ -1,0 +1,2 @@
+-- What the contracts of `coupons` say.
+pub mod Sum

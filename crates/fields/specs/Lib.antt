@@ -1,0 +1,3 @@
+-- What the contracts of a line's fields say.
+pub mod Text
+pub mod Fields

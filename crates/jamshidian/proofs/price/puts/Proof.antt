@@ -1,0 +1,82 @@
+-- `jamshidian::price::puts` meets its contract. The loop's invariant: the puts left, added to the total so far, give the whole sum. Assumes nothing.
+use mathlib.Core.Path.{_≡_, refl, _∙_}
+use Prim.Native.Nat.{_-_, _≤_}
+use lib.ListN.{length, drop}
+use Rattle.jamshidian.specs.Price.{putsOnto, putsOf}
+use Rattle.jamshidian.proofs.Puts.{puts-on, puts-done}
+use borrow.Author.Needs.{needs}
+use Rattle.jamshidian.proofs.price.puts.Statement.{statement}
+use Rattle.jamshidian.proofs.price.puts.Tie as tie
+
+abbrev Inv-loop : tie.InvT-loop
+Inv-loop sigma deviation p-t rate c a b p total₀ i₀ total i = (i ≤ length c) × (putsOnto total sigma deviation p-t rate (drop i c) (drop i a) (drop i b) (drop i p) ≡ putsOf sigma deviation p-t rate c a b p)
+
+abbrev μ-loop : tie.MeasureT-loop
+μ-loop sigma deviation p-t rate c a b p total₀ i₀ total i = length c - i
+
+loop-holds : tie.Need-loop-holds Inv-loop μ-loop
+loop-holds c = (search needs, unfold putsOf in refl)
+
+mul-put : tie.Need-mul-put Inv-loop μ-loop
+mul-put c = search needs
+
+shared-slice-read-put : tie.Need-shared-slice-read-put Inv-loop μ-loop
+shared-slice-read-put c = search needs
+
+mul-put-2 : tie.Need-mul-put-2 Inv-loop μ-loop
+mul-put-2 c = search needs
+
+shared-slice-read-put-2 : tie.Need-shared-slice-read-put-2 Inv-loop μ-loop
+shared-slice-read-put-2 c = search needs
+
+mul-put-3 : tie.Need-mul-put-3 Inv-loop μ-loop
+mul-put-3 c = search needs
+
+shared-slice-read-put-3 : tie.Need-shared-slice-read-put-3 Inv-loop μ-loop
+shared-slice-read-put-3 c = search needs
+
+put-requires : tie.Need-put-requires Inv-loop μ-loop
+put-requires c κs = search needs
+
+mul-fused : tie.Need-mul-fused Inv-loop μ-loop
+mul-fused c = search needs
+
+shared-slice-read-fused : tie.Need-shared-slice-read-fused Inv-loop μ-loop
+shared-slice-read-fused c = search needs
+
+fused-requires : tie.Need-fused-requires Inv-loop μ-loop
+fused-requires c κs = search needs
+
+add-i : tie.Need-add-i Inv-loop μ-loop
+add-i c = search needs
+
+loop-less : tie.Need-loop-less Inv-loop μ-loop
+loop-less c = search needs
+
+loop-again : tie.Need-loop-again Inv-loop μ-loop
+loop-again c = (search needs, puts-on _ _ _ _ _ _ _ _ _ _ _ _ (c .before .before .before .before .before .before .loop-test .taken) (search needs) (search needs) (search needs) (c .before .before .put .ensures) (c .fused .ensures) ∙ c .before .before .before .before .before .before .before .loop .inv .1)
+
+returns : tie.Need-returns Inv-loop μ-loop
+returns c = puts-done _ _ _ _ _ _ _ _ _ _ (c .loop-test .left) ∙ c .before .loop .inv .1
+
+pub puts-spec : {M : Type 1} → statement M
+puts-spec =
+    tie.close
+    (tie.spec
+    Inv-loop
+    μ-loop
+    loop-holds
+    mul-put
+    shared-slice-read-put
+    mul-put-2
+    shared-slice-read-put-2
+    mul-put-3
+    shared-slice-read-put-3
+    put-requires
+    mul-fused
+    shared-slice-read-fused
+    fused-requires
+    add-i
+    loop-less
+    loop-again
+    returns)

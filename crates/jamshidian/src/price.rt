@@ -1,0 +1,102 @@
+// A swaption's price at a sigma, from terms that do not depend on sigma.
+ghost use mathlib.Core.Path.{_≡_};
+ghost use Prim.Native.Nat.{_≤_};
+ghost use lib.ListN.{length};
+ghost use Rattle.jamshidian.specs.Price.{swaptionOutcome, putOf, putsOf, priceAt};
+use lists::Refusal;
+use search::Bracket;
+use search::Critical;
+
+// Where a price's root lies: the critical rate, its final bracket, and the rungs the search left its
+// ladders at.
+pub struct Root {
+    pub rate: f64,
+    pub bracket: Bracket,
+    pub below: u64,
+    pub above: u64,
+}
+
+pub enum Swaption {
+    Served(f64, Root),
+    Refused(Refusal),
+}
+
+// One coupon's bond put, struck at the bond's price at the critical rate.
+fn put(sigma: f64, deviation: f64, p_t: f64, rate: f64, a: f64, b: f64, p: f64) -> f64
+    ensures { λ r. ⌜ r ≡ putOf sigma deviation «p_t» rate a b p ⌝ }
+{
+    let strike = formulas::zcb_of(a, b, rate);
+    formulas::bond_put_of(formulas::volatility_at(sigma, b, deviation), strike, p_t, p)
+}
+
+// The coupons' puts, each times its coefficient, fused. `price_at` has the lists of one length.
+fn puts(
+    sigma: f64,
+    deviation: f64,
+    p_t: f64,
+    rate: f64,
+    c: &[f64],
+    a: &[f64],
+    b: &[f64],
+    p: &[f64],
+) -> f64
+    requires { ⌜ (length (now a) ≡ length (now c)) × (length (now b) ≡ length (now c)) × (length (now p) ≡ length (now c)) ⌝ }
+    ensures { λ r. ⌜ r ≡ putsOf sigma deviation «p_t» rate (now (c .entry)) (now (a .entry)) (now (b .entry)) (now (p .entry)) ⌝ }
+{
+    let mut total = 0.0;
+    let mut i = 0;
+    while i < c.len() {
+        let price = put(sigma, deviation, p_t, rate, a[i], b[i], p[i]);
+        total = ieee::fused(c[i], price, total);
+        i += 1;
+    }
+    total
+}
+
+// The price at a sigma: A and the weights a coupon, the search, then the puts. `decay` and `deviation`
+// are those of the option time, p_t its factor; c, b, drift and p are the terms' coefficients, B,
+// drifts and factors. `terms_priced`, and `objectives::model_price` of a fit, have them of one length of at
+// most 64.
+pub fn price_at(
+    alpha: f64,
+    sigma: f64,
+    decay: f64,
+    deviation: f64,
+    p_t: f64,
+    c: &[f64],
+    b: &[f64],
+    drift: &[f64],
+    p: &[f64],
+) -> Swaption
+    requires { ⌜ (length (now c) ≤ 64) × (length (now b) ≡ length (now c)) × (length (now drift) ≡ length (now c)) × (length (now p) ≡ length (now c)) ⌝ }
+    ensures { λ r. ⌜ swaptionOutcome r ≡ priceAt alpha sigma decay deviation «p_t» (now (c .entry)) (now (b .entry)) (now (drift .entry)) (now (p .entry)) ⌝ }
+{
+    let n = c.len();
+    let mut a = [0.0; 64];
+    terms::affines(alpha, sigma, decay, b, drift, &mut a[..n]);
+    let mut w = [0.0; 64];
+    terms::weights(c, &a[..n], &mut w[..n]);
+    let found = search::critical_rate(&w[..n], b);
+    if let Critical::NotANumber = found {
+        return Swaption::Refused(Refusal::NanReached);
+    }
+    let Critical::Found {
+        bracket,
+        below,
+        above,
+        rate,
+    } = found
+    else {
+        return Swaption::Refused(Refusal::NoBracket);
+    };
+    let value = puts(sigma, deviation, p_t, rate, c, &a[..n], b, p);
+    Swaption::Served(
+        value,
+        Root {
+            rate,
+            bracket,
+            below,
+            above,
+        },
+    )
+}

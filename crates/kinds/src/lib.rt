@@ -1,0 +1,6 @@
+// A job of kinds 1 to 11: which call it is, on which of the job's fields, and what is told of its outcome.
+mod kinds;
+mod told;
+
+pub use kinds::told_of;
+pub use told::Told;

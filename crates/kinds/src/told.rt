@@ -1,0 +1,86 @@
+// What is told of a job: document 01's number, the value or +0, and the note.
+ghost use mathlib.Core.Path.{_≡_};
+ghost use Rattle.lists.specs.Refusals.{refused, outcomeOf};
+ghost use Rattle.jamshidian.specs.Price.{swaptionOutcome};
+ghost use Rattle.valuations.specs.Value.{valuationOutcome};
+ghost use Rattle.bisection.specs.Result.{fittedOutcome};
+ghost use Rattle.kinds.specs.Told.{toldPrice, modelValue, pricerValue, toldFit, noteOf};
+use bisection::Fit;
+use bisection::Fitted;
+use jamshidian::Swaption;
+use lists::Price;
+use lists::Refusal;
+use valuations::Valuation;
+
+pub struct Told {
+    pub answer: u64,
+    pub value: f64,
+    pub note: u64,
+}
+
+fn plain(value: f64) -> Told
+    ensures { λ r. ⌜ r ≡ record { answer = 0; value = value; note = 0 } ⌝ }
+{
+    Told {
+        answer: 0,
+        value,
+        note: 0,
+    }
+}
+
+fn turned_down(refusal: Refusal) -> Told
+    ensures { λ r. ⌜ r ≡ toldPrice (refused refusal) ⌝ }
+{
+    Told {
+        answer: lists::number(refusal),
+        value: 0.0,
+        note: 0,
+    }
+}
+
+pub fn price(p: Price) -> Told
+    ensures { λ r. ⌜ r ≡ toldPrice (outcomeOf p) ⌝ }
+{
+    match p {
+        Price::Served(value) => plain(value),
+        Price::Refused(refusal) => turned_down(refusal),
+    }
+}
+
+pub fn swaption(s: Swaption) -> Told
+    ensures { λ r. ⌜ r ≡ toldPrice (modelValue (swaptionOutcome s)) ⌝ }
+{
+    match s {
+        Swaption::Served(value, _) => plain(value),
+        Swaption::Refused(refusal) => turned_down(refusal),
+    }
+}
+
+pub fn valuation(v: Valuation) -> Told
+    ensures { λ r. ⌜ r ≡ toldPrice (pricerValue (valuationOutcome v)) ⌝ }
+{
+    match v {
+        Valuation::Served { value, .. } => plain(value),
+        Valuation::Refused(refusal) => turned_down(refusal),
+    }
+}
+
+// The halving that converged, or 0.
+fn note_of(fit: Fit) -> u64
+    ensures { λ r. ⌜ r ≡ noteOf fit ⌝ }
+{
+    if fit.converged { fit.halvings } else { 0 }
+}
+
+pub fn fitted(f: Fitted) -> Told
+    ensures { λ r. ⌜ r ≡ toldFit (fittedOutcome f) ⌝ }
+{
+    match f {
+        Fitted::Served(fit) => Told {
+            answer: 0,
+            value: fit.sigma,
+            note: note_of(fit),
+        },
+        Fitted::Refused(refusal) => turned_down(refusal),
+    }
+}

@@ -1,0 +1,3 @@
+-- What the functions' proofs cite.
+pub mod Opening
+pub mod Fixing

@@ -1,0 +1,2 @@
+-- What the contracts of a valuation say.
+pub mod Value

@@ -1,0 +1,6 @@
+// closedformhullwhiteswaptionpricer.rs behind the rules of its call: payer and receiver swaptions by Jamshidian's
+// decomposition, the DualFwd pricer by its values. `pricers` has the call.
+mod value;
+
+pub use value::Valuation;
+pub use value::pricer_priced;

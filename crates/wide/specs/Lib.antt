@@ -1,0 +1,2 @@
+-- What the contracts of `wide` say.
+pub mod Words
