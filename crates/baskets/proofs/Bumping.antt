@@ -12,7 +12,6 @@ use Rattle.ieee.specs.Rounded.{_⊕_}
 use Rattle.lists.specs.declared.refusals.Refusal.{Refusal}
 use Rattle.lists.specs.declared.refusals.Refusal.the-variants as R
 use Rattle.lists.specs.Refusals.{Outcome, served, refused, following}
-use Rattle.lists.proofs.Walks.{next}
 use Rattle.bisection.specs.declared.result.Fit.{Fit}
 use Rattle.bisection.specs.declared.result.Fitted.{Fitted}
 use Rattle.bisection.specs.declared.result.Fitted.the-variants as F
@@ -23,7 +22,7 @@ use Rattle.entries.specs.Entries.{quoteOf, entriesOf}
 use Rattle.entries.proofs.Walks.{from, entryAt, next-entry, no-entries}
 use Rattle.baskets.specs.Basket.{diagonalOf, statusOf, Bumps, bumpOf, withBump, bumpsOf}
 use Rattle.baskets.proofs.Literals.{bump-is}
-use Rattle.baskets.proofs.Walks.{longer}
+use Rattle.lists.proofs.Walks.{next, longer}
 
 -- ---- one entry's bumped fit
 module _ (alpha : Float) (xs fs : List Float) (strike t S vol sigma : Float) (n : Bool) {quote : Quote} (q : quote ≡ quoteOf n) (fitted : Fitted) (h : fittedOutcome fitted ≡ capletFitted quote alpha xs fs strike t S (vol ⊕ ofBits binary64 0x3eb0_c6f7_a0b5_ed8d)) where

@@ -1,6 +1,5 @@
--- What the functions' proofs cite: the literals, a list one value longer, one entry's fit, the fits and the bumped fits so far, the lent lists, how a basket comes out, and demand 3.
+-- What the functions' proofs cite: the literals, one entry's fit, the fits and the bumped fits so far, the lent lists, how a basket comes out, and demand 3.
 pub mod Literals
-pub mod Walks
 pub mod Held
 pub mod Fitting
 pub mod Bumping

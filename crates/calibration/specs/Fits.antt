@@ -1,5 +1,5 @@
 -- Kinds 8 to 11: a fit of one volatility to a quote, on a curve of times ts and factors fs. Caplets: strike, start, end, quoted volatility. Swaptions: strike, option time, quoted volatility, over coupons of payment times and accruals.
-use mathlib.Core.Bool.{Bool, true, false, not, _&&_, _||_}
+use mathlib.Core.Bool.{Bool, false, not, _&&_, _||_}
 use mathlib.Core.List.{List, [], _∷_}
 use lib.Dec.{eqb}
 use lib.ListN.{length}

@@ -49,7 +49,8 @@ fn write_late(function: u64) {
         18 => io::write_all(1, b"d1_d2"),
         19 => io::write_all(1, b"pillars_reached"),
         20 => io::write_all(1, b"transition_variances"),
-        _ => io::write_all(1, b"generate"),
+        21 => io::write_all(1, b"generate"),
+        _ => io::write_all(1, b"malformed"),
     }
     ;
 }

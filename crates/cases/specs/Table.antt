@@ -52,7 +52,7 @@ pub data Call : Type 0 where
   critical : List Float → List Float → List Float → Call
   newton : Float → List Float → List Float → List Float → Call
 
--- What the definitions answer; each public function is proved equal to its definition. A search is given weights, coefficient × A: `weights-ahead` of specs/Sum.antt of `search` makes their sum this one. The Newton step is part of `swaption_value`.
+-- What the definitions answer; each public function is proved equal to its definition. A search is given weights, coefficient × A: `weights-ahead` of specs/Sum.antt of `coupons` makes their sum this one. The Newton step is part of `swaption_value`.
 abbrev pub answer : Call → Outcome Float
 answer (N x) = served (normCdfOf x)
 answer (N-dual x) = served (normCdfDualOf x)

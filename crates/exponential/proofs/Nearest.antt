@@ -3,16 +3,16 @@ use mathlib.Core.Path.{_≡_, refl, sym, ap, _∙_}
 use mathlib.Core.Bool.{Bool, true, false, cond, true≢false, false≢true}
 use Prim.Native.Nat.{ℕ, zero, suc, _+_, _-_, _*_, _/_, _^_, _<_, _≤_}
 use native.Mathlib.Omega.{arith}
-use native.Mathlib.Nat.{le-trans, le-of-eq, lt-of-le-of-lt, lt-of-not-le, not-le-of-lt, le-of-suc-le-suc, mul-pos, mul-one, one-mul, pow-suc, mul-assoc, mul-comm, mul-left-comm, mul-right-comm, mul-le-mul-right, div-div-eq-div-mul, add-div-right, div-le-of-le-mul, min-eq-left, le-of-mul-le-mul-right}
+use native.Mathlib.Nat.{le-trans, le-of-eq, lt-of-le-of-lt, mul-pos, mul-one, one-mul, pow-suc, mul-assoc, mul-comm, mul-left-comm, mul-right-comm, mul-le-mul-right, div-div-eq-div-mul, add-div-right, div-le-of-le-mul, min-eq-left, le-of-mul-le-mul-right}
 use borrow.Author.Tests.{le-leb}
-use lib.Dec.{T, ltb, leb→le, ltb→lt, lt→ltb, eqb→eq, lit<, lit≤}
+use lib.Dec.{T, ltb, leb→le, lt→ltb, lit<}
 use lib.Pow.{pow-add, pow-lt}
 use lib.IntN.{ℤ, pos, negsuc, negℤ, _+ℤ_, _-ℤ_}
 use lib.Signed.{quotZ, leZ, mag}
 use lib.Ieee.{Float, nan, inf, fin, binary64, up, down, round, mul, lt, le, eq, fits, ofBits, toSigned}
 use lib.Ieee.Exact.{HasValue, round-exact}
 use lib.Ieee.Nearest.{div-same}
-use lib.Ieee.Fits.{and-l, and-r, down-pos}
+use lib.Ieee.Fits.{down-pos}
 use Rattle.exponential.specs.Exp.{moderate, nearestWhole}
 use Rattle.elementary.proofs.AtMost.{or-l}
 use Rattle.elementary.proofs.Fitting.{pow-inj, fits-digits, fits-low}

@@ -1,4 +1,3 @@
 -- What the functions' proofs cite.
 pub mod Puts
-pub mod Lending
 pub mod Pricing

@@ -55,7 +55,7 @@ fn puts(
 
 // The price at a sigma: A and the weights a coupon, the search, then the puts. `decay` and `deviation`
 // are those of the option time, p_t its factor; c, b, drift and p are the terms' coefficients, B,
-// drifts and factors. `terms_priced`, and `objectives::model_price` of a fit, have them of one length of at
+// drifts and factors. `swaptions::terms_priced`, and `objectives::model_price` of a fit, have them of one length of at
 // most 64.
 pub fn price_at(
     alpha: f64,

@@ -217,7 +217,7 @@ fn fit_told(
     ))
 }
 
-// A job of kinds 1 to 11. `job_lines` is given the curve's faults.
+// A job of kinds 1 to 11. `runfile::job_lines` is given the curve's faults.
 pub fn told_of(
     curve: Faults,
     alpha: f64,

@@ -67,15 +67,3 @@ module _ (file : List ℕ) (l : Layout) (e : layoutOf file ≡ Parts l) where
 
   pub kept : Kept file l
   kept = kept-parts file l (ap (keeps file) (sym parts-are) ∙ picked .0)
-
--- each of n jobs has a kind from 1 to 12
-pub kind-known : (file : List ℕ) (n at i : ℕ) → allKnown file at n ≡ true → i < n → (1 ≤ eightBytes file (at + 40 * i)) × (eightBytes file (at + 40 * i) ≤ 12)
-unfolding allKnown
-kind-known file zero at i e h = absurd (let z : ⊥ = omega arith in z)
-kind-known file (suc n) at zero e h =
-    let k = both (leb 1 (eightBytes file at)) (leb (eightBytes file at) 12) (both (known (eightBytes file at)) (allKnown file (at + 40) n) e .0) in
-    let z : at + 40 * 0 ≡ at = omega arith in
-    rw z (leb-true _ _ (k .0), leb-true _ _ (k .1))
-kind-known file (suc n) at (suc i) e h =
-    let z : at + 40 * suc i ≡ at + 40 + 40 * i = omega arith in
-    rw z (kind-known file n (at + 40) i (both (known (eightBytes file at)) (allKnown file (at + 40) n) e .1) (omega arith))

@@ -24,7 +24,8 @@ pub fn float_of(b: u64) -> f64
 }
 
 // The u64 at place `at`. Its eight bytes are there: of a float in `float_at`, of a job in `all_known` and
-// `job_at`, of a record in `parsed` of `vectors` and of `calls`, of a store of numbers in `calls::load`.
+// `job_at`, of a record in `vectors::parsed`, `calls::parsed` and `calls::read_numbers`, of a store of numbers in
+// `calls::load`.
 pub fn word(s: &[u8], at: usize) -> u64
     requires { ⌜ at + 8 ≤ length (now s) ⌝ }
     ensures { λ r. ⌜ r ≡ eightBytes (now (s .entry)) at ⌝ }
@@ -33,7 +34,7 @@ pub fn word(s: &[u8], at: usize) -> u64
 }
 
 // The u32 at place `at`. Its four bytes are there: of a u64 in `word`, of a pair in `pair`, of a record in
-// `calls::parsed`, of a list that is long enough in `basket_vectors::next` and `main` of `rounds`.
+// `calls::parsed` and `calls::read_lists`, of a list that is long enough in `basket_vectors::next` and `main` of `rounds`.
 pub fn half(s: &[u8], at: usize) -> u64
     requires { ⌜ at + 4 ≤ length (now s) ⌝ }
     ensures { λ r. ⌜ r < 0x1_0000_0000 ⌝ }

@@ -1,2 +1,2 @@
--- The laws that the proofs of `lines` share.
+-- What the proofs of `lines` cite, and the whole case worked.
 pub mod Worked

@@ -1,6 +1,8 @@
--- What the functions' proofs cite, and the laws for callers.
+-- What the functions' proofs cite, and the laws for callers: walks along a list, a list written whole, the front of a list lent and handed back.
 pub mod Walks
 pub mod Outcomes
 pub mod CurveLaws
 pub mod Order
 pub mod Refusing
+pub mod Filling
+pub mod Lending

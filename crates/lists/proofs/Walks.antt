@@ -1,20 +1,23 @@
 -- One turn and the end of a walk along a list: what each definition of specs/ says of the list from place i on.
 use mathlib.Core.Path.{_≡_, refl}
 use mathlib.Core.Bool.{Bool, true, false}
-use mathlib.Core.List.{List, [], _∷_}
+use mathlib.Core.List.{List, [], _∷_, _++_}
 use Prim.Native.Nat.{ℕ, zero, suc, _+_, _≤_, _<_}
 use native.Mathlib.Omega.{arith}
 use native.Mathlib.Nat.{not-suc-le-zero, le-of-suc-le-suc}
 use native.Mathlib.Numerals.{add-one}
-use lib.ListN.{length, getD, drop}
-use lib.Seq.{drop-cons}
+use lib.ListN.{length, getD, drop, take, set}
+use lib.Seq.{drop-cons, append-snoc, take-suc-set}
 use lib.Ieee.{Float, nan}
 use Rattle.lists.specs.declared.checks.Test.{Test}
 use Rattle.lists.specs.Checks.{passesOf, allOf, stepOf, inOrderFrom, inOrder}
 
--- ---- the list from place i on
+-- ---- the list from place i on, and the list up to place i once there is a value at i
 pub next : (xs : List Float) (i : ℕ) → i < length xs → drop i xs ≡ getD xs i nan ∷ drop (i + 1) xs
 next xs i h = rw (add-one, drop-cons xs i nan)
+
+pub longer : (out : List Float) (i : ℕ) (v : Float) (rest : List Float) → i < length out → take i out ++ v ∷ rest ≡ take (i + 1) (set out i v) ++ rest
+longer out i v rest h = rw (add-one, take-suc-set, append-snoc)
 
 pub done : (xs : List Float) (i : ℕ) → length xs ≤ i → drop i xs ≡ []
 done [] zero h = refl

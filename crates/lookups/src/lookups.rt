@@ -21,7 +21,7 @@ pub struct Spot {
 // strictly rise: behind rule 4 this is handed on by `options::bond_option_priced`,
 // `options::optionlet_priced`, `models::a_priced`, `models::zcb_priced`, `models::forward_priced`,
 // `models::theta_priced`, `models::theta_from`, `quotes::annuity_priced`, `terms::fetch`,
-// `swaptions::model_priced`, `valuations::pricer_priced`, `calibration::caplet_fitted` and
+// `swaptions::model_priced`, `valuations::swaption_priced`, `calibration::caplet_fitted` and
 // `calibration::swaption_fitted`.
 pub fn factor(times: &[f64], factors: &[f64], t: f64) -> Found
     requires { ⌜ inOrder true (now times) ≡ true ⌝ }
@@ -146,7 +146,7 @@ pub fn volatility(times: &[f64], sigmas: &[f64], t: f64) -> Found
     Found::At(best)
 }
 
-// The same on rising times, of which `hint` are likely to be at or before t. `paths::walk_points` hands on
+// The same on rising times, of which `hint` are likely to be at or before t. `walks::walk_points` hands on
 // that they rise.
 pub fn volatility_near(times: &[f64], sigmas: &[f64], hint: usize, t: f64) -> Spot
     requires { ⌜ inOrder true (now times) ≡ true ⌝ }

@@ -28,7 +28,7 @@ use Rattle.closedform.specs.declared.bond_option.SwaptionType.{SwaptionType}
 use Rattle.closedform.specs.Affine.{deviationOf, affinesOf}
 use Rattle.closedform.specs.Newton.{flatLimit, sumsOf, stepped}
 use Rattle.closedform.specs.Components.{componentsOf}
-use Rattle.valuations.specs.Value.{Valued, finishingValuation, pricedBy, pricerPriced}
+use Rattle.valuations.specs.Value.{Valued, finishingValuation, pricedBy, swaptionPriced}
 use Rattle.pricers.specs.Pricer.{rulesOn, pricerOutcome}
 use Rattle.pricers.specs.Demand3.{sumOf}
 
@@ -96,13 +96,13 @@ module _ (option : SwaptionType) (alpha : Float) (pls ss ts fs payments accruals
   -- ---- of any answer whose outcome is the one defined: `Rooted` and `RefusedSo`
   module _ {o : Outcome Valued} (is : o ≡ pricerOutcome option alpha pls ss ts fs payments accruals owns strike t notional side) where
     pub rooted : (v : Valued) → o ≡ served v → RootFound (rulesOn alpha pls ss ts fs payments accruals owns strike t notional side) ts fs payments t (sumOf alpha pls ss t payments accruals strike) (v .root)
-    unfolding pricerOutcome pricerPriced on
+    unfolding pricerOutcome swaptionPriced on
     rooted v e =
         let s = searches (rulesOn alpha pls ss ts fs payments accruals owns strike t notional side) ts fs payments t on tt (served v) tt (sym is ∙ e) in
         record { begun = s .begun; located = located _ _ _ _ _ _ _ _ _ _ v (s .goes-on) }
 
     pub refused-so : (o ≡ refused R.NoBracket) ↔ WantsBracket (rulesOn alpha pls ss ts fs payments accruals owns strike t notional side) ts fs payments t (sumOf alpha pls ss t payments accruals strike)
-    unfolding pricerOutcome pricerPriced on
+    unfolding pricerOutcome swaptionPriced on
     refused-so = (
       λ e. let s = searches (rulesOn alpha pls ss ts fs payments accruals owns strike t notional side) ts fs payments t on tt (refused R.NoBracket) tt (sym is ∙ e) in
           record { begun = s .begun; unbracketed = unbracketed _ _ _ _ _ _ _ _ _ _ (s .goes-on) },

@@ -18,7 +18,7 @@ use Rattle.lists.specs.Faults.{curveFaults, pillarFaults, couponFaults}
 use Rattle.lists.proofs.Outcomes.{neither}
 use Rattle.lists.proofs.CurveLaws.{curve-rises}
 use Rattle.closedform.specs.declared.bond_option.SwaptionType.{SwaptionType}
-use Rattle.valuations.specs.Value.{pricerPriced}
+use Rattle.valuations.specs.Value.{swaptionPriced}
 use Rattle.pricers.specs.Pricer.{pricerRules, rulesOn, pricerOutcome}
 
 -- ---- the rules do not ask where the faults and tests come from
@@ -35,7 +35,7 @@ module _ (option : SwaptionType) (alpha : Float) (pls ss ts fs payments accruals
   unfolding pricerOutcome
   turned-down e = rw (← r, e)
 
-  pub let-through : answer ≡ A.Served → pricerPriced option alpha pls ss ts fs payments accruals owns strike t notional side ≡ pricerOutcome option alpha pls ss ts fs payments accruals owns strike t notional side
+  pub let-through : answer ≡ A.Served → swaptionPriced option alpha pls ss ts fs payments accruals owns strike t notional side ≡ pricerOutcome option alpha pls ss ts fs payments accruals owns strike t notional side
   unfolding pricerOutcome
   let-through e = rw (← r, e)
 

@@ -13,7 +13,7 @@ use Rattle.lists.specs.Refusals.{Outcome, Rule, rule, unless}
 use Rattle.lists.specs.Checks.{allOf}
 use Rattle.lists.specs.Faults.{curveFaults, pillarFaults, couponFaults}
 use Rattle.closedform.specs.declared.bond_option.SwaptionType.{SwaptionType}
-use Rattle.valuations.specs.Value.{Valued, pricerPriced}
+use Rattle.valuations.specs.Value.{Valued, swaptionPriced}
 
 -- ---- rules 1 to 7, a line a rule
 
@@ -43,4 +43,4 @@ rulesOn alpha pls ss ts fs payments accruals owns strike t notional side =
 
 unfoldable pub pricerOutcome : SwaptionType → Float → List Float → List Float → List Float → List Float → List Float → List Float → List Float → Float → Float → Float → Float → Outcome Valued
 pricerOutcome option alpha pls ss ts fs payments accruals owns strike t notional side =
-    unless (rulesOn alpha pls ss ts fs payments accruals owns strike t notional side) (pricerPriced option alpha pls ss ts fs payments accruals owns strike t notional side)
+    unless (rulesOn alpha pls ss ts fs payments accruals owns strike t notional side) (swaptionPriced option alpha pls ss ts fs payments accruals owns strike t notional side)

@@ -5,3 +5,4 @@ mod pricer;
 pub use closedform::SwaptionType;
 pub use pricer::swaption_value;
 pub use pricer::swaption_value_on;
+pub use valuations::Valuation;

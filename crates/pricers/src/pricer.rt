@@ -97,7 +97,7 @@ pub fn swaption_value_on(
     if let Answer::Refused(refusal) = answer {
         return Valuation::Refused(refusal);
     }
-    valuations::pricer_priced(
+    valuations::swaption_priced(
         option,
         alpha,
         pillars,

@@ -12,7 +12,7 @@ use Rattle.lists.specs.declared.refusals.Answer.{Answer}
 use Rattle.lists.specs.declared.refusals.Answer.the-variants as A
 use Rattle.lists.specs.Refusals.{Outcome, served, refused, answerOf, numberOf}
 use Rattle.transitions.specs.Written.{storedOf}
-use Rattle.transitions.proofs.Lent.{lent-is}
+use Rattle.lists.proofs.Lending.{lent-is}
 use Rattle.layout.specs.declared.parts.Layout.{Layout}
 use Rattle.layout.specs.declared.parts.Laid.the-variants.{Parts}
 use Rattle.layout.specs.declared.records.Job.{Job}

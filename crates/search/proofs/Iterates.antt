@@ -35,12 +35,6 @@ module _ {S : Type 0} (step : S → S) where
   iterate-swap zero n s = refl
   iterate-swap (suc m) n s = iterate-swap m n (step s) ∙ ap (λ (x : S). iterate step m x) (iterate-step n s)
 
-  -- where a step changes nothing, no number of steps does
-  pub iterate-still : (n : ℕ) (s : S) → step s ≡ s → iterate step n s ≡ s
-  unfolding iterate
-  iterate-still zero s e = refl
-  iterate-still (suc n) s e = ap (λ (x : S). iterate step n x) e ∙ iterate-still n s e
-
   -- what a step keeps, n steps keep
   pub iterate-keeps : (P : S → Type 0) → ((s : S) → P s → P (step s)) → (n : ℕ) (s : S) → P s → P (iterate step n s)
   unfolding iterate

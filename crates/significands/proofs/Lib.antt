@@ -1,4 +1,4 @@
--- The laws that the proofs of `significands` and `ieee` cite; each file opens with what it states.
+-- The laws that the proofs of `significands`, `ieee` and `steps` cite; each file opens with what it states.
 pub mod Rounding
 pub mod Packing
 pub mod Unpacking

@@ -20,16 +20,11 @@ use Rattle.lists.specs.Faults.{curveFaults, couponFaults}
 use Rattle.lists.proofs.Outcomes.{neither}
 use Rattle.lists.proofs.CurveLaws.{curve-rises}
 use Rattle.formulas.specs.HullWhite.{forwardOf, decayOf, deviationOf}
-use Rattle.search.specs.declared.Critical.{Critical}
-use Rattle.coupons.specs.Sum.{weightsOf, weightedSum}
-use Rattle.search.specs.Values.{criticalOutcome}
-use Rattle.search.specs.Facts.{Searched}
-use Rattle.search.proofs.Answers.{priced}
-use Rattle.terms.specs.Terms.{coefficientsOf, bsOf, driftsOf, affinesOf}
+use Rattle.terms.specs.Terms.{coefficientsOf, bsOf, driftsOf}
 use Rattle.jamshidian.specs.declared.price.Swaption.{Swaption}
 use Rattle.jamshidian.specs.declared.price.Swaption.the-variants as S
 use Rattle.jamshidian.specs.declared.price.Root.{Root}
-use Rattle.jamshidian.specs.Price.{Valued, swaptionOutcome, noValued, putsOf, priceAt, finishingSwaption}
+use Rattle.jamshidian.specs.Price.{Valued, swaptionOutcome, noValued, priceAt, finishingSwaption}
 use Rattle.swaptions.specs.Model.{modelRules, rulesOn, termsPriced, modelPriced, modelOutcome}
 
 -- ---- the rules do not ask where the faults come from

@@ -16,7 +16,7 @@ fn coefficient(last: bool, accrual: f64, strike: f64) -> f64
     }
 }
 
-// The coefficients of the coupons. `swaptions::terms_priced`, `valuations::pricer_priced` and
+// The coefficients of the coupons. `swaptions::terms_priced`, `valuations::swaption_priced` and
 // `calibration::swaption_worked` lend a place for each.
 pub fn coefficients(strike: f64, accruals: &[f64], out: &mut [f64])
     requires { ⌜ length (now out) ≡ length (now accruals) ⌝ }
@@ -30,7 +30,7 @@ pub fn coefficients(strike: f64, accruals: &[f64], out: &mut [f64])
 }
 
 // B from t to each payment time. The same three lend a place for each: `swaptions::terms_priced`,
-// `valuations::pricer_priced` and `calibration::swaption_worked`.
+// `valuations::swaption_priced` and `calibration::swaption_worked`.
 pub fn bs(alpha: f64, t: f64, payments: &[f64], out: &mut [f64])
     requires { ⌜ length (now out) ≡ length (now payments) ⌝ }
     ensures { λ _. ⌜ now (out .exit) ≡ bsOf alpha t (now (payments .entry)) ⌝ }

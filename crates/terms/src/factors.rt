@@ -10,7 +10,7 @@ use lists::Refusal;
 use lookups::Found;
 
 // Fetches the factor at every payment time, or says why one is not there. `swaptions::model_priced`,
-// `valuations::pricer_priced` and `calibration::swaption_fitted` lend a place for each, and hand on that the
+// `valuations::swaption_priced` and `calibration::swaption_fitted` lend a place for each, and hand on that the
 // curve's times strictly rise. Beside a refusal the list holds what was fetched before it.
 pub fn fetch(times: &[f64], factors: &[f64], payments: &[f64], out: &mut [f64]) -> Answer
     requires { ⌜ (length (now out) ≡ length (now payments)) × (inOrder true (now times) ≡ true) ⌝ }

@@ -1,4 +1,3 @@
--- What the functions' proofs cite, and, in Lent and the first laws of Walks, what others that write a list cite too.
+-- What the functions' proofs cite.
 pub mod Walks
 pub mod Outcomes
-pub mod Lent

@@ -1,20 +1,14 @@
--- One turn and the end of each walk along a list: the values stored, and the variances. The first two laws serve any walk that writes a list place by place, as a path's does. Assumes nothing.
+-- One turn and the end of each walk along a list: the values stored, and the variances. Assumes nothing.
 use mathlib.Core.Path.{_≡_, sym, _∙_}
-use mathlib.Core.List.{List, _∷_, _++_, append-nil}
+use mathlib.Core.List.{List, _++_, append-nil}
 use Prim.Native.Nat.{ℕ, suc, _+_, _-_, _≤_, _<_}
 use native.Mathlib.Numerals.{add-one}
 use native.Mathlib.Omega.{arith}
 use lib.ListN.{length, getD, drop, take, set, length-take}
-use lib.Seq.{append-snoc, drop-cons, set-at, take-all, take-length, take-suc, take-suc-set}
+use lib.Seq.{append-snoc, set-at, take-all, take-length, take-suc}
 use lib.Ieee.{Float, nan}
+use Rattle.lists.proofs.Walks.{next, longer}
 use Rattle.transitions.specs.Transition.{stepVariance, variancesOf}
-
--- ---- the list from place i on, and the list up to place i once there is a value at i
-pub next : (xs : List Float) (i : ℕ) → i < length xs → drop i xs ≡ getD xs i nan ∷ drop (i + 1) xs
-next xs i h = rw (add-one, drop-cons xs i nan)
-
-pub longer : (out : List Float) (i : ℕ) (v : Float) (rest : List Float) → i < length out → take i out ++ v ∷ rest ≡ take (i + 1) (set out i v) ++ rest
-longer out i v rest h = rw (add-one, take-suc-set, append-snoc)
 
 -- ---- the values over the front of the output
 pub store-turn : (xs out₀ out : List Float) (i : ℕ) → i < length xs → i < length out₀ → out ≡ take i xs ++ drop i out₀

@@ -27,7 +27,7 @@ use Rattle.closedform.specs.declared.bond_option.SwaptionType.{SwaptionType}
 use Rattle.closedform.specs.Affine.{deviationOf, affinesOf}
 use Rattle.closedform.specs.Newton.{sumsOf, stepped}
 use Rattle.closedform.specs.Components.{componentsOf}
-use Rattle.valuations.specs.Value.{Valued, finishingValuation, pricedBy, pricerPriced}
+use Rattle.valuations.specs.Value.{Valued, finishingValuation, pricedBy, swaptionPriced}
 use Rattle.valuations.proofs.Parts.{front}
 
 -- ---- the search
@@ -59,19 +59,19 @@ module _ (option : SwaptionType) (deviation pt : Float) (cs affs bs ps owns : Li
 
 -- ---- the lookups
 module _ (option : SwaptionType) (alpha : Float) (pls ss ts fs payments accruals owns : List Float) (strike t notional side : Float) where
-  pub off-option : factorAt ts fs t ≡ nothing → refused R.OffCurve ≡ pricerPriced option alpha pls ss ts fs payments accruals owns strike t notional side
-  unfolding pricerPriced
+  pub off-option : factorAt ts fs t ≡ nothing → refused R.OffCurve ≡ swaptionPriced option alpha pls ss ts fs payments accruals owns strike t notional side
+  unfolding swaptionPriced
   off-option e = rw e
 
   module _ {pt day : Float} where
-    pub off-day : factorAt ts fs t ≡ just pt → day ≡ h → factorAt ts fs (t ⊕ day) ≡ nothing → refused R.OffCurve ≡ pricerPriced option alpha pls ss ts fs payments accruals owns strike t notional side
-    unfolding pricerPriced
+    pub off-day : factorAt ts fs t ≡ just pt → day ≡ h → factorAt ts fs (t ⊕ day) ≡ nothing → refused R.OffCurve ≡ swaptionPriced option alpha pls ss ts fs payments accruals owns strike t notional side
+    unfolding swaptionPriced
     off-day e d f = rw (e, ← d, f)
 
     module _ {pPlus : Float} where
       pub off-payments : {q : Refusal} → factorAt ts fs t ≡ just pt → day ≡ h → factorAt ts fs (t ⊕ day) ≡ just pPlus → factorsAt ts fs payments ≡ refused q
-          → refused q ≡ pricerPriced option alpha pls ss ts fs payments accruals owns strike t notional side
-      unfolding pricerPriced
+          → refused q ≡ swaptionPriced option alpha pls ss ts fs payments accruals owns strike t notional side
+      unfolding swaptionPriced
       off-payments e d f g = rw (e, ← d, f, g)
 
       -- the terms as the code has them, each equal to what it is by specs/
@@ -80,6 +80,6 @@ module _ (option : SwaptionType) (alpha : Float) (pls ss ts fs payments accruals
           → cs ≡ coefficientsOf strike accruals → bs ≡ bsOf alpha t payments → variance ≡ varianceOf alpha pls ss zero t → forward ≡ forwardOf pt pPlus
           → affs ≡ affinesOf variance forward pt bs ps' → deviation ≡ deviationOf variance
           → o ≡ pricedBy option deviation pt cs affs bs ps' owns notional side
-          → o ≡ pricerPriced option alpha pls ss ts fs payments accruals owns strike t notional side
-      unfolding pricerPriced
+          → o ≡ swaptionPriced option alpha pls ss ts fs payments accruals owns strike t notional side
+      unfolding swaptionPriced
       on-curve e d f g p c b v w a m r = rw (e, ← d, f, g, ← p, ← c, ← b, ← v, ← w, ← a, ← m) r

@@ -51,8 +51,8 @@ pricedBy option deviation pt cs affs bs ps owns notional side =
     finishingValuation (record { value = componentsOf option (not (allOf Zero owns)) deviation pt s cs affs bs ps owns ⊗ notional ⊗ side; after-step = s; root = root })))
 
 -- the factors at t, t + h and the payment times; the variance of the state from 0 to t; the terms
-unfoldable pub pricerPriced : SwaptionType → Float → List Float → List Float → List Float → List Float → List Float → List Float → List Float → Float → Float → Float → Float → Outcome Valued
-pricerPriced option alpha pls ss ts fs payments accruals owns strike t notional side =
+unfoldable pub swaptionPriced : SwaptionType → Float → List Float → List Float → List Float → List Float → List Float → List Float → List Float → Float → Float → Float → Float → Outcome Valued
+swaptionPriced option alpha pls ss ts fs payments accruals owns strike t notional side =
     needing (factorAt ts fs t) (λ pt.
     needing (factorAt ts fs (t ⊕ h)) (λ pPlus.
     following (factorsAt ts fs payments) (λ ps.

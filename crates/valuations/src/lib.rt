@@ -3,4 +3,4 @@
 mod value;
 
 pub use value::Valuation;
-pub use value::pricer_priced;
+pub use value::swaption_priced;

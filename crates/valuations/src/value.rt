@@ -4,7 +4,7 @@ ghost use mathlib.Core.Bool.{true};
 ghost use Prim.Native.Nat.{_≤_};
 ghost use lib.ListN.{length};
 ghost use Rattle.lists.specs.Checks.{inOrder};
-ghost use Rattle.valuations.specs.Value.{valuationOutcome, pricedBy, pricerPriced, finishingValuation};
+ghost use Rattle.valuations.specs.Value.{valuationOutcome, pricedBy, swaptionPriced, finishingValuation};
 use closedform::Step;
 use closedform::SwaptionType;
 use lists::Answer;
@@ -29,7 +29,7 @@ pub enum Valuation {
 
 // The factors and the terms. `pricers::swaption_value_on` has asked the rules: the coupons' lists are of one length
 // of at most 64, and the curve's times strictly rise.
-pub fn pricer_priced(
+pub fn swaption_priced(
     option: SwaptionType,
     alpha: f64,
     pillars: &[f64],
@@ -45,7 +45,7 @@ pub fn pricer_priced(
     side: f64,
 ) -> Valuation
     requires { ⌜ (length (now payments) ≤ 64) × (length (now accruals) ≡ length (now payments)) × (length (now «own_dfs») ≡ length (now payments)) × (inOrder true (now times) ≡ true) ⌝ }
-    ensures { λ r. ⌜ valuationOutcome r ≡ pricerPriced option alpha (now (pillars .entry)) (now (sigmas .entry)) (now (times .entry)) (now (factors .entry)) (now (payments .entry)) (now (accruals .entry)) (now («own_dfs» .entry)) strike t notional side ⌝ }
+    ensures { λ r. ⌜ valuationOutcome r ≡ swaptionPriced option alpha (now (pillars .entry)) (now (sigmas .entry)) (now (times .entry)) (now (factors .entry)) (now (payments .entry)) (now (accruals .entry)) (now («own_dfs» .entry)) strike t notional side ⌝ }
 {
     let Found::At(p_t) = lookups::factor(times, factors, t) else {
         return Valuation::Refused(Refusal::OffCurve);
@@ -81,7 +81,7 @@ pub fn pricer_priced(
     )
 }
 
-// The search, the Newton step, the components. `pricer_priced` has the lists of one length of at most 64.
+// The search, the Newton step, the components. `swaption_priced` has the lists of one length of at most 64.
 fn priced_by(
     option: SwaptionType,
     deviation: f64,

@@ -1,20 +1,18 @@
 -- One turn and the end of each walk along a grid: the decays, and the points of a path. Assumes nothing.
 use mathlib.Core.Path.{_≡_, refl, sym, ap, _∙_}
-use mathlib.Core.Bool.{false}
 use mathlib.Core.List.{List, [], _∷_, _++_, append-nil}
 use Prim.Native.Nat.{ℕ, zero, suc, _+_, _≤_, _<_}
 use native.Mathlib.Numerals.{add-one}
 use native.Mathlib.Omega.{arith}
 use lib.ListN.{length, getD, drop, take, set, length-set, drop-of-length-le}
 use lib.Seq.{take-all}
-use lib.Ieee.{Float, nan, lt}
-use Rattle.ieee.specs.Numbers as Numbers
+use lib.Ieee.{Float, nan}
 use Rattle.ieee.specs.Rounded.{_⊕_}
 use Rattle.lists.specs.declared.refusals.Refusal.the-variants as R
 use Rattle.lists.specs.Refusals.{Outcome, served, refused, prepend}
 use Rattle.lookups.specs.Lookups.{Maybe, just, nothing, factorAt, needing, volatilityAt}
 use Rattle.formulas.specs.HullWhite.{h, forwardOf}
-use Rattle.transitions.proofs.Walks.{next, longer}
+use Rattle.lists.proofs.Walks.{next, longer}
 use Rattle.walks.specs.declared.walk.State.{State}
 use Rattle.walks.specs.Walk.{stepDecay, decaysFrom, forwardOfBoth, forwardAt}
 use Rattle.walks.specs.Path.{stateAfter, shiftOf, pathFrom}

@@ -5,7 +5,8 @@ use denote.Ref.{now}
 use lib.Ieee.{Float}
 use Rattle.entries.specs.Entries.{entriesOf}
 use Rattle.baskets.specs.Basket.{Records, Bumps}
-use Rattle.baskets.proofs.Lending.{lent-is, back-fits, back-is, values-are, padded-is}
+use Rattle.lists.proofs.Lending.{work, lent-is, back-fits, back-is, values-are}
+use Rattle.baskets.proofs.Lending.{padded-is}
 use Rattle.baskets.proofs.Outcomes.{counted, fits-refused, bumps-refused, basket-served}
 use borrow.Author.Needs.{needs}
 use Rattle.baskets.proofs.call.fitted_basket.Statement.{statement}
@@ -41,30 +42,30 @@ array-borrow-prefix-sigmas : tie.Need-array-borrow-prefix-sigmas
 array-borrow-prefix-sigmas c = search needs
 
 slice-aggregate-first-fits : tie.Need-slice-aggregate-first-fits
-slice-aggregate-first-fits c = lent-is _ (c .before .before .before .before .before .before .before .before .pre .0)
+slice-aggregate-first-fits c = lent-is work _ (c .before .before .before .before .before .before .before .before .pre .0)
 
 array-borrow-prefix-statuses : tie.Need-array-borrow-prefix-statuses
 array-borrow-prefix-statuses c = search needs
 
 slice-aggregate-first-fits-2 : tie.Need-slice-aggregate-first-fits-2
-slice-aggregate-first-fits-2 c = lent-is _ (c .before .before .before .before .before .before .before .before .before .pre .0)
+slice-aggregate-first-fits-2 c = lent-is work _ (c .before .before .before .before .before .before .before .before .before .pre .0)
 
 array-borrow-prefix-halvings : tie.Need-array-borrow-prefix-halvings
 array-borrow-prefix-halvings c = search needs
 
 slice-aggregate-first-fits-3 : tie.Need-slice-aggregate-first-fits-3
-slice-aggregate-first-fits-3 c = lent-is _ (c .before .before .before .before .before .before .before .before .before .before .pre .0)
+slice-aggregate-first-fits-3 c = lent-is work _ (c .before .before .before .before .before .before .before .before .before .before .pre .0)
 
 array-borrow-prefix-residuals : tie.Need-array-borrow-prefix-residuals
 array-borrow-prefix-residuals c = search needs
 
 slice-aggregate-first-fits-4 : tie.Need-slice-aggregate-first-fits-4
-slice-aggregate-first-fits-4 c = lent-is _ (c .before .before .before .before .before .before .before .before .before .before .before .pre .0)
+slice-aggregate-first-fits-4 c = lent-is work _ (c .before .before .before .before .before .before .before .before .before .before .before .pre .0)
 
 first-fits-requires : tie.Need-first-fits-requires
 first-fits-requires c κs =
     let p = c .before .before .before .before .before .before .before .before .before .before .before .pre in
-    let l = sym (lent-is _ (p .0)) in
+    let l = sym (lent-is work _ (p .0)) in
     (p .1, p .2, p .3, p .4, l, l, l, l, p .5)
 
 enum-known-fits : tie.Need-enum-known-fits
@@ -83,29 +84,29 @@ enum-told : tie.Need-enum-told
 enum-told c = search needs
 
 array-share-prefix-sigmas : tie.Need-array-share-prefix-sigmas
-array-share-prefix-sigmas c = let g = c .before .before .before .before .before .before in back-fits _ (c .before .before .before .before .before .before .before .before .before .before .before .before .before .before .before .before .before .before .pre .0) (ss-of g) (g .first-fits .kept .1 .1 .1 .1 .1 .1 .1 .1 .0)
+array-share-prefix-sigmas c = let g = c .before .before .before .before .before .before in back-fits work _ (c .before .before .before .before .before .before .before .before .before .before .before .before .before .before .before .before .before .before .pre .0) (ss-of g) (g .first-fits .kept .1 .1 .1 .1 .1 .1 .1 .1 .0)
 
 slice-aggregate-bumped-fits : tie.Need-slice-aggregate-bumped-fits
-slice-aggregate-bumped-fits c = let g = c .before .before .before .before .before .before .before in back-is _ (c .before .before .before .before .before .before .before .before .before .before .before .before .before .before .before .before .before .before .before .pre .0) (ss-of g) (g .first-fits .kept .1 .1 .1 .1 .1 .1 .1 .1 .0)
+slice-aggregate-bumped-fits c = let g = c .before .before .before .before .before .before .before in back-is work _ (c .before .before .before .before .before .before .before .before .before .before .before .before .before .before .before .before .before .before .before .pre .0) (ss-of g) (g .first-fits .kept .1 .1 .1 .1 .1 .1 .1 .1 .0)
 
 array-borrow-prefix-diagonal : tie.Need-array-borrow-prefix-diagonal
 array-borrow-prefix-diagonal c = search needs
 
 slice-aggregate-bumped-fits-2 : tie.Need-slice-aggregate-bumped-fits-2
-slice-aggregate-bumped-fits-2 c = lent-is _ (c .before .before .before .before .before .before .before .before .before .before .before .before .before .before .before .before .before .before .before .before .pre .0)
+slice-aggregate-bumped-fits-2 c = lent-is work _ (c .before .before .before .before .before .before .before .before .before .before .before .before .before .before .before .before .before .before .before .before .pre .0)
 
 array-borrow-prefix-bumped-statuses : tie.Need-array-borrow-prefix-bumped-statuses
 array-borrow-prefix-bumped-statuses c = search needs
 
 slice-aggregate-bumped-fits-3 : tie.Need-slice-aggregate-bumped-fits-3
-slice-aggregate-bumped-fits-3 c = lent-is _ (c .before .before .before .before .before .before .before .before .before .before .before .before .before .before .before .before .before .before .before .before .before .pre .0)
+slice-aggregate-bumped-fits-3 c = lent-is work _ (c .before .before .before .before .before .before .before .before .before .before .before .before .before .before .before .before .before .before .before .before .before .pre .0)
 
 bumped-fits-requires : tie.Need-bumped-fits-requires
 bumped-fits-requires c κs =
     let g = c .before .before .before .before .before .before .before .before .before in
     let p = c .before .before .before .before .before .before .before .before .before .before .before .before .before .before .before .before .before .before .before .before .before .pre in
-    let l = sym (lent-is _ (p .0)) in
-    (p .1, p .2, p .3, p .4, sym (back-is _ (p .0) (ss-of g) (g .first-fits .kept .1 .1 .1 .1 .1 .1 .1 .1 .0)), l, l, p .5)
+    let l = sym (lent-is work _ (p .0)) in
+    (p .1, p .2, p .3, p .4, sym (back-is work _ (p .0) (ss-of g) (g .first-fits .kept .1 .1 .1 .1 .1 .1 .1 .1 .0)), l, l, p .5)
 
 enum-known-bumps : tie.Need-enum-known-bumps
 enum-known-bumps c = search needs
@@ -119,7 +120,7 @@ returns-2 c =
     let g = c .before .before .before .before .before .before .before .before .before .before .before .before .before .before .before .before in
     let a = c .before .before .before .before .before .before .before .before .before .before .before .before .before .before .before .before .before .before .before .before .before .before .before .before .before .before .before .before .args in
     let p = c .before .before .before .before .before .before .before .before .before .before .before .before .before .before .before .before .before .before .before .before .before .before .before .before .before .before .before .before .pre in
-    bumps-refused (a .alpha) (now (a .times)) (now (a .factors)) (entriesOf (now (a .normals)) (now (a .strikes)) (now (a .starts)) (now (a .ends)) (now (a .vols))) (records g) (g .first-fits .ensures) (c .before .before .before .before .before .before .before .before .before .before .enum-told .given .1) (values-are _ (p .0) (ss-of g) (g .first-fits .kept .1 .1 .1 .1 .1 .1 .1 .1 .0)) (bumps u) (u .bumped-fits .ensures) (c .before .before .bumps .given .1) (c .turned-down2 .ensures)
+    bumps-refused (a .alpha) (now (a .times)) (now (a .factors)) (entriesOf (now (a .normals)) (now (a .strikes)) (now (a .starts)) (now (a .ends)) (now (a .vols))) (records g) (g .first-fits .ensures) (c .before .before .before .before .before .before .before .before .before .before .enum-told .given .1) (values-are work _ (p .0) (ss-of g) (g .first-fits .kept .1 .1 .1 .1 .1 .1 .1 .1 .0)) (bumps u) (u .bumped-fits .ensures) (c .before .before .bumps .given .1) (c .turned-down2 .ensures)
 
 enum-told-2 : tie.Need-enum-told-2
 enum-told-2 c = search needs
@@ -130,7 +131,7 @@ returns-3 c =
     let g = c .before .before .before .before .before .before .before .before .before .before .before .before .before .before in
     let a = c .before .before .before .before .before .before .before .before .before .before .before .before .before .before .before .before .before .before .before .before .before .before .before .before .before .before .args in
     let p = c .before .before .before .before .before .before .before .before .before .before .before .before .before .before .before .before .before .before .before .before .before .before .before .before .before .before .pre in
-    basket-served (a .alpha) (now (a .times)) (now (a .factors)) (entriesOf (now (a .normals)) (now (a .strikes)) (now (a .starts)) (now (a .ends)) (now (a .vols))) (records g) (g .first-fits .ensures) (c .before .before .before .before .before .before .before .before .enum-told .given .1) (values-are _ (p .0) (ss-of g) (g .first-fits .kept .1 .1 .1 .1 .1 .1 .1 .1 .0)) (bumps u) (u .bumped-fits .ensures) (c .enum-told2 .given .1)
+    basket-served (a .alpha) (now (a .times)) (now (a .factors)) (entriesOf (now (a .normals)) (now (a .strikes)) (now (a .starts)) (now (a .ends)) (now (a .vols))) (records g) (g .first-fits .ensures) (c .before .before .before .before .before .before .before .before .enum-told .given .1) (values-are work _ (p .0) (ss-of g) (g .first-fits .kept .1 .1 .1 .1 .1 .1 .1 .1 .0)) (bumps u) (u .bumped-fits .ensures) (c .enum-told2 .given .1)
     (counted (now (a .normals)) (now (a .strikes)) (now (a .starts)) (now (a .ends)) (now (a .vols)) (p .1) (p .2) (p .3) (p .4))
     (padded-is _ (p .0) (ss-of g) (g .first-fits .kept .1 .1 .1 .1 .1 .1 .1 .1 .0))
     (padded-is _ (p .0) (cs-of g) (g .first-fits .kept .1 .1 .1 .1 .1 .1 .1 .1 .1 .0))

@@ -5,7 +5,7 @@ use lib.Ieee.{Float}
 use Rattle.lookups.proofs.Outcomes.{at, missing}
 use Rattle.terms.proofs.Fetched.{fetch-refused, fetch-all}
 use Rattle.calibration.specs.Fits.{swaptionFitted}
-use Rattle.jamshidian.proofs.Lending.{lent-is, back-fits, back-is, values-are}
+use Rattle.lists.proofs.Lending.{work, lent-is, back-fits, back-is, values-are}
 use borrow.Author.Needs.{needs}
 use Rattle.calibration.proofs.fits.swaption_fitted.Statement.{statement}
 use Rattle.calibration.proofs.fits.swaption_fitted.Tie as tie
@@ -49,10 +49,10 @@ array-borrow-prefix-p : tie.Need-array-borrow-prefix-p
 array-borrow-prefix-p c = search needs
 
 slice-aggregate-fetch : tie.Need-slice-aggregate-fetch
-slice-aggregate-fetch c = lent-is _ (c .before .before .before .before .before .before .before .before .before .before .before .before .before .before .pre .1)
+slice-aggregate-fetch c = lent-is work _ (c .before .before .before .before .before .before .before .before .before .before .before .before .before .before .pre .1)
 
 fetch-requires : tie.Need-fetch-requires
-fetch-requires c κs = (sym (lent-is _ (c .before .before .before .before .before .before .before .before .before .before .before .before .before .before .pre .1)), c .before .before .before .before .before .before .before .before .before .before .before .before .before .before .pre .3)
+fetch-requires c κs = (sym (lent-is work _ (c .before .before .before .before .before .before .before .before .before .before .before .before .before .before .pre .1)), c .before .before .before .before .before .before .before .before .before .before .before .before .before .before .pre .3)
 
 enum-known-fetched : tie.Need-enum-known-fetched
 enum-known-fetched c = search needs
@@ -67,22 +67,22 @@ enum-told-3 : tie.Need-enum-told-3
 enum-told-3 c = search needs
 
 array-share-prefix-p : tie.Need-array-share-prefix-p
-array-share-prefix-p c = let g = c .before .before .before in back-fits _ (c .before .before .before .before .before .before .before .before .before .before .before .before .before .before .before .before .before .before .pre .1) (ps-of g) (g .fetch .kept .1 .1 .1 .0)
+array-share-prefix-p c = let g = c .before .before .before in back-fits work _ (c .before .before .before .before .before .before .before .before .before .before .before .before .before .before .before .before .before .before .pre .1) (ps-of g) (g .fetch .kept .1 .1 .1 .0)
 
 slice-aggregate-swaption-worked : tie.Need-slice-aggregate-swaption-worked
-slice-aggregate-swaption-worked c = let g = c .before .before .before .before in back-is _ (c .before .before .before .before .before .before .before .before .before .before .before .before .before .before .before .before .before .before .before .pre .1) (ps-of g) (g .fetch .kept .1 .1 .1 .0)
+slice-aggregate-swaption-worked c = let g = c .before .before .before .before in back-is work _ (c .before .before .before .before .before .before .before .before .before .before .before .before .before .before .before .before .before .before .before .pre .1) (ps-of g) (g .fetch .kept .1 .1 .1 .0)
 
 swaption-worked-requires : tie.Need-swaption-worked-requires
 swaption-worked-requires c κs =
     let s = c .before .before .before .before .before .before .before .before .before .before .before .before .before .before .before .before .before .before .before in
     let g = c .before .before .before .before in
-    (s .pre .0, s .pre .1, s .pre .2, sym (back-is _ (s .pre .1) (ps-of g) (g .fetch .kept .1 .1 .1 .0)))
+    (s .pre .0, s .pre .1, s .pre .2, sym (back-is work _ (s .pre .1) (ps-of g) (g .fetch .kept .1 .1 .1 .0)))
 
 returns-4 : tie.Need-returns-4
 unfolding swaptionFitted
 returns-4 c =
     let g = c .before .before .before .before .before in
-    rw (at _ (c .before .before .before .before .before .before .before .before .before .before .before .before .before .p-t .given .1) (c .before .before .before .before .before .before .before .before .before .before .before .before .before .before .before .factor .ensures), ← c .before .before .before .before .before .before .before .before .before .before .before .day .ensures, at _ (c .before .before .before .before .before .before .before .before .p-plus .given .1) (c .before .before .before .before .before .before .before .before .before .before .factor2 .ensures), fetch-all (ps-of g) (c .before .before .enum-told3 .given .1) (g .fetch .ensures), ← values-are _ (c .before .before .before .before .before .before .before .before .before .before .before .before .before .before .before .before .before .before .before .before .pre .1) (ps-of g) (g .fetch .kept .1 .1 .1 .0)) (c .swaption-worked .ensures)
+    rw (at _ (c .before .before .before .before .before .before .before .before .before .before .before .before .before .p-t .given .1) (c .before .before .before .before .before .before .before .before .before .before .before .before .before .before .before .factor .ensures), ← c .before .before .before .before .before .before .before .before .before .before .before .day .ensures, at _ (c .before .before .before .before .before .before .before .before .p-plus .given .1) (c .before .before .before .before .before .before .before .before .before .before .factor2 .ensures), fetch-all (ps-of g) (c .before .before .enum-told3 .given .1) (g .fetch .ensures), ← values-are work _ (c .before .before .before .before .before .before .before .before .before .before .before .before .before .before .before .before .before .before .before .before .pre .1) (ps-of g) (g .fetch .kept .1 .1 .1 .0)) (c .swaption-worked .ensures)
 
 pub swaption-fitted-spec : {M : Type 1} → statement M
 swaption-fitted-spec =

@@ -2,7 +2,7 @@
 use borrow.Author.Needs.{needs}
 use Prim.Native.Nat.{_-_}
 use lib.ListN.{length}
-use Rattle.terms.proofs.Filling.{Filling, start, turn, end}
+use Rattle.lists.proofs.Filling.{Filling, start, turn, end}
 use Rattle.closedform.specs.Affine.{affinesOf}
 use Rattle.closedform.proofs.Entries.{affines-length, affines-at}
 use Rattle.closedform.proofs.variance.affines.Statement.{statement}

@@ -4,7 +4,7 @@ use mathlib.Core.List.{List}
 use lib.Ieee.{Float}
 use Rattle.search.specs.declared.Critical.{Critical}
 use Rattle.terms.proofs.Callers.{nothing-found}
-use Rattle.jamshidian.proofs.Lending.{lent-is, back-fits, back-is, values-are}
+use Rattle.lists.proofs.Lending.{work, lent-is, back-fits, back-is, values-are}
 use Rattle.jamshidian.proofs.Pricing.{price-is}
 use borrow.Author.Needs.{needs}
 use Rattle.jamshidian.proofs.price.price_at.Statement.{statement}
@@ -23,34 +23,34 @@ array-borrow-prefix-a : tie.Need-array-borrow-prefix-a
 array-borrow-prefix-a c = search needs
 
 slice-aggregate-affines : tie.Need-slice-aggregate-affines
-slice-aggregate-affines c = lent-is _ (c .before .before .before .before .before .pre .0)
+slice-aggregate-affines c = lent-is work _ (c .before .before .before .before .before .pre .0)
 
 affines-requires : tie.Need-affines-requires
-affines-requires c κs = let s = c .before .before .before .before .before in (sym (lent-is _ (s .pre .0)) ∙ sym (s .pre .1), s .pre .2 ∙ sym (s .pre .1))
+affines-requires c κs = let s = c .before .before .before .before .before in (sym (lent-is work _ (s .pre .0)) ∙ sym (s .pre .1), s .pre .2 ∙ sym (s .pre .1))
 
 array-share-prefix-a : tie.Need-array-share-prefix-a
-array-share-prefix-a c = let v = c .before in back-fits _ (c .before .before .before .before .before .before .before .pre .0) (as-of v) (v .affines .kept .1 .1 .1 .1 .1 .0)
+array-share-prefix-a c = let v = c .before in back-fits work _ (c .before .before .before .before .before .before .before .pre .0) (as-of v) (v .affines .kept .1 .1 .1 .1 .1 .0)
 
 slice-aggregate-weights : tie.Need-slice-aggregate-weights
-slice-aggregate-weights c = let v = c .before .before in back-is _ (c .before .before .before .before .before .before .before .before .pre .0) (as-of v) (v .affines .kept .1 .1 .1 .1 .1 .0)
+slice-aggregate-weights c = let v = c .before .before in back-is work _ (c .before .before .before .before .before .before .before .before .pre .0) (as-of v) (v .affines .kept .1 .1 .1 .1 .1 .0)
 
 array-borrow-prefix-w : tie.Need-array-borrow-prefix-w
 array-borrow-prefix-w c = search needs
 
 slice-aggregate-weights-2 : tie.Need-slice-aggregate-weights-2
-slice-aggregate-weights-2 c = lent-is _ (c .before .before .before .before .before .before .before .before .before .pre .0)
+slice-aggregate-weights-2 c = lent-is work _ (c .before .before .before .before .before .before .before .before .before .pre .0)
 
 weights-requires : tie.Need-weights-requires
 weights-requires c κs =
     let s = c .before .before .before .before .before .before .before .before .before in
     let v = c .before .before .before in
-    (sym (lent-is _ (s .pre .0)), sym (back-is _ (s .pre .0) (as-of v) (v .affines .kept .1 .1 .1 .1 .1 .0)))
+    (sym (lent-is work _ (s .pre .0)), sym (back-is work _ (s .pre .0) (as-of v) (v .affines .kept .1 .1 .1 .1 .1 .0)))
 
 array-share-prefix-w : tie.Need-array-share-prefix-w
-array-share-prefix-w c = let u = c .before in back-fits _ (c .before .before .before .before .before .before .before .before .before .before .before .pre .0) (ws-of u) (u .weights .kept .1 .1 .0)
+array-share-prefix-w c = let u = c .before in back-fits work _ (c .before .before .before .before .before .before .before .before .before .before .before .pre .0) (ws-of u) (u .weights .kept .1 .1 .0)
 
 slice-aggregate-critical-rate : tie.Need-slice-aggregate-critical-rate
-slice-aggregate-critical-rate c = let u = c .before .before in back-is _ (c .before .before .before .before .before .before .before .before .before .before .before .before .pre .0) (ws-of u) (u .weights .kept .1 .1 .0)
+slice-aggregate-critical-rate c = let u = c .before .before in back-is work _ (c .before .before .before .before .before .before .before .before .before .before .before .before .pre .0) (ws-of u) (u .weights .kept .1 .1 .0)
 
 critical-rate-requires : tie.Need-critical-rate-requires
 critical-rate-requires c κs = search needs
@@ -64,7 +64,7 @@ returns c =
     let v = c .before .before .before .before .before .before .before .before .before in
     let u = c .before .before .before .before .before in
     let k = c .before .before in
-    price-is _ _ _ _ _ _ _ _ _ (values-are _ (s .pre .0) (as-of v) (v .affines .kept .1 .1 .1 .1 .1 .0) ∙ v .affines .ensures) (values-are _ (s .pre .0) (ws-of u) (u .weights .kept .1 .1 .0) ∙ u .weights .ensures) (k .critical-rate .ensures) Critical.NotANumber (c .enum-told .given .1)
+    price-is _ _ _ _ _ _ _ _ _ (values-are work _ (s .pre .0) (as-of v) (v .affines .kept .1 .1 .1 .1 .1 .0) ∙ v .affines .ensures) (values-are work _ (s .pre .0) (ws-of u) (u .weights .kept .1 .1 .0) ∙ u .weights .ensures) (k .critical-rate .ensures) Critical.NotANumber (c .enum-told .given .1)
 
 enum-known-found : tie.Need-enum-known-found
 enum-known-found c = search needs
@@ -75,19 +75,19 @@ returns-2 c =
     let v = c .before .before .before .before .before .before .before .before .before in
     let u = c .before .before .before .before .before in
     let k = c .before .before in
-    price-is _ _ _ _ _ _ _ _ _ (values-are _ (s .pre .0) (as-of v) (v .affines .kept .1 .1 .1 .1 .1 .0) ∙ v .affines .ensures) (values-are _ (s .pre .0) (ws-of u) (u .weights .kept .1 .1 .0) ∙ u .weights .ensures) (k .critical-rate .ensures) Critical.NoBracket (nothing-found (k .critical-rate .result) (c .before .match .keys2) (c .match2 .keys2))
+    price-is _ _ _ _ _ _ _ _ _ (values-are work _ (s .pre .0) (as-of v) (v .affines .kept .1 .1 .1 .1 .1 .0) ∙ v .affines .ensures) (values-are work _ (s .pre .0) (ws-of u) (u .weights .kept .1 .1 .0) ∙ u .weights .ensures) (k .critical-rate .ensures) Critical.NoBracket (nothing-found (k .critical-rate .result) (c .before .match .keys2) (c .match2 .keys2))
 
 array-share-prefix-a-2 : tie.Need-array-share-prefix-a-2
-array-share-prefix-a-2 c = let v = c .before .before .before .before .before .before .before .before .before .before .before in back-fits _ (c .before .before .before .before .before .before .before .before .before .before .before .before .before .before .before .before .before .pre .0) (as-of v) (v .affines .kept .1 .1 .1 .1 .1 .0)
+array-share-prefix-a-2 c = let v = c .before .before .before .before .before .before .before .before .before .before .before in back-fits work _ (c .before .before .before .before .before .before .before .before .before .before .before .before .before .before .before .before .before .pre .0) (as-of v) (v .affines .kept .1 .1 .1 .1 .1 .0)
 
 slice-aggregate-puts : tie.Need-slice-aggregate-puts
-slice-aggregate-puts c = let v = c .before .before .before .before .before .before .before .before .before .before .before .before in back-is _ (c .before .before .before .before .before .before .before .before .before .before .before .before .before .before .before .before .before .before .pre .0) (as-of v) (v .affines .kept .1 .1 .1 .1 .1 .0)
+slice-aggregate-puts c = let v = c .before .before .before .before .before .before .before .before .before .before .before .before in back-is work _ (c .before .before .before .before .before .before .before .before .before .before .before .before .before .before .before .before .before .before .pre .0) (as-of v) (v .affines .kept .1 .1 .1 .1 .1 .0)
 
 puts-requires : tie.Need-puts-requires
 puts-requires c κs =
     let s = c .before .before .before .before .before .before .before .before .before .before .before .before .before .before .before .before .before .before in
     let v = c .before .before .before .before .before .before .before .before .before .before .before .before in
-    (sym (back-is _ (s .pre .0) (as-of v) (v .affines .kept .1 .1 .1 .1 .1 .0)), s .pre .1, s .pre .3)
+    (sym (back-is work _ (s .pre .0) (as-of v) (v .affines .kept .1 .1 .1 .1 .1 .0)), s .pre .1, s .pre .3)
 
 returns-3 : tie.Need-returns-3
 returns-3 c =
@@ -95,7 +95,7 @@ returns-3 c =
     let v = c .before .before .before .before .before .before .before .before .before .before .before .before .before in
     let u = c .before .before .before .before .before .before .before .before .before in
     let k = c .before .before .before .before .before .before in
-    rw (c .puts .ensures) (price-is _ _ _ _ _ _ _ _ _ (values-are _ (s .pre .0) (as-of v) (v .affines .kept .1 .1 .1 .1 .1 .0) ∙ v .affines .ensures) (values-are _ (s .pre .0) (ws-of u) (u .weights .kept .1 .1 .0) ∙ u .weights .ensures) (k .critical-rate .ensures) _ (c .before .before .before .found .given .1))
+    rw (c .puts .ensures) (price-is _ _ _ _ _ _ _ _ _ (values-are work _ (s .pre .0) (as-of v) (v .affines .kept .1 .1 .1 .1 .1 .0) ∙ v .affines .ensures) (values-are work _ (s .pre .0) (ws-of u) (u .weights .kept .1 .1 .0) ∙ u .weights .ensures) (k .critical-rate .ensures) _ (c .before .before .before .found .given .1))
 
 pub price-at-spec : {M : Type 1} → statement M
 price-at-spec =

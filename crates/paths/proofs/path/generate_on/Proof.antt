@@ -16,7 +16,7 @@ use Rattle.lists.proofs.Outcomes.{turned-down, let-through}
 use Rattle.transitions.specs.Written.{finishingList}
 use Rattle.walks.specs.Path.{startState, pathFrom}
 use Rattle.paths.specs.Generate.{startsBelow, pathRules, generateOutcome}
-use Rattle.transitions.proofs.Lent.{lent-is, back-fits, back-is, values-are}
+use Rattle.lists.proofs.Lending.{lent-is, back-fits, back-is, values-are}
 use Rattle.paths.proofs.Outcomes.{rules-of, grid-fits}
 use Rattle.paths.proofs.path.generate_on.Statement.{statement}
 use Rattle.paths.proofs.path.generate_on.Tie as tie

@@ -1,4 +1,4 @@
--- `pricers::swaption_value_on` meets its contract: turned down by its rules, or what `pricer_priced` finds; its root is where the outcome defined has it, and it wants a bracket where that one does. Assumes nothing.
+-- `pricers::swaption_value_on` meets its contract: turned down by its rules, or what `swaption_priced` finds; its root is where the outcome defined has it, and it wants a bracket where that one does. Assumes nothing.
 use mathlib.Core.Path.{_≡_, _∙_, ap}
 use denote.Ref.{now}
 use Rattle.lists.specs.Refusals.{reported, firstOf}
@@ -49,15 +49,15 @@ returns c =
 enum-told : tie.Need-enum-told
 enum-told c = search needs
 
-pricer-priced-requires : tie.Need-pricer-priced-requires
-pricer-priced-requires c κs =
+swaption-priced-requires : tie.Need-swaption-priced-requires
+swaption-priced-requires c κs =
     let a = c .before .before .before .before .before .before .before .before .before .before .before .before .before .before .before .args in
     lists-fit (a .option) (a .alpha) (now (a .pillars)) (now (a .sigmas)) (now (a .times)) (now (a .factors)) (now (a .payments)) (now (a .accruals)) (now (a .own-dfs)) (a .strike) (a .t) (a .notional) (a .side) (rules (c .before .before)) (c .enum-told .given .1)
 
 returns-2 : tie.Need-returns-2
 returns-2 c =
     let a = c .before .before .before .before .before .before .before .before .before .before .before .before .before .before .before .before .args in
-    let o = c .pricer-priced .ensures ∙ let-through (a .option) (a .alpha) (now (a .pillars)) (now (a .sigmas)) (now (a .times)) (now (a .factors)) (now (a .payments)) (now (a .accruals)) (now (a .own-dfs)) (a .strike) (a .t) (a .notional) (a .side) (rules (c .before .before .before)) (c .before .enum-told .given .1) in
+    let o = c .swaption-priced .ensures ∙ let-through (a .option) (a .alpha) (now (a .pillars)) (now (a .sigmas)) (now (a .times)) (now (a .factors)) (now (a .payments)) (now (a .accruals)) (now (a .own-dfs)) (a .strike) (a .t) (a .notional) (a .side) (rules (c .before .before .before)) (c .before .enum-told .given .1) in
     (o, (rooted (a .option) (a .alpha) (now (a .pillars)) (now (a .sigmas)) (now (a .times)) (now (a .factors)) (now (a .payments)) (now (a .accruals)) (now (a .own-dfs)) (a .strike) (a .t) (a .notional) (a .side) o, (refused-so (a .option) (a .alpha) (now (a .pillars)) (now (a .sigmas)) (now (a .times)) (now (a .factors)) (now (a .payments)) (now (a .accruals)) (now (a .own-dfs)) (a .strike) (a .t) (a .notional) (a .side) o, ap (reported noValued) o)))
 
 pub swaption-value-on-spec : {M : Type 1} → statement M
@@ -73,5 +73,5 @@ swaption-value-on-spec =
     enum-known-answer
     returns
     enum-told
-    pricer-priced-requires
+    swaption-priced-requires
     returns-2)

@@ -10,7 +10,7 @@ use lib.Ieee.{Float}
 use Rattle.ieee.specs.Numbers.{zero}
 use Rattle.lists.specs.Refusals.{Outcome, served, answerOf}
 use Rattle.paths.specs.Generate.{generateOutcome}
-use Rattle.transitions.proofs.Lent.{lent-is, back-fits, back-is, values-are}
+use Rattle.lists.proofs.Lending.{lent-is, back-fits, back-is, values-are}
 use Rattle.paths.proofs.Served.{path-length}
 use Rattle.runfile.proofs.Written.{was-refused, was-served, same-room, left-is, refused-line, empty-line, point-by-point}
 use Rattle.runfile.proofs.jobs.path_lines.Statement.{statement}

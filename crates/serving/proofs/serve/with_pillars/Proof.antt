@@ -7,7 +7,7 @@ use denote.Ref.{now}
 use lib.ListN.{replicate}
 use lib.Ieee.{Float}
 use Rattle.ieee.specs.Numbers.{zero}
-use Rattle.transitions.proofs.Lent.{lent-is, back-fits, back-is, values-are}
+use Rattle.lists.proofs.Lending.{lent-is, back-fits, back-is, values-are}
 use Rattle.layout.proofs.Kept.{Kept, Whole, kept}
 use Rattle.serving.proofs.Lists.{pillars-read}
 use Rattle.serving.proofs.serve.with_pillars.Statement.{statement}

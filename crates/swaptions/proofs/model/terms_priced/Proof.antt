@@ -2,7 +2,7 @@
 use mathlib.Core.Path.{sym, _∙_}
 use mathlib.Core.List.{List}
 use lib.Ieee.{Float}
-use Rattle.jamshidian.proofs.Lending.{lent-is, back-fits, back-is, values-are}
+use Rattle.lists.proofs.Lending.{work, lent-is, back-fits, back-is, values-are}
 use Rattle.swaptions.proofs.Outcomes.{terms-are}
 use borrow.Author.Needs.{needs}
 use Rattle.swaptions.proofs.model.terms_priced.Statement.{statement}
@@ -24,10 +24,10 @@ array-borrow-prefix-c : tie.Need-array-borrow-prefix-c
 array-borrow-prefix-c c = search needs
 
 slice-aggregate-coefficients : tie.Need-slice-aggregate-coefficients
-slice-aggregate-coefficients c = lent-is _ (c .before .before .before .before .pre .0)
+slice-aggregate-coefficients c = lent-is work _ (c .before .before .before .before .pre .0)
 
 coefficients-requires : tie.Need-coefficients-requires
-coefficients-requires c κs = sym (lent-is _ (c .before .before .before .before .pre .0)) ∙ sym (c .before .before .before .before .pre .1)
+coefficients-requires c κs = sym (lent-is work _ (c .before .before .before .before .pre .0)) ∙ sym (c .before .before .before .before .pre .1)
 
 array-borrow-prefix-b : tie.Need-array-borrow-prefix-b
 array-borrow-prefix-b c = search needs
@@ -35,12 +35,12 @@ array-borrow-prefix-b c = search needs
 slice-aggregate-bs : tie.Need-slice-aggregate-bs
 slice-aggregate-bs c =
     let w = c .before .before in
-    lent-is _ (w .before .before .before .before .before .pre .0)
+    lent-is work _ (w .before .before .before .before .before .pre .0)
 
 bs-requires : tie.Need-bs-requires
 bs-requires c κs =
     let w = c .before .before in
-    sym (lent-is _ (w .before .before .before .before .before .pre .0))
+    sym (lent-is work _ (w .before .before .before .before .before .pre .0))
 
 forward-of-requires : tie.Need-forward-of-requires
 forward-of-requires c κs = search needs
@@ -49,13 +49,13 @@ array-share-prefix-b : tie.Need-array-share-prefix-b
 array-share-prefix-b c =
     let u = c .before .before in
     let w = u .before .before .before in
-    back-fits _ (w .before .before .before .before .before .pre .0) (bs-of u) (u .bs .kept .1 .1 .1 .0)
+    back-fits work _ (w .before .before .before .before .before .pre .0) (bs-of u) (u .bs .kept .1 .1 .1 .0)
 
 slice-aggregate-drifts : tie.Need-slice-aggregate-drifts
 slice-aggregate-drifts c =
     let u = c .before .before .before in
     let w = u .before .before .before in
-    back-is _ (w .before .before .before .before .before .pre .0) (bs-of u) (u .bs .kept .1 .1 .1 .0)
+    back-is work _ (w .before .before .before .before .before .pre .0) (bs-of u) (u .bs .kept .1 .1 .1 .0)
 
 array-borrow-prefix-drift : tie.Need-array-borrow-prefix-drift
 array-borrow-prefix-drift c =
@@ -65,13 +65,13 @@ array-borrow-prefix-drift c =
 slice-aggregate-drifts-2 : tie.Need-slice-aggregate-drifts-2
 slice-aggregate-drifts-2 c =
     let w = c .before .before .before .before .before .before .before in
-    lent-is _ (w .before .before .before .before .before .pre .0)
+    lent-is work _ (w .before .before .before .before .before .pre .0)
 
 drifts-requires : tie.Need-drifts-requires
 drifts-requires c κs =
     let u = c .before .before .before .before in
     let w = u .before .before .before in
-    (sym (lent-is _ (w .before .before .before .before .before .pre .0)) ∙ back-is _ (w .before .before .before .before .before .pre .0) (bs-of u) (u .bs .kept .1 .1 .1 .0), w .before .before .before .before .before .pre .2 ∙ back-is _ (w .before .before .before .before .before .pre .0) (bs-of u) (u .bs .kept .1 .1 .1 .0))
+    (sym (lent-is work _ (w .before .before .before .before .before .pre .0)) ∙ back-is work _ (w .before .before .before .before .before .pre .0) (bs-of u) (u .bs .kept .1 .1 .1 .0), w .before .before .before .before .before .pre .2 ∙ back-is work _ (w .before .before .before .before .before .pre .0) (bs-of u) (u .bs .kept .1 .1 .1 .0))
 
 decay-of-requires : tie.Need-decay-of-requires
 decay-of-requires c κs = search needs
@@ -84,50 +84,50 @@ array-share-prefix-c c =
     let d = c .before .before .before in
     let u = d .before .before .before .before .before in
     let w = u .before .before .before in
-    back-fits _ (w .before .before .before .before .before .pre .0) (cs-of w) (w .coefficients .kept .1 .1 .0)
+    back-fits work _ (w .before .before .before .before .before .pre .0) (cs-of w) (w .coefficients .kept .1 .1 .0)
 
 slice-aggregate-price-at : tie.Need-slice-aggregate-price-at
 slice-aggregate-price-at c =
     let d = c .before .before .before .before in
     let u = d .before .before .before .before .before in
     let w = u .before .before .before in
-    back-is _ (w .before .before .before .before .before .pre .0) (cs-of w) (w .coefficients .kept .1 .1 .0)
+    back-is work _ (w .before .before .before .before .before .pre .0) (cs-of w) (w .coefficients .kept .1 .1 .0)
 
 array-share-prefix-b-2 : tie.Need-array-share-prefix-b-2
 array-share-prefix-b-2 c =
     let d = c .before .before .before .before in
     let u = d .before .before .before .before .before in
     let w = u .before .before .before in
-    back-fits _ (w .before .before .before .before .before .pre .0) (bs-of u) (u .bs .kept .1 .1 .1 .0)
+    back-fits work _ (w .before .before .before .before .before .pre .0) (bs-of u) (u .bs .kept .1 .1 .1 .0)
 
 slice-aggregate-price-at-2 : tie.Need-slice-aggregate-price-at-2
 slice-aggregate-price-at-2 c =
     let d = c .before .before .before .before .before in
     let u = d .before .before .before .before .before in
     let w = u .before .before .before in
-    back-is _ (w .before .before .before .before .before .pre .0) (bs-of u) (u .bs .kept .1 .1 .1 .0)
+    back-is work _ (w .before .before .before .before .before .pre .0) (bs-of u) (u .bs .kept .1 .1 .1 .0)
 
 array-share-prefix-drift : tie.Need-array-share-prefix-drift
 array-share-prefix-drift c =
     let d = c .before .before .before .before .before in
     let u = d .before .before .before .before .before in
     let w = u .before .before .before in
-    back-fits _ (w .before .before .before .before .before .pre .0) (ds-of d) (d .drifts .kept .1 .1 .1 .1 .0)
+    back-fits work _ (w .before .before .before .before .before .pre .0) (ds-of d) (d .drifts .kept .1 .1 .1 .1 .0)
 
 slice-aggregate-price-at-3 : tie.Need-slice-aggregate-price-at-3
 slice-aggregate-price-at-3 c =
     let d = c .before .before .before .before .before .before in
     let u = d .before .before .before .before .before in
     let w = u .before .before .before in
-    back-is _ (w .before .before .before .before .before .pre .0) (ds-of d) (d .drifts .kept .1 .1 .1 .1 .0)
+    back-is work _ (w .before .before .before .before .before .pre .0) (ds-of d) (d .drifts .kept .1 .1 .1 .1 .0)
 
 price-at-requires : tie.Need-price-at-requires
 price-at-requires c κs =
     let d = c .before .before .before .before .before .before in
     let u = d .before .before .before .before .before in
     let w = u .before .before .before in
-    let n = back-is _ (w .before .before .before .before .before .pre .0) (cs-of w) (w .coefficients .kept .1 .1 .0) in
-    (rw (← n) (w .before .before .before .before .before .pre .0), sym (back-is _ (w .before .before .before .before .before .pre .0) (bs-of u) (u .bs .kept .1 .1 .1 .0)) ∙ n, sym (back-is _ (w .before .before .before .before .before .pre .0) (ds-of d) (d .drifts .kept .1 .1 .1 .1 .0)) ∙ n, w .before .before .before .before .before .pre .2 ∙ n)
+    let n = back-is work _ (w .before .before .before .before .before .pre .0) (cs-of w) (w .coefficients .kept .1 .1 .0) in
+    (rw (← n) (w .before .before .before .before .before .pre .0), sym (back-is work _ (w .before .before .before .before .before .pre .0) (bs-of u) (u .bs .kept .1 .1 .1 .0)) ∙ n, sym (back-is work _ (w .before .before .before .before .before .pre .0) (ds-of d) (d .drifts .kept .1 .1 .1 .1 .0)) ∙ n, w .before .before .before .before .before .pre .2 ∙ n)
 
 finished-requires : tie.Need-finished-requires
 finished-requires c κs = search needs
@@ -137,7 +137,7 @@ returns c =
     let d = c .before .before .before .before .before .before .before .before in
     let u = d .before .before .before .before .before in
     let w = u .before .before .before in
-    terms-are _ _ _ _ _ _ _ _ _ (values-are _ (w .before .before .before .before .before .pre .0) (cs-of w) (w .coefficients .kept .1 .1 .0) ∙ w .coefficients .ensures) (values-are _ (w .before .before .before .before .before .pre .0) (bs-of u) (u .bs .kept .1 .1 .1 .0) ∙ u .bs .ensures) (d .before .before .before .forward-of .ensures) (values-are _ (w .before .before .before .before .before .pre .0) (ds-of d) (d .drifts .kept .1 .1 .1 .1 .0) ∙ d .drifts .ensures) (c .before .before .before .before .before .before .decay-of .ensures) (c .before .before .before .before .before .deviation-of .ensures) (c .before .price-at .ensures) (c .finished .ensures)
+    terms-are _ _ _ _ _ _ _ _ _ (values-are work _ (w .before .before .before .before .before .pre .0) (cs-of w) (w .coefficients .kept .1 .1 .0) ∙ w .coefficients .ensures) (values-are work _ (w .before .before .before .before .before .pre .0) (bs-of u) (u .bs .kept .1 .1 .1 .0) ∙ u .bs .ensures) (d .before .before .before .forward-of .ensures) (values-are work _ (w .before .before .before .before .before .pre .0) (ds-of d) (d .drifts .kept .1 .1 .1 .1 .0) ∙ d .drifts .ensures) (c .before .before .before .before .before .before .decay-of .ensures) (c .before .before .before .before .before .deviation-of .ensures) (c .before .price-at .ensures) (c .finished .ensures)
 
 pub terms-priced-spec : {M : Type 1} → statement M
 terms-priced-spec =

@@ -3,7 +3,7 @@ use borrow.Author.Needs.{needs}
 use Prim.Native.Nat.{_-_}
 use lib.ListN.{length}
 use Rattle.terms.specs.Terms.{coefficientsOf}
-use Rattle.terms.proofs.Filling.{Filling, start, turn, end}
+use Rattle.lists.proofs.Filling.{Filling, start, turn, end}
 use Rattle.terms.proofs.Entries.{coefficients-length, coefficients-at}
 use Rattle.terms.proofs.columns.coefficients.Statement.{statement}
 use Rattle.terms.proofs.columns.coefficients.Tie as tie

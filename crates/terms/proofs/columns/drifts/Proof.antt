@@ -3,7 +3,7 @@ use borrow.Author.Needs.{needs}
 use Prim.Native.Nat.{_-_}
 use lib.ListN.{length}
 use Rattle.terms.specs.Terms.{driftsOf}
-use Rattle.terms.proofs.Filling.{Filling, start, turn, end}
+use Rattle.lists.proofs.Filling.{Filling, start, turn, end}
 use Rattle.terms.proofs.Entries.{drifts-length, drifts-at}
 use Rattle.terms.proofs.columns.drifts.Statement.{statement}
 use Rattle.terms.proofs.columns.drifts.Tie as tie

@@ -4,7 +4,7 @@ use mathlib.Core.Path.{refl}
 use Prim.Native.Nat.{_-_}
 use lib.ListN.{length}
 use Rattle.coupons.specs.Sum.{weightsOf}
-use Rattle.terms.proofs.Filling.{Filling, start, turn, end}
+use Rattle.lists.proofs.Filling.{Filling, start, turn, end}
 use Rattle.terms.proofs.Entries.{weights-length, weights-at}
 use Rattle.terms.proofs.columns.weights.Statement.{statement}
 use Rattle.terms.proofs.columns.weights.Tie as tie

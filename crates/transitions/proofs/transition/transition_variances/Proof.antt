@@ -15,7 +15,7 @@ use Rattle.lists.proofs.Outcomes.{turned-down, let-through}
 use Rattle.transitions.specs.Written.{finishingList}
 use Rattle.transitions.specs.Transition.{transitionRules, variancesOf, transitionOutcome}
 use Rattle.transitions.proofs.Outcomes.{steps-fit}
-use Rattle.transitions.proofs.Lent.{lent-is, back-fits, back-is, values-are}
+use Rattle.lists.proofs.Lending.{lent-is, back-fits, back-is, values-are}
 use Rattle.transitions.proofs.transition.transition_variances.Statement.{statement}
 use Rattle.transitions.proofs.transition.transition_variances.Tie as tie
 

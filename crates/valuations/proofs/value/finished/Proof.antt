@@ -1,4 +1,4 @@
--- `valuations::finished` meets its contract: rule 13 asks whether every float of the answer is finite. Assumes nothing.
+-- `valuations::value::finished` meets its contract: rule 13 asks whether every float of the answer is finite. Assumes nothing.
 use borrow.Author.Needs.{needs}
 use Rattle.valuations.proofs.value.finished.Statement.{statement}
 use Rattle.valuations.proofs.value.finished.Tie as tie

@@ -1,4 +1,4 @@
--- `valuations::priced_by` meets its contract: refused by the search or by the Newton step, or the components at the stepped rate. Assumes nothing.
+-- `valuations::value::priced_by` meets its contract: refused by the search or by the Newton step, or the components at the stepped rate. Assumes nothing.
 use mathlib.Core.Path.{sym, ap, _∙_}
 use Rattle.terms.proofs.Callers.{nothing-found}
 use Rattle.terms.proofs.Entries.{weights-length}

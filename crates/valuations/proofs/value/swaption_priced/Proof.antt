@@ -1,4 +1,4 @@
--- `valuations::pricer_priced` meets its contract: each factor is found or the call is refused by rule 8, and then the terms are worked and priced. Assumes nothing.
+-- `valuations::value::swaption_priced` meets its contract: each factor is found or the call is refused by rule 8, and then the terms are worked and priced. Assumes nothing.
 use mathlib.Core.Path.{sym, _∙_, subst}
 use mathlib.Core.List.{List}
 use Prim.Native.Nat.{ℕ, _≤_}
@@ -10,8 +10,8 @@ use Rattle.closedform.proofs.Entries.{affines-length}
 use Rattle.valuations.proofs.Parts.{within, front, sized, factors-within, factors-front, factors-sized, lent}
 use Rattle.valuations.proofs.Pricing.{off-option, off-day, off-payments, on-curve}
 use borrow.Author.Needs.{needs}
-use Rattle.valuations.proofs.value.pricer_priced.Statement.{statement}
-use Rattle.valuations.proofs.value.pricer_priced.Tie as tie
+use Rattle.valuations.proofs.value.swaption_priced.Statement.{statement}
+use Rattle.valuations.proofs.value.swaption_priced.Tie as tie
 
 -- ---- what was written into the lent list of factors
 abbrev ps-of : tie.After-fetch → List Float
@@ -251,8 +251,8 @@ returns-4 c =
     (at-deviation .deviation .ensures)
     (c .priced-by .ensures)
 
-pub pricer-priced-spec : {M : Type 1} → statement M
-pricer-priced-spec =
+pub swaption-priced-spec : {M : Type 1} → statement M
+swaption-priced-spec =
     tie.close
     (tie.spec
     factor-requires

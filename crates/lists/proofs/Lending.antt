@@ -1,11 +1,16 @@
--- What the part of a working list holds that was lent to be written, and handed back. Assumes nothing.
+-- What the front of a working list holds that was lent to be written, and handed back. Assumes nothing.
 use mathlib.Core.Path.{_≡_, sym, _∙_}
 use mathlib.Core.List.{List, _++_}
 use Prim.Native.Nat.{ℕ, _≤_}
 use native.Mathlib.Omega.{arith}
-use lib.ListN.{length, take, drop, length-append}
+use lib.ListN.{length, take, drop, replicate, length-append}
 use lib.Seq.{length-take-le, take-at}
 use lib.Ieee.{Float}
+use Rattle.ieee.specs.Numbers.{zero}
+
+-- a working list of 64 places, as the code makes it
+abbrev pub work : List Float
+work = replicate 64 zero
 
 -- the front of the list, lent as n places and handed back as the values vs
 module _ (work : List Float) (n : ℕ) (fits : n ≤ length work) where
