@@ -17,7 +17,7 @@ all-requires-4 : tie.Need-all-requires-4
 all-requires-4 c κs = search needs
 
 returns : tie.Need-returns
-returns c = cc
+returns c = rw (c .all4 .ensures, c .before .all3 .ensures, c .before .before .all2 .ensures, c .before .before .before .all .ensures)
 
 pub numbers-wrong-spec : {M : Type 1} → statement M
 numbers-wrong-spec =

@@ -10,7 +10,7 @@ exp-requires c κs = search needs
 
 returns : tie.Need-returns
 unfolding densityOf
-returns c = rw (← sqrt2pi-is) (cc)
+returns c = rw (← sqrt2pi-is, c .exp .ensures .0)
 
 pub norm-pdf-spec : {M : Type 1} → statement M
 norm-pdf-spec = tie.close (tie.spec exp-requires returns)

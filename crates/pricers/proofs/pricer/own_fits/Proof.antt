@@ -10,7 +10,7 @@ all-requires-2 : tie.Need-all-requires-2
 all-requires-2 c κs = search needs
 
 returns : tie.Need-returns
-returns c = cc
+returns c = rw (c .all2 .ensures, c .before .all .ensures)
 
 pub own-fits-spec : {M : Type 1} → statement M
 own-fits-spec = tie.close (tie.spec all-requires all-requires-2 returns)
