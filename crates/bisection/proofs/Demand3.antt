@@ -7,7 +7,8 @@ use Prim.Native.Nat.{ℕ, zero, suc, _+_, _≤_}
 use native.Mathlib.Nat.{zero-add}
 use native.Mathlib.Omega.{arith}
 use lib.Dec.{T}
-use lib.Ieee.{Float}
+use lib.ListN.{length, getD}
+use lib.Ieee.{Float, nan}
 use Rattle.lists.specs.declared.refusals.Refusal.{Refusal}
 use Rattle.lists.specs.declared.refusals.Refusal.the-variants as R
 use Rattle.lists.specs.Refusals.{Outcome, served, refused}
@@ -18,7 +19,8 @@ use Rattle.bisection.specs.declared.halving.Ends.{Ends}
 use Rattle.bisection.specs.declared.result.Fit.{Fit}
 use Rattle.bisection.specs.Solve.{lowest, highest, sameSign, closeEnough, residualAt, movedTo, halvingsFrom, endsOf, solveOf}
 use Rattle.bisection.specs.Tried.{triedFrom, triedOf}
-use Rattle.bisection.specs.Demand3.{Converged, Unconverged, Served, Assured, TriedUnbracketed, Demand3}
+use Rattle.bisection.specs.Demand3.{Converged, Unconverged, entryOf, Served, Assured, TriedUnbracketed, Demand3}
+use Rattle.bisection.proofs.Agree.{same}
 use Rattle.bisection.proofs.Signs.{differ-turn, differ-from}
 use Rattle.bisection.proofs.Steps.{mid, Number, residual-served, residual-unbracketed, unbracketed-residual, sign-is-no-want, found, unfound, Met, stopped, close, away, met, last-stopped, last-served, halving-stopped, halving-close, halving-away, tried-last, tried-stopped, tried-close, tried-away, Begun, low-stopped, high-stopped, alike, apart, begun, solve-low, solve-high, solve-alike, solve-apart, tried-low, tried-high, tried-alike, tried-apart}
 
@@ -149,6 +151,51 @@ module _ (f : Float → Outcome Float) where
       go ih (close v p q) = member (sym (tried-close f e left p q)) (List·Memᴰ·head (ap (λ (x : Fit). x .sigma) (served-is (sym h ∙ halving-close f made e left p q))))
       go ih (away v p q) = member (sym (tried-away f e left p q)) (List·Memᴰ·tail (ih (movedTo e (mid e) v) fit (sym (halving-away f made e left p q) ∙ h)))
 
+  -- ---- and it is the last entry of the sigmas tried from the ends e, `made` halvings having been made
+  record Placed (made : ℕ) (xs : List Float) (fit : Fit) : Type 0 where
+    place : ℕ
+    counted : length xs ≡ suc place
+    there : getD xs place nan ≡ fit .sigma
+    number : entryOf fit ≡ 2 + (made + place)
+
+  placed-only : (made : ℕ) (e : Ends) {xs : List Float} {fit : Fit} → xs ≡ mid e ∷ [] → mid e ≡ fit .sigma → entryOf fit ≡ 2 + made → Placed made xs fit
+  placed-only made e t s n = record { place = 0; counted = ap length t; there = ap (λ (xs : List Float). getD xs 0 nan) t ∙ s; number = omega arith }
+
+  placed-later : (made : ℕ) {x : Float} {xs ys : List Float} {fit : Fit} → xs ≡ x ∷ ys → Placed (suc made) ys fit → Placed made xs fit
+  placed-later made t p =
+      let n : made + suc (p .place) ≡ suc made + p .place = omega arith in
+      record {
+        place = suc (p .place);
+        counted = ap length t ∙ ap suc (p .counted);
+        there = ap (λ (xs : List Float). getD xs (suc (p .place)) nan) t ∙ p .there;
+        number = p .number ∙ ap (λ (k : ℕ). 2 + k) (sym n);
+      }
+
+  placed : (left made : ℕ) (e : Ends) (fit : Fit) → left + made ≡ 200 → halvingsFrom f left made e ≡ served fit → Placed made (triedFrom f left e) fit
+  placed zero made e fit l h = go (met f e)
+    where
+      here : (v : Float) → residualAt f (mid e) ≡ served v → Placed made (triedFrom f zero e) fit
+      here v p =
+          let z : made ≡ 200 = sym (zero-add made) ∙ l in
+          subst (λ (x : Fit). Placed made (triedFrom f zero e) x) (served-is (sym (last-served f made e p) ∙ h)) (placed-only made e (tried-last f e) refl (ap (λ (k : ℕ). 2 + k) (sym z)))
+
+      go : Met f e → Placed made (triedFrom f zero e) fit
+      go (stopped r p) = absurd (not-both (sym (last-stopped f made e p) ∙ h))
+      go (close v p q) = here v p
+      go (away v p q) = here v p
+  placed (suc left) made e fit l h = go (placed left (suc made)) (met f e)
+    where
+      less : suc left + made ≡ 200 → left + suc made ≡ 200
+      less l = omega arith
+
+      next : 1 + suc made ≡ 2 + made
+      next = omega arith
+
+      go : ((e : Ends) (fit : Fit) → left + suc made ≡ 200 → halvingsFrom f left (suc made) e ≡ served fit → Placed (suc made) (triedFrom f left e) fit) → Met f e → Placed made (triedFrom f (suc left) e) fit
+      go ih (stopped r p) = absurd (not-both (sym (halving-stopped f made e left p) ∙ h))
+      go ih (close v p q) = subst (λ (x : Fit). Placed made (triedFrom f (suc left) e) x) (served-is (sym (halving-close f made e left p q) ∙ h)) (placed-only made e (tried-close f e left p q) refl next)
+      go ih (away v p q) = placed-later made (tried-away f e left p q) (ih (movedTo e (mid e) v) fit (less l) (sym (halving-away f made e left p q) ∙ h))
+
   -- ---- refused for want of a bracket: so was the last sigma tried
   record Wanting (xs : List Float) : Type 0 where
     sigma : Float
@@ -202,6 +249,17 @@ module _ (f : Float → Outcome Float) where
   started : (a b : Float) → residualAt f lowest ≡ served a → residualAt f highest ≡ served b → sameSign a b ≡ false → Kept 0 (endsOf a b)
   started a b p q s = record { halved = none; at-low = residual-served f lowest p; at-high = residual-served f highest q; signs = no (sameSign a b) s }
 
+  -- the entry in the whole list, behind 1e-8 and 2.0
+  module _ {a b : Float} {fit : Fit} (p : residualAt f lowest ≡ served a) (q : residualAt f highest ≡ served b) (s : sameSign a b ≡ false) (w : Placed 0 (triedFrom f 200 (endsOf a b)) fit) where
+    from-zero : entryOf fit ≡ suc (suc (w .place))
+    from-zero = w .number ∙ ap (λ (k : ℕ). 2 + k) (zero-add (w .place)) ∙ omega arith
+
+    whole-entry : getD (triedOf f) (entryOf fit) nan ≡ fit .sigma
+    whole-entry = ap (λ (n : ℕ). getD (triedOf f) n nan) from-zero ∙ ap (λ (xs : List Float). getD xs (suc (suc (w .place))) nan) (tried-apart f p q s) ∙ w .there
+
+    whole-length : length (triedOf f) ≡ suc (entryOf fit)
+    whole-length = ap length (tried-apart f p q s) ∙ ap (λ (n : ℕ). suc (suc n)) (w .counted) ∙ ap suc (sym from-zero)
+
   assured : (fit : Fit) → solveOf f ≡ served fit → Assured f fit
   assured fit h = go (begun f)
     where
@@ -215,10 +273,14 @@ module _ (f : Float → Outcome Float) where
             at-sigma = x .at-sigma;
             at-low = x .kept .at-low .there;
             at-high = x .kept .at-high .there;
+            low-number = x .kept .at-low .number;
+            high-number = x .kept .at-high .number;
             signs = x .kept .signs;
             order = halving-law .between (halving-law .volatility-start) (x .kept .halved) .order;
             middle = x .middle;
             tried = member (sym (tried-apart f p q s)) (List·Memᴰ·tail (List·Memᴰ·tail (last-tried 200 0 (endsOf a b) fit (sym (solve-apart f p q s) ∙ h))));
+            entry = whole-entry p q s (placed 200 0 (endsOf a b) fit refl (sym (solve-apart f p q s) ∙ h));
+            last = whole-length p q s (placed 200 0 (endsOf a b) fit refl (sym (solve-apart f p q s) ∙ h));
             root = x .root;
             every = λ sigma m. first sigma (List·Memᴰ·cases-cons (member (tried-apart f p q s) m));
           }
@@ -269,4 +331,4 @@ module _ (f : Float → Outcome Float) where
   no-bracket = (λ h. let w = solve-wanting h in record { sigma = w .sigma; tried = w .tried; there = w .there }, λ t. solve-wanted (t .sigma) (t .tried) (t .there))
 
 pub demand3 : Demand3
-demand3 = record { assured = λ f fit h. assured f fit h; no-bracket = λ f. no-bracket f }
+demand3 = record { assured = λ f fit h. assured f fit h; no-bracket = λ f. no-bracket f; same = λ f g h. same f g h }

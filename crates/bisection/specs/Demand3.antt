@@ -1,11 +1,12 @@
 -- Demand 3 of a fit, of any objective f: "An accepted fit is converged with |residual| < 1e-12 at its sigma, or unconverged with last ends that have no f64 between them and residuals of different sign."
 use mathlib.Core.Path.{_≡_}
 use mathlib.Core.Logic.{_⊎_, _↔_}
-use mathlib.Core.Bool.{true, false, not}
+use mathlib.Core.Bool.{true, false, not, cond}
 use mathlib.Core.List.{List·Memᴰ}
-use Prim.Native.Nat.{ℕ, suc, _≤_}
+use Prim.Native.Nat.{ℕ, suc, _+_, _≤_}
 use lib.Dec.{T}
-use lib.Ieee.{Float, binary64, isNan, le}
+use lib.ListN.{length, getD}
+use lib.Ieee.{Float, binary64, isNan, nan, le}
 use Rattle.elementary.specs.Simple.{midpointOf}
 use Rattle.lists.specs.declared.refusals.Refusal.the-variants as R
 use Rattle.lists.specs.Refusals.{Outcome, served, refused}
@@ -31,6 +32,10 @@ pub record Unconverged (fit : Fit) : Type 0 where
   pub halved : Halvings 200 lowest highest (fit .ends .low) (fit .ends .high)
   pub neighbours : Neighbours binary64 (fit .ends .low) (fit .ends .high)
 
+-- which of the sigmas tried is the one returned, counted from 0: 1e-8 and 2.0 are entries 0 and 1, so halving n tries entry 1 + n, and the midpoint of the ends after halving 200 is entry 202
+abbrev pub entryOf : Fit → ℕ
+entryOf fit = cond (fit .converged) (1 + fit .halvings) (2 + fit .halvings)
+
 -- a sigma at which the objective was served, and is no NaN
 pub record Served (f : Float → Outcome Float) (sigma : Float) : Type 0 where
   pub residual : Float
@@ -42,11 +47,17 @@ pub record Assured (f : Float → Outcome Float) (fit : Fit) : Type 0 where
   pub at-sigma : f (fit .sigma) ≡ served (fit .residual)
   pub at-low : f (fit .ends .low) ≡ served (fit .ends .«low_residual»)
   pub at-high : f (fit .ends .high) ≡ served (fit .ends .«high_residual»)
+  -- they are numbers, since a NaN's signum equals nothing; and they "differ in sign when their signums do"
+  pub low-number : T (not (isNan (fit .ends .«low_residual»)))
+  pub high-number : T (not (isNan (fit .ends .«high_residual»)))
   pub signs : T (not (sameSign (fit .ends .«low_residual») (fit .ends .«high_residual»)))
   -- the ends are in order, and sigma is their midpoint, the last sigma tried
   pub order : T (le (fit .ends .low) (fit .ends .high))
   pub middle : fit .sigma ≡ midpointOf (fit .ends .low) (fit .ends .high)
   pub tried : List·Memᴰ (fit .sigma) (triedOf f)
+  -- the number of halvings fixes it: it is that entry of the sigmas tried, and none is tried after it
+  pub entry : getD (triedOf f) (entryOf fit) nan ≡ fit .sigma
+  pub last : length (triedOf f) ≡ suc (entryOf fit)
   pub root : Converged fit ⊎ Unconverged fit
   -- "at every sigma a fit tries" the objective was served
   pub every : (sigma : Float) → List·Memᴰ sigma (triedOf f) → Served f sigma
@@ -61,3 +72,5 @@ pub record TriedUnbracketed (f : Float → Outcome Float) : Type 0 where
 pub record Demand3 : Type 1 where
   pub assured : (f : Float → Outcome Float) (fit : Fit) → solveOf f ≡ served fit → Assured f fit
   pub no-bracket : (f : Float → Outcome Float) → (solveOf f ≡ refused R.NoBracket) ↔ TriedUnbracketed f
+  -- a fit rests on the sigmas that it tries and on nothing else: an objective that agrees there has the same fit, and tries the same sigmas
+  pub same : (f g : Float → Outcome Float) → ((sigma : Float) → List·Memᴰ sigma (triedOf f) → f sigma ≡ g sigma) → (solveOf f ≡ solveOf g) × (triedOf f ≡ triedOf g)

@@ -1,6 +1,7 @@
 -- Document 01, "Cases proved", as one table under one computed check. `table-holds` is the check, which antt computes; `row` turns it into the equations of each row.
 use mathlib.Core.Path.{_≡_, refl, sym, ap, subst}
 use Prim.Native.Nat.{ℕ}
+use native.Mathlib.Omega.{arith}
 use mathlib.Core.Logic.{inl, inr}
 use mathlib.Core.Bool.{Bool, true, false, _&&_, true≢false}
 use mathlib.Core.List.{List, [], _∷_, List·Memᴰ, List·Memᴰ·head, List·Memᴰ·tail, List·Memᴰ·cases-cons, List·Memᴰ·not-nil}
@@ -146,9 +147,24 @@ rate-row =
     (row (record { asked = critical (one ∷ []) (one ∷ []) (zero ∷ []); number = 0; value = minusHalf })
     (List·Memᴰ·tail (List·Memᴰ·tail (List·Memᴰ·tail (List·Memᴰ·tail (List·Memᴰ·tail (List·Memᴰ·tail (List·Memᴰ·tail (List·Memᴰ·tail (List·Memᴰ·tail (List·Memᴰ·tail (List·Memᴰ·tail (List·Memᴰ·head refl)))))))))))) .1)
 
+flat-is : (o : Outcome Float) → answerNumber (answerOf o) ≡ 11 → o ≡ refused R.FlatDerivative
+flat-is (served v) e = absurd (omega arith)
+flat-is (refused R.Size) e = absurd (omega arith)
+flat-is (refused R.NotFinite) e = absurd (omega arith)
+flat-is (refused R.MeanReversion) e = absurd (omega arith)
+flat-is (refused R.Order) e = absurd (omega arith)
+flat-is (refused R.Times) e = absurd (omega arith)
+flat-is (refused R.Domain) e = absurd (omega arith)
+flat-is (refused R.Empty) e = absurd (omega arith)
+flat-is (refused R.OffCurve) e = absurd (omega arith)
+flat-is (refused R.NanReached) e = absurd (omega arith)
+flat-is (refused R.NoBracket) e = absurd (omega arith)
+flat-is (refused R.FlatDerivative) e = refl
+flat-is (refused R.NoSignChange) e = absurd (omega arith)
+flat-is (refused R.Overflow) e = absurd (omega arith)
+
 step-flat : stepped minusHalf (sumsOf minusHalf (one ∷ []) (one ∷ []) (zero ∷ [])) ≡ refused R.FlatDerivative
-unfolding stepped sumsOf sumsFrom sumsAfter bondAt expOf nearestWhole seriesOf decimal add sub mul div neg lt le eq isNan ofInt ofBits
-step-flat = refl
+step-flat = flat-is _ (row (record { asked = newton minusHalf (one ∷ []) (one ∷ []) (zero ∷ []); number = 11; value = zero }) (List·Memᴰ·tail (List·Memᴰ·tail (List·Memᴰ·tail (List·Memᴰ·tail (List·Memᴰ·tail (List·Memᴰ·tail (List·Memᴰ·tail (List·Memᴰ·tail (List·Memᴰ·tail (List·Memᴰ·tail (List·Memᴰ·tail (List·Memᴰ·tail (List·Memᴰ·head refl))))))))))))) .0)
 
 pub payer-case : (deviation pt : Float) (ps owns : List Float) (notional side : Float)
     → pricedBy Swaption.Payer deviation pt (one ∷ []) (one ∷ []) (zero ∷ []) ps owns notional side ≡ refused R.FlatDerivative

@@ -67,3 +67,19 @@ module _ (file : List ℕ) (l : Layout) (e : layoutOf file ≡ Parts l) where
 
   pub kept : Kept file l
   kept = kept-parts file l (ap (keeps file) (sym parts-are) ∙ picked .0)
+
+-- ---- each job's kind
+job-known : (file : List ℕ) (at n k : ℕ) → allKnown file at n ≡ true → k < n → known (eightBytes file (at + 40 * k)) ≡ true
+unfolding allKnown
+job-known file at zero k t h = absurd (let z : ⊥ = omega arith in z)
+job-known file at (suc n) zero t h = let z : at + 40 * 0 ≡ at = omega arith in rw z (both (known (eightBytes file at)) (allKnown file (at + 40) n) t .0)
+job-known file at (suc n) (suc k) t h =
+    let z : at + 40 * suc k ≡ at + 40 + 40 * k = omega arith in
+    rw z (job-known file (at + 40) n k (both (known (eightBytes file at)) (allKnown file (at + 40) n) t .1) (omega arith))
+
+-- "another kind breaks the layout"
+pub kind-known : (file : List ℕ) (l : Layout) → layoutOf file ≡ Parts l → (k : ℕ) → k < l .jobs .length / 40 → (1 ≤ eightBytes file (l .jobs .offset + 40 * k)) × (eightBytes file (l .jobs .offset + 40 * k) ≤ 12)
+kind-known file l e k h =
+    let kind = eightBytes file (l .jobs .offset + 40 * k) in
+    let b = both (leb 1 kind) (leb kind 12) (job-known file (l .jobs .offset) (l .jobs .length / 40) k (kept file l e .kinds) h) in
+    (leb-true 1 kind (b .0), leb-true kind 12 (b .1))

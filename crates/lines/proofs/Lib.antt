@@ -1,2 +1,3 @@
--- What the proofs of `lines` cite, and the whole case worked.
+-- What the proofs of `lines` cite, the whole case worked, and that a line's text has one answer.
 pub mod Worked
+pub mod Says

@@ -1,2 +1,3 @@
--- What the contracts of the printed lines say.
+-- What the contracts of the printed lines say, and what a line says.
 pub mod Lines
+pub mod Says

@@ -1,0 +1,2 @@
+-- What is proved of jobs as they are told.
+pub mod Demand3
