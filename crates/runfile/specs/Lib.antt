@@ -1,3 +1,4 @@
--- What the program prints for every file, and the contracts of what fills its output, job by job.
+-- What the program prints for every file, its pieces, the contracts of what fills them, job by job, and demand 3 of what is printed.
 pub mod Output
-pub mod Order
+pub mod Pieces
+pub mod Demand3
