@@ -1,14 +1,15 @@
 -- Document 01, "Cases proved", as one table under one computed check. `table-holds` is the check, which antt computes; `row` turns it into the equations of each row.
-use mathlib.Core.Path.{_≡_, refl, sym, ap, subst}
+use mathlib.Core.Path.{_≡_, refl, sym, ap, _∙_, subst}
 use Prim.Native.Nat.{ℕ}
 use native.Mathlib.Omega.{arith}
 use mathlib.Core.Logic.{inl, inr}
 use mathlib.Core.Bool.{Bool, true, false, _&&_, true≢false}
 use mathlib.Core.List.{List, [], _∷_, List·Memᴰ, List·Memᴰ·head, List·Memᴰ·tail, List·Memᴰ·cases-cons, List·Memᴰ·not-nil}
 use lib.Dec.{T, eqb, eqb→eq}
-use lib.Ieee.{Float, add, sub, mul, div, neg, lt, le, eq, isNan, ofInt, ofBits, size}
+use lib.Ieee.{Float, add, sub, mul, div, neg, lt, le, eq, ne, isNan, ofInt, ofBits, size}
 use lib.Ieee.Fits.{and-l, and-r}
 use Rattle.ieee.specs.Decimal.{decimal}
+use Rattle.ieee.specs.Rounded.{_⊕_}
 use Rattle.ieee.specs.Numbers.{zero, half, one, two, three, four}
 use Rattle.ieee.specs.Same.{same, same-is}
 use Rattle.ieee.specs.Fused.{fusedOf}
@@ -18,13 +19,20 @@ use Rattle.exponential.specs.Exp.{expOf, nearestWhole, seriesOf}
 use Rattle.elementary.specs.Ln.{lnOf, places, significandOf, exponentOf, oddSeriesOf}
 use Rattle.probability.specs.NormCdf.{normCdfOf, normCdfDualOf, normBy, upperOf}
 use Rattle.lists.specs.declared.refusals.Refusal.the-variants as R
-use Rattle.lists.specs.Refusals.{Outcome, served, refused, following, numberOf, answerOf, answerNumber, valueOr}
+use Rattle.lists.specs.Refusals.{Outcome, served, refused, following, firstOf, numberOf, answerOf, answerNumber, valueOr}
+use Rattle.lists.specs.Checks.{allOf, inOrder, inOrderFrom}
+use Rattle.lookups.specs.Lookups.{factorAt}
+use Rattle.formulas.specs.HullWhite.{h, bOf, forwardOf}
+use Rattle.schedules.specs.Variance.{varianceOf, piecesOf, pieceOf, weightOf}
+use Rattle.terms.specs.Terms.{coefficientsOf, bsOf, factorsAt}
 use Rattle.coupons.specs.Sum.{couponsOnto, couponSum}
 use Rattle.search.specs.Rate.{rungOf, orRung, ladderOf, movedTo, halveOf, thenHalve, halvingsOf, finish, joined, criticalOf}
 use Rattle.search.specs.Values.{Values, criticalOutcome}
 use Rattle.closedform.specs.declared.bond_option.SwaptionType.the-variants as Swaption
+use Rattle.closedform.specs.Affine.{deviationOf, affineOf, affinesOf}
 use Rattle.closedform.specs.Newton.{bondAt, sumsAfter, sumsFrom, sumsOf, stepped}
-use Rattle.valuations.specs.Value.{pricedBy}
+use Rattle.valuations.specs.Value.{pricedBy, swaptionPriced}
+use Rattle.pricers.specs.Pricer.{pricerOutcome}
 
 -- ---- the numbers that specs/Numbers.antt of `ieee` does not have
 abbrev minusZero : Float
@@ -170,3 +178,28 @@ pub payer-case : (deviation pt : Float) (ps owns : List Float) (notional side : 
     → pricedBy Swaption.Payer deviation pt (one ∷ []) (one ∷ []) (zero ∷ []) ps owns notional side ≡ refused R.FlatDerivative
 unfolding pricedBy
 payer-case deviation pt ps owns notional side = rw (rate-row .is, rate-row .rate-is, step-flat) refl
+
+-- ---- and a whole call of kind 6 with that term: no accrual, a curve of 1 throughout, and an alpha so small that exp(-alpha × (T - t)) is 1 once rounded
+abbrev tiny : Float
+tiny = decimal 1 20
+
+abbrev times : List Float
+times = one ∷ (one ⊕ h) ∷ two ∷ []
+
+abbrev variance : Float
+variance = varianceOf tiny (one ∷ []) (one ∷ []) zero one
+
+-- its term is the one above
+pub payer-term : (coefficientsOf zero (zero ∷ []) ≡ one ∷ []) × (affinesOf variance (forwardOf one one) one (zero ∷ []) (one ∷ []) ≡ one ∷ []) × (bsOf tiny one (two ∷ []) ≡ zero ∷ [])
+unfolding expOf nearestWhole seriesOf lnOf places significandOf exponentOf oddSeriesOf fusedOf coefficientsOf bsOf bOf h forwardOf varianceOf piecesOf pieceOf weightOf affinesOf affineOf decimal add sub mul div neg lt le eq isNan ofInt ofBits size
+payer-term = (refl, refl, refl)
+
+-- the rules let it through, and the curve has its times
+payer-priced : pricerOutcome Swaption.Payer tiny (one ∷ []) (one ∷ []) times (one ∷ one ∷ one ∷ []) (two ∷ []) (zero ∷ []) (zero ∷ []) zero one one one
+    ≡ pricedBy Swaption.Payer (deviationOf variance) one (coefficientsOf zero (zero ∷ [])) (affinesOf variance (forwardOf one one) one (bsOf tiny one (two ∷ [])) (one ∷ [])) (bsOf tiny one (two ∷ [])) (one ∷ []) (zero ∷ []) one one
+unfolding pricerOutcome swaptionPriced firstOf allOf inOrder inOrderFrom factorAt factorsAt h decimal add div lt le eq ne neg isNan ofBits size
+payer-priced = refl
+
+-- alpha; pillars (1, 1); curve; coupon (2, 0, 0); strike 0, option time 1, notional 1, side 1
+pub payer-call : pricerOutcome Swaption.Payer tiny (one ∷ []) (one ∷ []) times (one ∷ one ∷ one ∷ []) (two ∷ []) (zero ∷ []) (zero ∷ []) zero one one one ≡ refused R.FlatDerivative
+payer-call = payer-priced ∙ rw (payer-term .2, payer-term .1, payer-term .0) (payer-case (deviationOf variance) one (one ∷ []) (zero ∷ []) one one)
