@@ -16,7 +16,7 @@ use Rattle.bisection.specs.declared.result.Fit.{Fit}
 use Rattle.bisection.specs.Solve.{lowest, highest, sameSign, closeEnough, solveOf}
 use Rattle.bisection.specs.Tried.{triedOf}
 
--- "a halving [fixes] the rate returned": sigma is the midpoint that halving `halvings` of the ends 1e-8 and 2.0 tried
+-- "a rung number fixes the rate it names, a halving the rate returned": sigma is the midpoint that halving `halvings` of the ends 1e-8 and 2.0 tried
 pub record Converged (fit : Fit) : Type 0 where
   pub status : fit .converged ≡ true
   pub close : T (closeEnough (fit .residual))

@@ -1,7 +1,7 @@
 -- Demand 3 of every file, to the bytes that are printed: what a line with answer 0 rests on, and where a line says 10. "Once kinds 5 to 11 and the basket run, demand 3 is owed, all of it."
 use mathlib.Core.Path.{_≡_, refl, sym, ap, _∙_, subst}
 use mathlib.Core.Logic.{_⊎_, inl, inr, _↔_}
-use mathlib.Core.List.{List, [], _∷_, _++_, append-nil, List·Memᴰ, List·Memᴰ·cases-cons, List·Memᴰ·not-nil, List·Memᴰ·eq-of-singleton}
+use mathlib.Core.List.{List, [], _∷_, _++_, append-nil, List·Memᴰ, List·Memᴰ·cases-cons, List·Memᴰ·not-nil}
 use Prim.Native.Nat.{ℕ, suc, _+_, _*_, _/_, _^_, _≤_, _<_}
 use native.Mathlib.Omega.{arith}
 use borrow.Author.Tests.{eq-eqb, ne-eqb}
@@ -100,14 +100,6 @@ line-held owed k kind told b h = record { accepted = λ s. accepted (reads 0 (om
 path-line : (k answer bits note : ℕ) → answer ≤ 13 → (answer ≡ 10 → ⊥) → PathLine k (lineOf k 12 answer bits note)
 path-line k answer bits note b h = record { answer = answer; bits = bits; note = note; is = refl; never = λ s. h (says-one k 12 answer bits note 10 (small answer b) (small 10 (omega arith)) s) }
 
-one-line : (k answer bits note : ℕ) → answer ≤ 13 → (answer ≡ 10 → ⊥) → PathHeld k (lineOf k 12 answer bits note)
-unfolding joined
-one-line k answer bits note b h = record {
-  lines = lineOf k 12 answer bits note ∷ [];
-  whole = append-nil (lineOf k 12 answer bits note);
-  each = λ line m. subst (PathLine k) (sym (List·Memᴰ·eq-of-singleton m)) (path-line k answer bits note b h);
-}
-
 more-lines : (k answer bits note : ℕ) (rest : List ℕ) → answer ≤ 13 → (answer ≡ 10 → ⊥) → PathHeld k rest → PathHeld k (lineOf k 12 answer bits note ++ rest)
 unfolding joined
 more-lines k answer bits note rest b h p = record {
@@ -123,6 +115,9 @@ more-lines k answer bits note rest b h p = record {
 no-lines : (k : ℕ) → PathHeld k []
 unfolding joined
 no-lines k = record { lines = []; whole = refl; each = λ line m. absurd (List·Memᴰ·not-nil m) }
+
+one-line : (k answer bits note : ℕ) → answer ≤ 13 → (answer ≡ 10 → ⊥) → PathHeld k (lineOf k 12 answer bits note)
+one-line k answer bits note b h = subst (PathHeld k) (append-nil (lineOf k 12 answer bits note)) (more-lines k answer bits note [] b h (no-lines k))
 
 points : (k i : ℕ) (xs : List Float) → PathHeld k (pointLines k i xs)
 unfolding pointLines
