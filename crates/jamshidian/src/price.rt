@@ -54,7 +54,7 @@ fn puts(
     total
 }
 
-// The price at a sigma: A and the weights a coupon, the search, then the puts. `decay` and `deviation`
+// The price at a sigma: A a coupon, the search, then the puts. `decay` and `deviation`
 // are those of the option time, p_t its factor; c, b, drift and p are the terms' coefficients, B,
 // drifts and factors. `swaptions::terms_priced`, and `objectives::model_price` of a fit, have them of one length of at
 // most 64.
@@ -75,9 +75,7 @@ pub fn price_at(
     let n = c.len();
     let mut a = [0.0; 64];
     terms::affines(alpha, sigma, decay, b, drift, &mut a[..n]);
-    let mut w = [0.0; 64];
-    terms::weights(c, &a[..n], &mut w[..n]);
-    let found = search::critical_rate(&w[..n], b);
+    let found = terms::critical_rate(c, &a[..n], b);
     if let Critical::NotANumber = found {
         return Swaption::Refused(Refusal::NanReached);
     }
