@@ -1,5 +1,6 @@
 -- `critical::implicit::implicit_critical_rate` meets its contract: turned down by its rules, or what its search comes to; the root is where the outcome defined has it, and it wants a bracket where that one does. Assumes nothing.
 use mathlib.Core.Path.{ap}
+use native.Mathlib.Omega.{arith}
 use denote.Ref.{now}
 use Rattle.lists.specs.Refusals.{reported}
 use Rattle.critical.specs.Implicit.{noImplicit}
@@ -28,13 +29,13 @@ critical-rate-requires : tie.Need-critical-rate-requires
 critical-rate-requires c κs =
     let s = c .before .before .before .before .before .before .args in
     let fit = lists-fit (now (s .coefficients)) (now (s .affines)) (now (s .b)) (c .before .before .search-rules .ensures) (c .enum-told .given .1) in
-    (fit .0, fit .1)
+    (fit .0, omega (arith, fit .1, fit .2))
 
 stepped-requires : tie.Need-stepped-requires
 stepped-requires c κs =
     let s = c .before .before .before .before .before .before .before .args in
     let fit = lists-fit (now (s .coefficients)) (now (s .affines)) (now (s .b)) (c .before .before .before .search-rules .ensures) (c .before .enum-told .given .1) in
-    (fit .1, fit .2)
+    (omega (arith, fit .1, fit .2), omega (arith, fit .1, fit .2))
 
 returns-2 : tie.Need-returns-2
 returns-2 c =
