@@ -11,7 +11,7 @@ use Rattle.lists.specs.Faults.{curveFaults}
 use Rattle.search.specs.Reached.{Unbracketed}
 use Rattle.search.specs.Facts.{Located}
 use Rattle.terms.specs.Begun.{Begun}
-use Rattle.jamshidian.specs.Price.{Valued}
+use Rattle.jamshidian.specs.Price.{Valued, priceAt}
 use Rattle.jamshidian.specs.PricedSum.{sumOf}
 use Rattle.bisection.specs.declared.result.Fit.{Fit}
 use Rattle.bisection.specs.declared.result.Fitted.{Fitted}
@@ -19,7 +19,7 @@ use Rattle.bisection.specs.Result.{fittedOutcome}
 use Rattle.bisection.specs.Tried.{triedOf}
 use Rattle.bisection.specs.Demand3.{Assured}
 use Rattle.objectives.specs.declared.market.Quote.{Quote}
-use Rattle.objectives.specs.Objective.{capletObjective, modelPriceAt, swaptionObjective}
+use Rattle.objectives.specs.Objective.{capletObjective, swaptionObjective}
 use Rattle.calibration.specs.Fits.{capletRules, swaptionRulesOn}
 
 -- ---- caplets
@@ -55,7 +55,7 @@ module _ (quote : Quote) (alpha : Float) (ts fs payments accruals : List Float) 
   -- the search at a sigma: the price there rests on a root that is located
   pub record RootAt (b : FitBegun) (sigma : Float) : Type 0 where
     pub valued : Valued
-    pub price : modelPriceAt alpha payments accruals strike t (b .pt) (b .pPlus) (b .ps) sigma ≡ served valued
+    pub price : priceAt alpha payments accruals strike t (b .pt) (b .pPlus) (b .ps) sigma ≡ served valued
     pub located : Located (begunSum b sigma) (valued .root)
 
   pub record SwaptionAssured (fit : Fit) : Type 0 where

@@ -7,14 +7,14 @@ use Rattle.ieee.specs.Numbers.{zero}
 use Rattle.ieee.specs.Fused.{fusedOf}
 use Rattle.lists.specs.declared.refusals.Refusal.the-variants as R
 use Rattle.lists.specs.Refusals.{Outcome, served, refused, following}
-use Rattle.formulas.specs.HullWhite.{zcbOf, volatilityAt, bondPutOf}
-use Rattle.coupons.specs.Sum.{couponSum}
+use Rattle.formulas.specs.HullWhite.{bOf, forwardOf, aOf, zcbOf, volatilityOf, bondPutOf}
 use Rattle.search.specs.Rate.{criticalOf}
 use Rattle.search.specs.Values.{Values, noValues, criticalOutcome}
-use Rattle.terms.specs.Terms.{affinesOf}
+use Rattle.terms.specs.Terms.{coefficientsOf}
 use Rattle.jamshidian.specs.declared.price.Swaption.{Swaption}
 use Rattle.jamshidian.specs.declared.price.Swaption.the-variants as S
 use Rattle.jamshidian.specs.declared.price.Root.{Root}
+use Rattle.jamshidian.specs.PricedSum.{sumOf}
 
 -- a value, and where its root lies: the rate, the final bracket with its sums, the two rungs
 pub record Valued : Type 0 where
@@ -32,27 +32,26 @@ swaptionOutcome (S.Refused r) = refused r
 abbrev pub noValued : Valued
 noValued = record { value = zero; root = noValues }
 
--- a coupon's put: the bond's strike is A × exp(-B × r), its volatility sigma × B × deviation
-unfoldable pub putOf : Float → Float → Float → Float → Float → Float → Float → Float
-putOf sigma deviation pt r a b p = bondPutOf (volatilityAt sigma b deviation) (zcbOf a b r) pt p
+-- a coupon's put, `bond_put_price`: struck at the bond's price A(t, T) × exp(-B(t, T) × r), under `zcb_price_volatility`; p is the factor at T
+unfoldable pub putOf : Float → Float → Float → Float → Float → Float → Float → Float → Float
+putOf alpha t sigma forward pt r T p = bondPutOf (volatilityOf alpha sigma t T) (zcbOf (aOf alpha t sigma (bOf alpha t T) forward pt p) (bOf alpha t T) r) pt p
 
 -- the puts that are left, added to a total: coefficient × put + total, fused
-unfoldable pub putsOnto : Float → Float → Float → Float → Float → List Float → List Float → List Float → List Float → Float
-putsOnto total sigma deviation pt r [] affs bs ps = total
-putsOnto total sigma deviation pt r (c ∷ cs) [] bs ps = total
-putsOnto total sigma deviation pt r (c ∷ cs) (a ∷ affs) [] ps = total
-putsOnto total sigma deviation pt r (c ∷ cs) (a ∷ affs) (b ∷ bs) [] = total
-putsOnto total sigma deviation pt r (c ∷ cs) (a ∷ affs) (b ∷ bs) (p ∷ ps) = putsOnto (fusedOf c (putOf sigma deviation pt r a b p) total) sigma deviation pt r cs affs bs ps
+unfoldable pub putsOnto : Float → Float → Float → Float → Float → Float → Float → List Float → List Float → List Float → Float
+putsOnto total alpha t sigma forward pt r [] payments ps = total
+putsOnto total alpha t sigma forward pt r (c ∷ cs) [] ps = total
+putsOnto total alpha t sigma forward pt r (c ∷ cs) (payment ∷ payments) [] = total
+putsOnto total alpha t sigma forward pt r (c ∷ cs) (payment ∷ payments) (p ∷ ps) = putsOnto (fusedOf c (putOf alpha t sigma forward pt r payment p) total) alpha t sigma forward pt r cs payments ps
 
-unfoldable pub putsOf : Float → Float → Float → Float → List Float → List Float → List Float → List Float → Float
+unfoldable pub putsOf : Float → Float → Float → Float → Float → Float → List Float → List Float → List Float → Float
 unfolding putsOnto
-putsOf sigma deviation pt r cs affs bs ps = putsOnto zero sigma deviation pt r cs affs bs ps
+putsOf alpha t sigma forward pt r cs payments ps = putsOnto zero alpha t sigma forward pt r cs payments ps
 
--- the price at a sigma, on the terms' coefficients, B, drifts and factors: the critical rate of the priced coupon sum, then the puts at it. Refusals 9 and 10 are the search's
-unfoldable pub priceAt : Float → Float → Float → Float → Float → List Float → List Float → List Float → List Float → Outcome Valued
-priceAt alpha sigma decay deviation pt cs bs drifts ps =
-    let affs = affinesOf alpha sigma decay bs drifts in
-    following (criticalOutcome (criticalOf (couponSum cs affs bs))) (λ root. served (record { value = putsOf sigma deviation pt (root .rate) cs affs bs ps; root = root }))
+-- the price at a sigma, on the factors pt at t, pPlus at t + h and ps at the payment times: the critical rate of the priced coupon sum, then the puts at it. Refusals 9 and 10 are the search's
+unfoldable pub priceAt : Float → List Float → List Float → Float → Float → Float → Float → List Float → Float → Outcome Valued
+priceAt alpha payments accruals strike t pt pPlus ps sigma =
+    following (criticalOutcome (criticalOf (sumOf alpha t payments accruals strike sigma pt pPlus ps))) (λ root.
+    served (record { value = putsOf alpha t sigma (forwardOf pt pPlus) pt (root .rate) (coefficientsOf strike accruals) payments ps; root = root }))
 
 -- rule 13: "A float of the answer, bracket sums .. and the critical rate .. included, is not finite"
 abbrev pub finishingSwaption : Valued → Outcome Valued

@@ -1,12 +1,10 @@
 -- "The priced coupon sum at a rate", of the model's swaption: what its search evaluates, and what demand 3 of kind 5 and of the fits speaks of.
 use mathlib.Core.List.{List}
 use lib.Ieee.{Float}
-use Rattle.formulas.specs.HullWhite.{forwardOf, decayOf}
+use Rattle.formulas.specs.HullWhite.{forwardOf}
 use Rattle.coupons.specs.Sum.{couponSum}
-use Rattle.terms.specs.Terms.{coefficientsOf, bsOf, driftsOf, affinesOf}
+use Rattle.terms.specs.Terms.{coefficientsOf, bsOf, asOf}
 
 -- the priced coupon sum, as a function of the rate, of a swaption whose factors at t, t + h and the payment times are pt, pPlus and ps
 abbrev pub sumOf : Float → Float → List Float → List Float → Float → Float → Float → Float → List Float → Float → Float
-sumOf alpha t payments accruals strike sigma pt pPlus ps =
-    let bs = bsOf alpha t payments in
-    couponSum (coefficientsOf strike accruals) (affinesOf alpha sigma (decayOf alpha t) bs (driftsOf (forwardOf pt pPlus) pt bs ps)) bs
+sumOf alpha t payments accruals strike sigma pt pPlus ps = couponSum (coefficientsOf strike accruals) (asOf alpha t sigma (forwardOf pt pPlus) pt payments ps) (bsOf alpha t payments)

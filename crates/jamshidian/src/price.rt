@@ -2,7 +2,8 @@
 ghost use mathlib.Core.Path.{_≡_};
 ghost use Prim.Native.Nat.{_≤_};
 ghost use lib.ListN.{length};
-ghost use Rattle.jamshidian.specs.Price.{swaptionOutcome, putOf, putsOf, priceAt};
+ghost use Rattle.jamshidian.specs.Price.{swaptionOutcome};
+ghost use Rattle.jamshidian.specs.Ahead.{putAhead, putsAhead, priceAhead};
 use lists::Refusal;
 use search::Bracket;
 use search::Critical;
@@ -23,7 +24,7 @@ pub enum Swaption {
 
 // One coupon's bond put, struck at the bond's price at the critical rate.
 fn put(sigma: f64, deviation: f64, p_t: f64, rate: f64, a: f64, b: f64, p: f64) -> f64
-    ensures { λ r. ⌜ r ≡ putOf sigma deviation «p_t» rate a b p ⌝ }
+    ensures { λ r. ⌜ r ≡ putAhead sigma deviation «p_t» rate a b p ⌝ }
 {
     let strike = formulas::zcb_of(a, b, rate);
     formulas::bond_put_of(formulas::volatility_at(sigma, b, deviation), strike, p_t, p)
@@ -41,7 +42,7 @@ fn puts(
     p: &[f64],
 ) -> f64
     requires { ⌜ (length (now a) ≡ length (now c)) × (length (now b) ≡ length (now c)) × (length (now p) ≡ length (now c)) ⌝ }
-    ensures { λ r. ⌜ r ≡ putsOf sigma deviation «p_t» rate (now (c .entry)) (now (a .entry)) (now (b .entry)) (now (p .entry)) ⌝ }
+    ensures { λ r. ⌜ r ≡ putsAhead sigma deviation «p_t» rate (now (c .entry)) (now (a .entry)) (now (b .entry)) (now (p .entry)) ⌝ }
 {
     let mut total = 0.0;
     let mut i = 0;
@@ -53,7 +54,7 @@ fn puts(
     total
 }
 
-// The price at a sigma: A and the weights a coupon, the search, then the puts. `decay` and `deviation`
+// The price at a sigma: A a coupon, the search, then the puts. `decay` and `deviation`
 // are those of the option time, p_t its factor; c, b, drift and p are the terms' coefficients, B,
 // drifts and factors. `swaptions::terms_priced`, and `objectives::model_price` of a fit, have them of one length of at
 // most 64.
@@ -69,14 +70,12 @@ pub fn price_at(
     p: &[f64],
 ) -> Swaption
     requires { ⌜ (length (now c) ≤ 64) × (length (now b) ≡ length (now c)) × (length (now drift) ≡ length (now c)) × (length (now p) ≡ length (now c)) ⌝ }
-    ensures { λ r. ⌜ swaptionOutcome r ≡ priceAt alpha sigma decay deviation «p_t» (now (c .entry)) (now (b .entry)) (now (drift .entry)) (now (p .entry)) ⌝ }
+    ensures { λ r. ⌜ swaptionOutcome r ≡ priceAhead alpha sigma decay deviation «p_t» (now (c .entry)) (now (b .entry)) (now (drift .entry)) (now (p .entry)) ⌝ }
 {
     let n = c.len();
     let mut a = [0.0; 64];
     terms::affines(alpha, sigma, decay, b, drift, &mut a[..n]);
-    let mut w = [0.0; 64];
-    terms::weights(c, &a[..n], &mut w[..n]);
-    let found = search::critical_rate(&w[..n], b);
+    let found = terms::critical_rate(c, &a[..n], b);
     if let Critical::NotANumber = found {
         return Swaption::Refused(Refusal::NanReached);
     }

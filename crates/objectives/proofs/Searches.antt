@@ -6,30 +6,27 @@ use Rattle.ieee.specs.Rounded.{_⊖_}
 use Rattle.lists.specs.declared.refusals.Refusal.the-variants as R
 use Rattle.lists.specs.Refusals.{Outcome, served, refused, following}
 use Rattle.lists.proofs.Outcomes.{not-both, served-is}
-use Rattle.formulas.specs.HullWhite.{forwardOf, decayOf, deviationOf}
+use Rattle.formulas.specs.HullWhite.{forwardOf}
 use Rattle.search.specs.Values.{Values}
 use Rattle.search.specs.Reached.{Unbracketed}
 use Rattle.search.specs.Facts.{Located}
 use Rattle.terms.proofs.Callers.{root-located, wants-bracket, no-bracket}
-use Rattle.terms.specs.Terms.{coefficientsOf, bsOf, driftsOf, affinesOf}
+use Rattle.terms.specs.Terms.{coefficientsOf}
 use Rattle.jamshidian.specs.Price.{Valued, putsOf, priceAt}
 use Rattle.jamshidian.specs.PricedSum.{sumOf}
 use Rattle.objectives.specs.declared.market.Quote.{Quote}
 use Rattle.objectives.specs.Market.{swaptionMarketOf}
-use Rattle.objectives.specs.Objective.{valueAlone, modelPriceAt, swaptionObjective}
+use Rattle.objectives.specs.Objective.{valueAlone, swaptionObjective}
 
 module _ (quote : Quote) (alpha : Float) (payments accruals : List Float) (strike t vol pt pPlus : Float) (ps : List Float) (sigma : Float) where
-  affs : List Float
-  affs = affinesOf alpha sigma (decayOf alpha t) (bsOf alpha t payments) (driftsOf (forwardOf pt pPlus) pt (bsOf alpha t payments) ps)
-
   sum : Float → Float
   sum = sumOf alpha t payments accruals strike sigma pt pPlus ps
 
   valuedAt : Values → Outcome Valued
-  valuedAt root = served (record { value = putsOf sigma (deviationOf alpha t) pt (root .rate) (coefficientsOf strike accruals) affs (bsOf alpha t payments) ps; root = root })
+  valuedAt root = served (record { value = putsOf alpha t sigma (forwardOf pt pPlus) pt (root .rate) (coefficientsOf strike accruals) payments ps; root = root })
 
   abbrev price : Outcome Valued
-  price = modelPriceAt alpha payments accruals strike t pt pPlus ps sigma
+  price = priceAt alpha payments accruals strike t pt pPlus ps sigma
 
   abbrev objective : Outcome Float
   objective = swaptionObjective quote alpha payments accruals strike t vol pt pPlus ps sigma
@@ -44,7 +41,7 @@ module _ (quote : Quote) (alpha : Float) (payments accruals : List Float) (strik
       go (refused q) p k = absurd (not-both k)
 
   pub root-there : (v : Valued) → price ≡ served v → Located (sumOf alpha t payments accruals strike sigma pt pPlus ps) (v .root)
-  unfolding modelPriceAt priceAt affs sum valuedAt
+  unfolding priceAt sum valuedAt
   root-there v e =
       let r = root-located sum valuedAt v e in
       subst (Located sum) (ap (λ (u : Valued). u .root) (served-is (r .2))) (r .1)
@@ -59,11 +56,11 @@ module _ (quote : Quote) (alpha : Float) (payments accruals : List Float) (strik
       go (refused q) k = let z : q ≡ R.NoBracket = cc in ap refused z
 
   pub unbracketed-there : price ≡ refused R.NoBracket → Unbracketed (sumOf alpha t payments accruals strike sigma pt pPlus ps)
-  unfolding modelPriceAt priceAt affs sum valuedAt
+  unfolding priceAt sum valuedAt
   unbracketed-there e = wants-bracket sum valuedAt (λ v k. not-both (sym k)) e
 
   pub bracket-wanted : Unbracketed (sumOf alpha t payments accruals strike sigma pt pPlus ps) → objective ≡ refused R.NoBracket
-  unfolding swaptionObjective modelPriceAt priceAt affs sum valuedAt
+  unfolding swaptionObjective priceAt sum valuedAt
   bracket-wanted u =
       let e : price ≡ refused R.NoBracket = no-bracket sum valuedAt u in
       ap (λ (o : Outcome Valued). following (valueAlone o) (λ model. served (model ⊖ swaptionMarketOf quote strike t vol accruals pt ps))) e

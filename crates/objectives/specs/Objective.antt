@@ -3,9 +3,9 @@ use mathlib.Core.List.{List}
 use lib.Ieee.{Float}
 use Rattle.ieee.specs.Rounded.{_⊖_}
 use Rattle.lists.specs.Refusals.{Outcome, served, following}
-use Rattle.formulas.specs.HullWhite.{forwardOf, decayOf, deviationOf, volatilityAt, volatilityOf, bondPutOf, optionletStrikeOf, optionletOf}
-use Rattle.terms.specs.Terms.{coefficientsOf, bsOf, driftsOf}
+use Rattle.formulas.specs.HullWhite.{volatilityAt, volatilityOf, bondPutOf, optionletStrikeOf, optionletOf}
 use Rattle.jamshidian.specs.Price.{Valued, priceAt}
+use Rattle.jamshidian.specs.Ahead.{priceAhead}
 use Rattle.objectives.specs.declared.market.Quote.{Quote}
 use Rattle.objectives.specs.declared.objective.Instrument.{Instrument}
 use Rattle.objectives.specs.declared.objective.Instrument.the-variants as I
@@ -22,16 +22,10 @@ capletObjective quote alpha strike t S vol pt pS sigma =
 abbrev pub valueAlone : Outcome Valued → Outcome Float
 valueAlone o = following o (λ v. served (v .value))
 
--- `HullWhite::swaption_price` at sigma (kind 5's), on the factors pt at t, pPlus at t + h and ps at the payment times
-unfoldable pub modelPriceAt : Float → List Float → List Float → Float → Float → Float → Float → List Float → Float → Outcome Valued
-modelPriceAt alpha payments accruals strike t pt pPlus ps sigma =
-    let bs = bsOf alpha t payments in
-    priceAt alpha sigma (decayOf alpha t) (deviationOf alpha t) pt (coefficientsOf strike accruals) bs (driftsOf (forwardOf pt pPlus) pt bs ps) ps
-
--- kinds 10 and 11: that price less the market price; its refusals are the search's
+-- kinds 10 and 11: `HullWhite::swaption_price` at sigma (kind 5's) less the market price, on the factors pt at t, pPlus at t + h and ps at the payment times; its refusals are the search's
 unfoldable pub swaptionObjective : Quote → Float → List Float → List Float → Float → Float → Float → Float → Float → List Float → Float → Outcome Float
 swaptionObjective quote alpha payments accruals strike t vol pt pPlus ps sigma =
-    following (valueAlone (modelPriceAt alpha payments accruals strike t pt pPlus ps sigma)) (λ model. served (model ⊖ swaptionMarketOf quote strike t vol accruals pt ps))
+    following (valueAlone (priceAt alpha payments accruals strike t pt pPlus ps sigma)) (λ model. served (model ⊖ swaptionMarketOf quote strike t vol accruals pt ps))
 
 -- ---- on what is worked ahead
 
@@ -41,7 +35,7 @@ capletAt sigma b deviation x strike t S pt pS = optionletOf strike t S (bondPutO
 
 unfoldable pub modelPriceOf : Instrument → List Float → List Float → List Float → List Float → Float → Outcome Float
 modelPriceOf (I.Caplet b deviation x strike t S pt pS) cs bs drifts ps sigma = served (capletAt sigma b deviation x strike t S pt pS)
-modelPriceOf (I.Swaption alpha decay deviation pt) cs bs drifts ps sigma = valueAlone (priceAt alpha sigma decay deviation pt cs bs drifts ps)
+modelPriceOf (I.Swaption alpha decay deviation pt) cs bs drifts ps sigma = valueAlone (priceAhead alpha sigma decay deviation pt cs bs drifts ps)
 
 unfoldable pub objectiveOf : Instrument → Float → List Float → List Float → List Float → List Float → Float → Outcome Float
 objectiveOf instrument market cs bs drifts ps sigma = following (modelPriceOf instrument cs bs drifts ps sigma) (λ model. served (model ⊖ market))

@@ -13,13 +13,13 @@ use lib.Ieee.Scale.{finite}
 use Rattle.lists.specs.declared.refusals.Refusal.the-variants as R
 use Rattle.lists.specs.Refusals.{Outcome, served, refused, after, following}
 use Rattle.lists.proofs.Outcomes.{not-both}
-use Rattle.formulas.specs.HullWhite.{forwardOf, decayOf, deviationOf}
+use Rattle.formulas.specs.HullWhite.{forwardOf}
 use Rattle.search.specs.Rate.{criticalOf}
 use Rattle.search.specs.Values.{Values, criticalOutcome}
 use Rattle.search.specs.Reached.{Unbracketed}
 use Rattle.search.specs.Facts.{Located}
 use Rattle.terms.proofs.Callers.{Late, past-rules, searching, root-located, wants-bracket, no-bracket, ends-so, ends-otherwise}
-use Rattle.terms.specs.Terms.{coefficientsOf, bsOf, driftsOf, affinesOf}
+use Rattle.terms.specs.Terms.{coefficientsOf}
 use Rattle.terms.specs.Begun.{Begun, RootFound, WantsBracket}
 use Rattle.terms.proofs.Begun.{Searches, looked-up, looks-up}
 use Rattle.jamshidian.specs.Price.{Valued, noValued, putsOf, priceAt, finishingSwaption}
@@ -43,17 +43,14 @@ valued-then (served v) value = refl
 valued-then (refused q) value = refl
 
 module _ (alpha : Float) (payments accruals : List Float) (strike t sigma pt pPlus : Float) (ps : List Float) where
-  affs : List Float
-  affs = affinesOf alpha sigma (decayOf alpha t) (bsOf alpha t payments) (driftsOf (forwardOf pt pPlus) pt (bsOf alpha t payments) ps)
-
   sum : Float → Float
   sum = sumOf alpha t payments accruals strike sigma pt pPlus ps
 
   value : Values → Valued
-  value root = record { value = putsOf sigma (deviationOf alpha t) pt (root .rate) (coefficientsOf strike accruals) affs (bsOf alpha t payments) ps; root = root }
+  value root = record { value = putsOf alpha t sigma (forwardOf pt pPlus) pt (root .rate) (coefficientsOf strike accruals) payments ps; root = root }
 
   priced-by-search : termsPriced alpha payments accruals strike t sigma pt pPlus ps ≡ searching sum (λ root. finishingSwaption (value root))
-  unfolding termsPriced priceAt affs sum value
+  unfolding termsPriced priceAt sum value
   priced-by-search = valued-then (criticalOutcome (criticalOf sum)) value
 
   located : (v : Valued) → termsPriced alpha payments accruals strike t sigma pt pPlus ps ≡ served v → Located sum (v .root)

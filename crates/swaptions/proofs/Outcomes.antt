@@ -25,6 +25,7 @@ use Rattle.jamshidian.specs.declared.price.Swaption.{Swaption}
 use Rattle.jamshidian.specs.declared.price.Swaption.the-variants as S
 use Rattle.jamshidian.specs.declared.price.Root.{Root}
 use Rattle.jamshidian.specs.Price.{Valued, swaptionOutcome, noValued, priceAt, finishingSwaption}
+use Rattle.jamshidian.specs.Ahead.{priceAhead, price-ahead}
 use Rattle.swaptions.specs.Model.{modelRules, rulesOn, termsPriced, modelPriced, modelOutcome}
 
 -- ---- the rules do not ask where the faults come from
@@ -60,9 +61,9 @@ module _ (alpha : Float) (ts fs payments accruals : List Float) (strike t sigma 
 -- ---- the terms, each as its call worked it, and the price on them
 pub terms-are : (alpha strike t sigma pt pPlus : Float) (payments accruals ps : List Float) {cs bs ds : List Float} {forward decay deviation : Float} {o q : Outcome Valued}
     → cs ≡ coefficientsOf strike accruals → bs ≡ bsOf alpha t payments → forward ≡ forwardOf pt pPlus → ds ≡ driftsOf forward pt bs ps → decay ≡ decayOf alpha t → deviation ≡ deviationOf alpha t
-    → o ≡ priceAt alpha sigma decay deviation pt cs bs ds ps → q ≡ following o finishingSwaption → q ≡ termsPriced alpha payments accruals strike t sigma pt pPlus ps
+    → o ≡ priceAhead alpha sigma decay deviation pt cs bs ds ps → q ≡ following o finishingSwaption → q ≡ termsPriced alpha payments accruals strike t sigma pt pPlus ps
 unfolding termsPriced
-terms-are alpha strike t sigma pt pPlus payments accruals ps c b f d y v o q = rw (← c, ← b, ← f, ← d, ← y, ← v, ← o) q
+terms-are alpha strike t sigma pt pPlus payments accruals ps c b f d y v o q = rw (← price-ahead alpha payments accruals strike t pt pPlus ps sigma, ← c, ← b, ← f, ← d, ← y, ← v, ← o) q
 
 -- ---- rule 13
 abbrev pub allFinite : Float → Root → Bool

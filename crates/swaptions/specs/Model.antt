@@ -14,8 +14,8 @@ use Rattle.lists.specs.Refusals.{Outcome, served, Rule, rule, unless, following
 use Rattle.lists.specs.Checks.{allOf}
 use Rattle.lookups.specs.Lookups.{factorAt, needing}
 use Rattle.lists.specs.Faults.{curveFaults, couponFaults}
-use Rattle.formulas.specs.HullWhite.{h, forwardOf, decayOf, deviationOf}
-use Rattle.terms.specs.Terms.{coefficientsOf, bsOf, driftsOf, factorsAt}
+use Rattle.formulas.specs.HullWhite.{h}
+use Rattle.terms.specs.Terms.{factorsAt}
 use Rattle.jamshidian.specs.Price.{Valued, noValued, priceAt, finishingSwaption}
 
 -- rules 1 to 7, a line a rule; `later`: every payment time is above the option time. Rule 7 lets kind 5 have no coupons
@@ -35,9 +35,7 @@ rulesOn alpha ts fs payments accruals strike t sigma = modelRules (curveFaults t
 
 -- the terms and the price, on the factors pt at t, pPlus at t + h, and ps at the payment times
 unfoldable pub termsPriced : Float → List Float → List Float → Float → Float → Float → Float → Float → List Float → Outcome Valued
-termsPriced alpha payments accruals strike t sigma pt pPlus ps =
-    let bs = bsOf alpha t payments in
-    following (priceAt alpha sigma (decayOf alpha t) (deviationOf alpha t) pt (coefficientsOf strike accruals) bs (driftsOf (forwardOf pt pPlus) pt bs ps) ps) finishingSwaption
+termsPriced alpha payments accruals strike t sigma pt pPlus ps = following (priceAt alpha payments accruals strike t pt pPlus ps sigma) finishingSwaption
 
 -- the factors at t, t + h and the payment times, then the terms and the price
 unfoldable pub modelPriced : Float → List Float → List Float → List Float → List Float → Float → Float → Float → Outcome Valued

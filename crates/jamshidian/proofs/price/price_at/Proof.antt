@@ -1,4 +1,4 @@
--- `jamshidian::price::price_at` meets its contract: A and the weights are those of specs/, and the search over them ends in a refusal or in a rate that the puts are priced at. Assumes nothing.
+-- `jamshidian::price::price_at` meets its contract: A is that of specs/, and the search on the terms ends in a refusal or in a rate that the puts are priced at. Assumes nothing.
 use mathlib.Core.Path.{sym, _∙_}
 use mathlib.Core.List.{List}
 use lib.Ieee.{Float}
@@ -10,12 +10,9 @@ use borrow.Author.Needs.{needs}
 use Rattle.jamshidian.proofs.price.price_at.Statement.{statement}
 use Rattle.jamshidian.proofs.price.price_at.Tie as tie
 
--- ---- what was written into the lent lists
+-- what was written into the lent list
 abbrev as-of : tie.After-affines → List Float
 as-of v = v .affines .last .1 .1 .1 .1 .1 .0
-
-abbrev ws-of : tie.After-weights → List Float
-ws-of u = u .weights .last .1 .1 .0
 
 -- ---- the needs
 
@@ -29,73 +26,51 @@ affines-requires : tie.Need-affines-requires
 affines-requires c κs = let s = c .before .before .before .before .before in (sym (lent-is work _ (s .pre .0)) ∙ sym (s .pre .1), s .pre .2 ∙ sym (s .pre .1))
 
 array-share-prefix-a : tie.Need-array-share-prefix-a
-array-share-prefix-a c = let v = c .before in back-fits work _ (c .before .before .before .before .before .before .before .pre .0) (as-of v) (v .affines .kept .1 .1 .1 .1 .1 .0)
-
-slice-aggregate-weights : tie.Need-slice-aggregate-weights
-slice-aggregate-weights c = let v = c .before .before in back-is work _ (c .before .before .before .before .before .before .before .before .pre .0) (as-of v) (v .affines .kept .1 .1 .1 .1 .1 .0)
-
-array-borrow-prefix-w : tie.Need-array-borrow-prefix-w
-array-borrow-prefix-w c = search needs
-
-slice-aggregate-weights-2 : tie.Need-slice-aggregate-weights-2
-slice-aggregate-weights-2 c = lent-is work _ (c .before .before .before .before .before .before .before .before .before .pre .0)
-
-weights-requires : tie.Need-weights-requires
-weights-requires c κs =
-    let s = c .before .before .before .before .before .before .before .before .before in
-    let v = c .before .before .before in
-    (sym (lent-is work _ (s .pre .0)), sym (back-is work _ (s .pre .0) (as-of v) (v .affines .kept .1 .1 .1 .1 .1 .0)))
-
-array-share-prefix-w : tie.Need-array-share-prefix-w
-array-share-prefix-w c = let u = c .before in back-fits work _ (c .before .before .before .before .before .before .before .before .before .before .before .pre .0) (ws-of u) (u .weights .kept .1 .1 .0)
+array-share-prefix-a c = let v = c .before in back-fits work _ (v .before .before .before .before .before .before .pre .0) (as-of v) (v .affines .kept .1 .1 .1 .1 .1 .0)
 
 slice-aggregate-critical-rate : tie.Need-slice-aggregate-critical-rate
-slice-aggregate-critical-rate c = let u = c .before .before in back-is work _ (c .before .before .before .before .before .before .before .before .before .before .before .before .pre .0) (ws-of u) (u .weights .kept .1 .1 .0)
+slice-aggregate-critical-rate c = let v = c .before .before in back-is work _ (v .before .before .before .before .before .before .pre .0) (as-of v) (v .affines .kept .1 .1 .1 .1 .1 .0)
 
 critical-rate-requires : tie.Need-critical-rate-requires
-critical-rate-requires c κs = search needs
+critical-rate-requires c κs =
+    let v = c .before .before in
+    (v .before .before .before .before .before .before .pre .0, sym (back-is work _ (v .before .before .before .before .before .before .pre .0) (as-of v) (v .affines .kept .1 .1 .1 .1 .1 .0)))
 
 enum-told : tie.Need-enum-told
 enum-told c = search needs
 
 returns : tie.Need-returns
 returns c =
-    let s = c .before .before .before .before .before .before .before .before .before .before .before .before .before .before .before in
-    let v = c .before .before .before .before .before .before .before .before .before in
-    let u = c .before .before .before .before .before in
     let k = c .before .before in
-    price-is _ _ _ _ _ _ _ _ _ (values-are work _ (s .pre .0) (as-of v) (v .affines .kept .1 .1 .1 .1 .1 .0) ∙ v .affines .ensures) (values-are work _ (s .pre .0) (ws-of u) (u .weights .kept .1 .1 .0) ∙ u .weights .ensures) (k .critical-rate .ensures) Critical.NotANumber (c .enum-told .given .1)
+    let v = k .before .before .before in
+    price-is _ _ _ _ _ _ _ _ _ (values-are work _ (v .before .before .before .before .before .before .pre .0) (as-of v) (v .affines .kept .1 .1 .1 .1 .1 .0) ∙ v .affines .ensures) (k .critical-rate .ensures) Critical.NotANumber (c .enum-told .given .1)
 
 enum-known-found : tie.Need-enum-known-found
 enum-known-found c = search needs
 
 returns-2 : tie.Need-returns-2
 returns-2 c =
-    let s = c .before .before .before .before .before .before .before .before .before .before .before .before .before .before .before in
-    let v = c .before .before .before .before .before .before .before .before .before in
-    let u = c .before .before .before .before .before in
     let k = c .before .before in
-    price-is _ _ _ _ _ _ _ _ _ (values-are work _ (s .pre .0) (as-of v) (v .affines .kept .1 .1 .1 .1 .1 .0) ∙ v .affines .ensures) (values-are work _ (s .pre .0) (ws-of u) (u .weights .kept .1 .1 .0) ∙ u .weights .ensures) (k .critical-rate .ensures) Critical.NoBracket (nothing-found (k .critical-rate .result) (c .before .match .keys2) (c .match2 .keys2))
+    let v = k .before .before .before in
+    price-is _ _ _ _ _ _ _ _ _ (values-are work _ (v .before .before .before .before .before .before .pre .0) (as-of v) (v .affines .kept .1 .1 .1 .1 .1 .0) ∙ v .affines .ensures) (k .critical-rate .ensures) Critical.NoBracket (nothing-found (k .critical-rate .result) (c .before .match .keys2) (c .match2 .keys2))
 
 array-share-prefix-a-2 : tie.Need-array-share-prefix-a-2
-array-share-prefix-a-2 c = let v = c .before .before .before .before .before .before .before .before .before .before .before in back-fits work _ (c .before .before .before .before .before .before .before .before .before .before .before .before .before .before .before .before .before .pre .0) (as-of v) (v .affines .kept .1 .1 .1 .1 .1 .0)
+array-share-prefix-a-2 c = let v = c .before .before .before .before .before .before .before in back-fits work _ (v .before .before .before .before .before .before .pre .0) (as-of v) (v .affines .kept .1 .1 .1 .1 .1 .0)
 
 slice-aggregate-puts : tie.Need-slice-aggregate-puts
-slice-aggregate-puts c = let v = c .before .before .before .before .before .before .before .before .before .before .before .before in back-is work _ (c .before .before .before .before .before .before .before .before .before .before .before .before .before .before .before .before .before .before .pre .0) (as-of v) (v .affines .kept .1 .1 .1 .1 .1 .0)
+slice-aggregate-puts c = let v = c .before .before .before .before .before .before .before .before in back-is work _ (v .before .before .before .before .before .before .pre .0) (as-of v) (v .affines .kept .1 .1 .1 .1 .1 .0)
 
 puts-requires : tie.Need-puts-requires
 puts-requires c κs =
-    let s = c .before .before .before .before .before .before .before .before .before .before .before .before .before .before .before .before .before .before in
-    let v = c .before .before .before .before .before .before .before .before .before .before .before .before in
+    let v = c .before .before .before .before .before .before .before .before in
+    let s = v .before .before .before .before .before .before in
     (sym (back-is work _ (s .pre .0) (as-of v) (v .affines .kept .1 .1 .1 .1 .1 .0)), s .pre .1, s .pre .3)
 
 returns-3 : tie.Need-returns-3
 returns-3 c =
-    let s = c .before .before .before .before .before .before .before .before .before .before .before .before .before .before .before .before .before .before .before in
-    let v = c .before .before .before .before .before .before .before .before .before .before .before .before .before in
-    let u = c .before .before .before .before .before .before .before .before .before in
     let k = c .before .before .before .before .before .before in
-    rw (c .puts .ensures) (price-is _ _ _ _ _ _ _ _ _ (values-are work _ (s .pre .0) (as-of v) (v .affines .kept .1 .1 .1 .1 .1 .0) ∙ v .affines .ensures) (values-are work _ (s .pre .0) (ws-of u) (u .weights .kept .1 .1 .0) ∙ u .weights .ensures) (k .critical-rate .ensures) _ (c .before .before .before .found .given .1))
+    let v = k .before .before .before in
+    rw (c .puts .ensures) (price-is _ _ _ _ _ _ _ _ _ (values-are work _ (v .before .before .before .before .before .before .pre .0) (as-of v) (v .affines .kept .1 .1 .1 .1 .1 .0) ∙ v .affines .ensures) (k .critical-rate .ensures) _ (c .before .before .before .found .given .1))
 
 pub price-at-spec : {M : Type 1} → statement M
 price-at-spec =
@@ -105,11 +80,6 @@ price-at-spec =
     slice-aggregate-affines
     affines-requires
     array-share-prefix-a
-    slice-aggregate-weights
-    array-borrow-prefix-w
-    slice-aggregate-weights-2
-    weights-requires
-    array-share-prefix-w
     slice-aggregate-critical-rate
     critical-rate-requires
     enum-told

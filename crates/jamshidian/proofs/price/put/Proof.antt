@@ -1,5 +1,5 @@
 -- `jamshidian::price::put` meets its contract. Assumes nothing.
-use Rattle.jamshidian.specs.Price.{putOf}
+use Rattle.jamshidian.specs.Ahead.{putAhead}
 use borrow.Author.Needs.{needs}
 use Rattle.jamshidian.proofs.price.put.Statement.{statement}
 use Rattle.jamshidian.proofs.price.put.Tie as tie
@@ -14,7 +14,7 @@ bond-put-of-requires : tie.Need-bond-put-of-requires
 bond-put-of-requires c κs = search needs
 
 returns : tie.Need-returns
-unfolding putOf
+unfolding putAhead
 returns c = rw (c .bond-put-of .ensures, c .before .volatility-at .ensures, c .before .before .zcb-of .ensures)
 
 pub put-spec : {M : Type 1} → statement M

@@ -2,20 +2,20 @@
 use mathlib.Core.Path.{_≡_, refl, _∙_}
 use Prim.Native.Nat.{_-_, _≤_}
 use lib.ListN.{length, drop}
-use Rattle.jamshidian.specs.Price.{putsOnto, putsOf}
+use Rattle.jamshidian.specs.Ahead.{putsAheadOnto, putsAhead}
 use Rattle.jamshidian.proofs.Puts.{puts-on, puts-done}
 use borrow.Author.Needs.{needs}
 use Rattle.jamshidian.proofs.price.puts.Statement.{statement}
 use Rattle.jamshidian.proofs.price.puts.Tie as tie
 
 abbrev Inv-loop : tie.InvT-loop
-Inv-loop sigma deviation p-t rate c a b p total₀ i₀ total i = (i ≤ length c) × (putsOnto total sigma deviation p-t rate (drop i c) (drop i a) (drop i b) (drop i p) ≡ putsOf sigma deviation p-t rate c a b p)
+Inv-loop sigma deviation p-t rate c a b p total₀ i₀ total i = (i ≤ length c) × (putsAheadOnto total sigma deviation p-t rate (drop i c) (drop i a) (drop i b) (drop i p) ≡ putsAhead sigma deviation p-t rate c a b p)
 
 abbrev μ-loop : tie.MeasureT-loop
 μ-loop sigma deviation p-t rate c a b p total₀ i₀ total i = length c - i
 
 loop-holds : tie.Need-loop-holds Inv-loop μ-loop
-loop-holds c = (search needs, unfold putsOf in refl)
+loop-holds c = (search needs, unfold putsAhead in refl)
 
 mul-put : tie.Need-mul-put Inv-loop μ-loop
 mul-put c = search needs

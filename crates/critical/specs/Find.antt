@@ -1,0 +1,45 @@
+-- `find_critical_rate` as a call, on terms given by their coefficients, A and B: rules 1 and 2, the search of the priced coupon sum, rule 13.
+use mathlib.Core.Path.{_≡_, refl}
+use mathlib.Core.Bool.{Bool, not, _&&_, _||_, cond}
+use mathlib.Core.List.{List, [], _∷_}
+use lib.Dec.{ltb, eqb}
+use lib.ListN.{length}
+use lib.Ieee.{Float, le, isNan, ofBits}
+use lib.Ieee.Scale.{finite}
+use Rattle.lists.specs.declared.checks.Test.the-variants.{Finite}
+use Rattle.lists.specs.declared.refusals.Refusal.the-variants as R
+use Rattle.lists.specs.Refusals.{Outcome, served, refused, Rule, rule, firstOf, unless, following}
+use Rattle.lists.specs.Checks.{allOf}
+use Rattle.coupons.specs.Sum.{couponsOnto, couponSum}
+use Rattle.search.specs.Rate.{rungOf, orRung, ladderOf, joined, criticalOf}
+use Rattle.search.specs.Values.{Values, criticalOutcome}
+use Rattle.critical.specs.declared.find.CriticalRate.{CriticalRate}
+use Rattle.critical.specs.declared.find.CriticalRate.the-variants as C
+
+-- document 01's outcome for each case of the answer: the rate, the final bracket with its sums, the two rungs
+abbrev pub rateOutcome : CriticalRate → Outcome Values
+rateOutcome (C.Served rate b i j) = served (record { rate = rate; bracket = b; low-rung = i; high-rung = j })
+rateOutcome (C.Refused r) = refused r
+
+-- the rules that a call on terms meets, a line a rule. 1: "A list is over its limit, paired lists differ in length"; there are at most 64 terms, as there are coupons. 2: "An input number is NaN or infinite."
+abbrev pub searchRules : List Float → List Float → List Float → List Rule
+searchRules cs affs bs =
+    rule R.Size (ltb 64 (length cs) || not (eqb (length cs) (length affs)) || not (eqb (length cs) (length bs)))
+    ∷ rule R.NotFinite (not (allOf Finite cs && allOf Finite affs && allOf Finite bs))
+    ∷ []
+
+-- rule 13 looks at the rate, the bracket's ends and their sums
+abbrev pub finiteRoot : Values → Bool
+finiteRoot v = let b = v .bracket in finite (v .rate) && finite (b .lower) && finite (b .upper) && finite (b .«lower_sum») && finite (b .«upper_sum»)
+
+abbrev pub finishingRate : Values → Outcome Values
+finishingRate v = cond (finiteRoot v) (served v) (refused R.Overflow)
+
+-- 1 and 2, the search with 9 and 10 "in the order of its evaluations", then 13
+unfoldable pub findOutcome : List Float → List Float → List Float → Outcome Values
+findOutcome cs affs bs = unless (searchRules cs affs bs) (following (criticalOutcome (criticalOf (couponSum cs affs bs))) finishingRate)
+
+-- No terms: rule 7 is asked of coupons in other calls, not of terms here, and the sum is 0 at every rate. The lower ladder has no good rate, so the search is refused by 10.
+pub no-terms : findOutcome [] [] [] ≡ refused R.NoBracket
+unfolding findOutcome firstOf allOf criticalOf joined ladderOf orRung rungOf couponSum couponsOnto le isNan ofBits
+no-terms = refl
