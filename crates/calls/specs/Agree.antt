@@ -1,11 +1,12 @@
 -- Whether a call gives what its record expects: document 01's number, every value's bits, and what a lent output then holds.
 use Prim.Native.Nat.{ℕ}
 use mathlib.Core.Bool.{Bool, false, not, cond, _&&_}
-use mathlib.Core.List.{List, _++_}
+use mathlib.Core.List.{List, [], _++_}
 use lib.Dec.{ltb, eqb}
 use lib.ListN.{length, take, drop, replicate}
 use lib.Ieee.{Float}
-use Rattle.lists.specs.Refusals.{Outcome, served, refused, numberOf, answerNumber, answerOf, toldOutcome}
+use Rattle.lists.specs.declared.refusals.Answer.{Answer}
+use Rattle.lists.specs.Refusals.{Outcome, served, refused, numberOf, answerNumber, answerOf, valueOr, toldOutcome}
 use Rattle.quotes.specs.Utils.{Two}
 use Rattle.transitions.specs.Written.{storedOf}
 use Rattle.calls.specs.declared.record.Record.{Record}
@@ -22,9 +23,12 @@ abbrev pub tellsBothOf : Outcome Two → Record → Bool
 tellsBothOf (served two) r = eqb (r .answer) 0 && matchesOf (two .first) (r .first) && matchesOf (two .second) (r .second)
 tellsBothOf (refused q) r = eqb (numberOf q) (r .answer) && eqb (r .first) 0 && eqb (r .second) 0
 
--- a part of the caller's list
-abbrev pub reachesOf : List Float → Record → List Float → Bool
-reachesOf part r store = eqb (length part) (length (partOf store (r .first))) && hasOf store (r .first) && holdsOf part (partOf store (r .first))
+-- an answer and a part of the caller's list, empty beside a refusal
+abbrev pub partTold : Answer → List Float → ℕ → List Float → Bool
+partTold answer part number expected = eqb (answerNumber answer) number && eqb (length part) (length expected) && holdsOf part expected
+
+abbrev pub reachesOf : Outcome (List Float) → Record → List Float → Bool
+reachesOf o r store = hasOf store (r .first) && partTold (answerOf o) (valueOr [] o) (r .answer) (partOf store (r .first))
 
 -- an output of 1,026 places, none of them touched
 unfoldable pub output : List Float

@@ -1,10 +1,10 @@
 -- The call that a record names, as its own crate defines its outcome. `store` has the lists.
 use Prim.Native.Nat.{ℕ}
 use mathlib.Core.Bool.{cond}
-use mathlib.Core.List.{List, []}
+use mathlib.Core.List.{List}
 use lib.Dec.{eqb}
 use lib.Ieee.{Float}
-use Rattle.lists.specs.Refusals.{Outcome, valueOr}
+use Rattle.lists.specs.Refusals.{Outcome}
 use Rattle.options.specs.declared.options.BondOption.the-variants.{Put, Call}
 use Rattle.options.specs.Options.{bondOptionOutcome, optionletOutcome}
 use Rattle.models.specs.Curves.{bOutcome, volatilityOutcome, shortRateVarianceOutcome, aOutcome, zcbOutcome, thetaOutcome, forwardOutcome}
@@ -75,8 +75,8 @@ module _ (r : Record) (store : List Float) where
   abbrev pub volatilityCall : Outcome Float
   volatilityCall = Schedules.volatilityOutcome (partOf store (r .pillars)) (partOf store (r .sigmas)) (floatOf (r .a))
 
-  abbrev pub reachedCall : List Float
-  reachedCall = valueOr [] (Schedules.reachedOutcome (partOf store (r .pillars)) (partOf store (r .sigmas)) (floatOf (r .a)))
+  abbrev pub reachedCall : Outcome (List Float)
+  reachedCall = Schedules.reachedOutcome (partOf store (r .pillars)) (partOf store (r .sigmas)) (floatOf (r .a))
 
   -- ---- writing a list; `room` is the places of the output
   abbrev pub transitionCall : ℕ → Outcome (List Float)

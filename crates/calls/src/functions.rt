@@ -4,7 +4,7 @@ ghost use Prim.Native.Nat.{_≤_};
 ghost use Rattle.lists.specs.Refusals.{outcomeOf};
 ghost use Rattle.quotes.specs.Utils.{pairOutcome};
 ghost use Rattle.calls.specs.Calls.{onNumbersOf, onListsOf};
-ghost use Rattle.calls.specs.Agree.{tellsOf, tellsBothOf, reachesOf, malformedOf, othersOf, agreesOf};
+ghost use Rattle.calls.specs.Agree.{tellsOf, tellsBothOf, malformedOf, othersOf, agreesOf};
 use crate::curves;
 use crate::numbers;
 use crate::outputs;
@@ -85,7 +85,7 @@ fn others(function: u64, r: Record, s: &[f64]) -> bool
 {
     match function {
         18 => tells_both(numbers::d1_d2(r), r),
-        19 => reaches(pillars::pillars_reached(r, s), r, s),
+        19 => pillars::pillars_reached(r, s),
         20 => outputs::transition_variances(r, s),
         _ => outputs::generate(r, s),
     }
@@ -110,12 +110,4 @@ fn tells_both(pair: Pair, r: Record) -> bool
             (lists::number(refusal) == r.answer) & (r.first == 0) & (r.second == 0)
         }
     }
-}
-
-// Whether the part handed back is the list that the record expects. The call has no answer number.
-fn reaches(part: &[f64], r: Record, s: &[f64]) -> bool
-    ensures { λ ok. ⌜ ok ≡ reachesOf (now (part .entry)) r (now (s .entry)) ⌝ }
-{
-    let expected = store::part(s, r.first);
-    (part.len() == expected.len()) & store::has(s, r.first) & outputs::holds(part, expected)
 }

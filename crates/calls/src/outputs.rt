@@ -15,7 +15,7 @@ use lists::Answer;
 const UNTOUCHED: f64 = -7.25;
 
 // Document 01's number of an answer.
-fn number(answer: Answer) -> u64
+pub fn number(answer: Answer) -> u64
     ensures { λ r. ⌜ r ≡ answerNumber answer ⌝ }
 {
     match answer {

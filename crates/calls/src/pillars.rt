@@ -1,9 +1,14 @@
 // The calls on pillars that answer with a number, and the pillar times up to a time.
 ghost use mathlib.Core.Path.{_≡_};
-ghost use Rattle.lists.specs.Refusals.{outcomeOf};
+ghost use mathlib.Core.List.{[]};
+ghost use Rattle.lists.specs.Refusals.{outcomeOf, answerOf, valueOr};
+ghost use Rattle.schedules.specs.Parameters.{reachedOutcome};
 ghost use Rattle.calls.specs.Calls.{varianceCall, volatilityCall, reachedCall};
+ghost use Rattle.calls.specs.Agree.{partTold, reachesOf};
+use crate::outputs;
 use crate::record::Record;
 use crate::store;
+use lists::Answer;
 use lists::Price;
 
 pub fn piecewise_variance(r: Record, s: &[f64]) -> Price
@@ -28,12 +33,33 @@ pub fn volatility(r: Record, s: &[f64]) -> Price
     )
 }
 
-pub fn pillars_reached(r: Record, s: &[f64]) -> &[f64]
-    ensures { λ p. ⌜ now p ≡ reachedCall r (now (s .entry)) ⌝ }
+// Whether the pillar times up to a time are told as the record says: the answer's number, and the part.
+pub fn pillars_reached(r: Record, s: &[f64]) -> bool
+    ensures { λ ok. ⌜ ok ≡ reachesOf (reachedCall r (now (s .entry))) r (now (s .entry)) ⌝ }
 {
-    schedules::pillars_reached(
+    let expected = store::part(s, r.first);
+    let told = reaches(
         store::part(s, r.pillars),
         store::part(s, r.sigmas),
         layout::float_of(r.a),
-    )
+        r.answer,
+        expected,
+    );
+    store::has(s, r.first) & told
+}
+
+// The call hands back a struct that holds a reference, so this is proved by hand, and takes it apart.
+fn reaches(times: &[f64], sigmas: &[f64], t: f64, number: u64, expected: &[f64]) -> bool
+    ensures { λ ok. ⌜ ok ≡ partTold (answerOf (reachedOutcome (now (times .entry)) (now (sigmas .entry)) t)) (valueOr [] (reachedOutcome (now (times .entry)) (now (sigmas .entry)) t)) number (now (expected .entry)) ⌝ }
+{
+    let reached = schedules::pillars_reached(times, sigmas, t);
+    tells_part(reached.answer, reached.part, number, expected)
+}
+
+fn tells_part(answer: Answer, part: &[f64], number: u64, expected: &[f64]) -> bool
+    ensures { λ ok. ⌜ ok ≡ partTold answer (now (part .entry)) number (now (expected .entry)) ⌝ }
+{
+    (outputs::number(answer) == number)
+        & (part.len() == expected.len())
+        & outputs::holds(part, expected)
 }

@@ -1,7 +1,7 @@
--- `SameAnswer` of specs/Schedules: the pillar times up to t are refused by the rule that `volatility` answers on the same inputs, and served where it is served. Assumes nothing.
-use mathlib.Core.Path.{_≡_, refl, sym, _∙_}
+-- `ReachedIs` of specs/Parameters: the pillar times up to t are refused by the rule that `volatility` answers on the same inputs, and served where it is served. Assumes nothing.
+use mathlib.Core.Path.{_≡_, refl, sym, _∙_, ap}
 use mathlib.Core.Bool.{not, _&&_}
-use mathlib.Core.List.{List}
+use mathlib.Core.List.{List, []}
 use borrow.Author.Tests.{eqb-true, eqb-false, not-false}
 use lib.Dec.{ltb, eqb}
 use lib.ListN.{length}
@@ -10,20 +10,26 @@ use lib.Ieee.Scale.{finite}
 use Rattle.lists.specs.declared.refusals.Answer.{Answer}
 use Rattle.lists.specs.declared.refusals.Answer.the-variants as A
 use Rattle.lists.specs.declared.checks.Test.the-variants.{Finite}
-use Rattle.lists.specs.Refusals.{Outcome, answerOf, firstOf, after}
+use Rattle.lists.specs.Refusals.{Outcome, served, answerOf, answerNumber, valueOr, firstOf, after}
 use Rattle.lists.specs.Order.{NoneApplies, none-applies}
 use Rattle.lists.specs.Checks.{allOf}
 use Rattle.lists.specs.Faults.{pillarFaults}
 use Rattle.lists.proofs.Order.{both}
 use Rattle.lists.proofs.Outcomes.{neither}
+use Rattle.lookups.specs.Lookups.{upTo}
 use Rattle.lookups.proofs.Walks.{volatility-first}
 use Rattle.lookups.proofs.Laws.{volatility-passes}
-use Rattle.schedules.specs.Parameters.{rulesAt, volatilityFound, volatilityOutcome, reachedOutcome, SameAnswer}
+use Rattle.schedules.specs.Parameters.{rulesAt, volatilityFound, volatilityOutcome, reachedOutcome, ReachedIs}
 
 -- two calls under the same rules, which answer alike where the rules let them through
 alike : {B C : Type 0} (a : Answer) (o : Outcome B) (p : Outcome C) → (a ≡ A.Served → answerOf o ≡ answerOf p) → answerOf (after a o) ≡ answerOf (after a p)
 alike A.Served o p h = h refl
 alike (A.Refused r) o p h = refl
+
+-- a call that is served wherever its rules let it through has their answer
+only : {B : Type 0} (a : Answer) (v : B) → answerOf (after a (served v)) ≡ a
+only A.Served v = refl
+only (A.Refused r) v = refl
 
 module _ (ts ss : List Float) (t : Float) where
   -- where no rule applies, a sigma is found, and it is finite
@@ -37,6 +43,10 @@ module _ (ts ss : List Float) (t : Float) where
       let at = volatility-first ts ss t some (λ z. some (paired ∙ z)) in
       rw (at, volatility-passes Finite ts ss t (finites .1) at)
 
-  pub reached-answer : SameAnswer ts ss t
+  -- the answer of the rules, and the part that is handed back under it
+  pub reached-is : {answer : Answer} {part : List Float} → answer ≡ firstOf (rulesAt ts ss t) → part ≡ valueOr [] (after answer (served (upTo t ts))) → ReachedIs answer part ts ss t
   unfolding reachedOutcome volatilityOutcome
-  reached-answer = alike (firstOf (rulesAt ts ss t)) _ _ (λ h. sym (found (none-applies (rulesAt ts ss t) .0 h)))
+  reached-is e h =
+      let same : answerOf (reachedOutcome ts ss t) ≡ answerOf (volatilityOutcome ts ss t) = alike (firstOf (rulesAt ts ss t)) _ _ (λ h. sym (found (none-applies (rulesAt ts ss t) .0 h))) in
+      let is = e ∙ sym (only (firstOf (rulesAt ts ss t)) (upTo t ts)) in
+      record { answered = is; number = ap answerNumber is; asVolatility = is ∙ same; handed = h ∙ ap (λ a. valueOr [] (after a (served (upTo t ts)))) e }

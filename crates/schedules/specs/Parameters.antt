@@ -1,11 +1,12 @@
 -- parameters.rs as calls: the pillar times up to a time and the piecewise variance, and with them the volatility at a time (`vol` of hullwhitecalibration.rs), on pillars of times ts and volatilities ss.
 use mathlib.Core.Path.{_≡_}
-use mathlib.Core.List.{List}
+use mathlib.Core.List.{List, []}
 use lib.Dec.{eqb}
 use lib.ListN.{length}
 use lib.Ieee.{Float}
 use Rattle.lists.specs.declared.refusals.Refusal.the-variants as R
-use Rattle.lists.specs.Refusals.{Outcome, served, answerOf, Rule, unless, finishing}
+use Rattle.lists.specs.declared.refusals.Answer.{Answer}
+use Rattle.lists.specs.Refusals.{Outcome, served, answerOf, answerNumber, reported, Rule, unless, finishing}
 use Rattle.lookups.specs.Lookups.{required, volatilityAt, upTo}
 use Rattle.lists.specs.Faults.{pillarFaults}
 use Rattle.schedules.specs.Variance.{varianceOf}
@@ -25,9 +26,12 @@ volatilityOutcome ts ss t = unless (rulesAt ts ss t) (volatilityFound ts ss t)
 unfoldable pub reachedOutcome : List Float → List Float → Float → Outcome (List Float)
 reachedOutcome ts ss t = unless (rulesAt ts ss t) (served (upTo t ts))
 
--- a part that is handed back tells no number: it is served or refused exactly as the volatility at t is (proved in proofs/Reached.antt)
-abbrev pub SameAnswer : List Float → List Float → Float → Type 0
-SameAnswer ts ss t = answerOf (reachedOutcome ts ss t) ≡ answerOf (volatilityOutcome ts ss t)
+-- the answer and the part that are handed back, against the outcome: the answer's number is document 01's, and is that of the volatility at t (proved in proofs/Reached.antt); "any returned part empty" beside a refusal
+pub record ReachedIs (answer : Answer) (part : List Float) (ts ss : List Float) (t : Float) : Type 0 where
+  pub answered : answer ≡ answerOf (reachedOutcome ts ss t)
+  pub number : answerNumber answer ≡ reported [] (reachedOutcome ts ss t) .answer
+  pub asVolatility : answer ≡ answerOf (volatilityOutcome ts ss t)
+  pub handed : part ≡ reported [] (reachedOutcome ts ss t) .values
 
 unfoldable pub varianceOutcome : Float → List Float → List Float → Float → Float → Outcome Float
 varianceOutcome alpha ts ss start end = unless (varianceRules (pillarFaults ts ss) alpha start end) (finishing (varianceOf alpha ts ss start end))

@@ -4,6 +4,7 @@ mod parameters;
 mod rules;
 mod variance;
 
+pub use parameters::Reached;
 pub use parameters::piecewise_variance;
 pub use parameters::pillars_reached;
 pub use parameters::volatility;

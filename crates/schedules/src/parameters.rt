@@ -2,8 +2,9 @@
 // interval, and the volatility at a time (`vol` of hullwhitecalibration.rs).
 ghost use mathlib.Core.Path.{_≡_};
 ghost use mathlib.Core.List.{[]};
-ghost use Rattle.lists.specs.Refusals.{Priced, outcomeOf, valueOr};
-ghost use Rattle.schedules.specs.Parameters.{volatilityFound, volatilityOutcome, reachedOutcome, SameAnswer, varianceOutcome};
+ghost use Rattle.lists.specs.Refusals.{Priced, outcomeOf, valueOr, firstOf, after, served};
+ghost use Rattle.lookups.specs.Lookups.{upTo};
+ghost use Rattle.schedules.specs.Parameters.{rulesAt, volatilityFound, volatilityOutcome, ReachedIs, varianceOutcome};
 use super::rules;
 use super::variance;
 use lists::Answer;
@@ -31,14 +32,35 @@ fn volatility_found(times: &[f64], sigmas: &[f64], t: f64) -> Price
     lists::served(sigma)
 }
 
-// The pillar times at or before t, as a part of the caller's own list; none where the call is refused,
-// and its number is then that of `volatility` (docs/DECISIONS.md).
-pub fn pillars_reached<'a>(times: &'a [f64], sigmas: &[f64], t: f64) -> &'a [f64]
-    ensures part { λ r. ⌜ now r ≡ valueOr [] (reachedOutcome (now (times .entry)) (now (sigmas .entry)) t) ⌝ }
-    ensures answer { λ _. ⌜ SameAnswer (now (times .entry)) (now (sigmas .entry)) t ⌝ }
+// The answer of a call that hands back a part of the caller's own list: the part is empty beside a refusal.
+pub struct Reached<'a> {
+    pub answer: Answer,
+    pub part: &'a [f64],
+}
+
+// The pillar times at or before t, as a part of the caller's own list, beside the answer, which is that of
+// `volatility` on the same lists. A struct that holds a reference is proved by hand, so the work is in
+// `reached_answer` and `reached_part`.
+pub fn pillars_reached<'a>(times: &'a [f64], sigmas: &[f64], t: f64) -> Reached<'a>
+    ensures { λ r. ⌜ ReachedIs (r .answer) (now (r .part)) (now (times .entry)) (now (sigmas .entry)) t ⌝ }
+{
+    let answer = reached_answer(times, sigmas, t);
+    Reached {
+        answer,
+        part: reached_part(times, answer, t),
+    }
+}
+
+fn reached_answer(times: &[f64], sigmas: &[f64], t: f64) -> Answer
+    ensures { λ r. ⌜ r ≡ firstOf (rulesAt (now (times .entry)) (now (sigmas .entry)) t) ⌝ }
 {
     let pillars = lists::pillar_faults(times, sigmas);
-    let answer = rules::volatility_rules(pillars, times.len() == 0, t);
+    rules::volatility_rules(pillars, times.len() == 0, t)
+}
+
+fn reached_part(times: &[f64], answer: Answer, t: f64) -> &[f64]
+    ensures { λ r. ⌜ now r ≡ valueOr [] (after answer (served (upTo t (now (times .entry))))) ⌝ }
+{
     match answer {
         Answer::Refused(_) => &times[..0],
         Answer::Served => lookups::reached(times, t),

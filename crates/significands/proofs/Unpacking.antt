@@ -1,8 +1,9 @@
 -- The tests, the fields and the normalisation of `unpack`: what they give of a finite f64 is its value at full width (`fields`, `unpacked`). Assumes nothing.
 use mathlib.Core.Path.{_≡_, refl, sym, ap, _∙_, subst}
+use mathlib.Core.Logic.{inl, inr}
 use mathlib.Core.Bool.{Bool, true, false, not, cond, true≢false, false≢true}
 use Prim.Native.Nat.{ℕ, zero, suc, _+_, _-_, _*_, _/_, _%_, _^_, _≤_, _<_}
-use native.Mathlib.Nat.{le-trans, le-of-eq, lt-of-lt-of-le, lt-of-le-of-lt, lt-irrefl, mul-assoc, mul-right-comm, mul-le-mul-right, mod-eq-of-lt, mul-mod-left, add-comm}
+use native.Mathlib.Nat.{le-trans, le-of-eq, lt-of-lt-of-le, lt-of-le-of-lt, lt-irrefl, mul-assoc, mul-right-comm, mul-le-mul-right, mod-eq-of-lt, mul-mod-left, add-comm, add-zero, zero-mul, eq-zero-or-pos}
 use native.Mathlib.Omega.{arith}
 use lib.Dec.{T, lit<, lit≤, leb, eqb, eqb-refl, T-not}
 use lib.Pow.{pow-add, pow-pos, shl-lt}
@@ -37,16 +38,13 @@ finite-no-nan (fin s m e) h = tt
 
 -- ---- a number that is not 0, with its leading digit at 60
 
-module _ (n : ℕ) (h : n < 2 ^ 53) (z : n ≡ 0 → ⊥) where
+module _ (n : ℕ) (g : 0 < n) (h : n < 2 ^ 53) where
   abbrev zeros : ℕ
   zeros = leadingZeros 64 n
 
   -- j is the place of the leading digit
   at : (j : ℕ) × (zeros + suc j ≡ 64) × (2 ^ j ≤ n) × (n < 2 ^ suc j)
-  at = leading-top 64 n (pos n z) (lt-of-lt-of-le h (lit≤ tt))
-    where
-      pos : (n : ℕ) → (n ≡ 0 → ⊥) → 0 < n
-      pos n z = omega arith
+  at = leading-top 64 n g (lt-of-lt-of-le h (lit≤ tt))
 
   place : at .0 < 53
   place = pow-lt-back (at .0) 53 (lt-of-le-of-lt (at .2) h)
@@ -81,6 +79,12 @@ module _ (n : ℕ) (h : n < 2 ^ 53) (z : n ≡ 0 → ⊥) where
   exact : n * 2 ^ (zeros - 3) % 2 ^ 64 ≡ n * 2 ^ (zeros - 3)
   exact = mod-eq-of-lt (lt-of-lt-of-le under (lit≤ tt))
 
+  some : 0 < n * 2 ^ (zeros - 3)
+  some = lt-of-lt-of-le (pow-pos 60) over
+
+  pub normal-pos : 0 < n * 2 ^ (zeros - 3) % 2 ^ 64
+  normal-pos = subst (λ (x : ℕ). 0 < x) (sym exact) some
+
   even : n * 2 ^ (zeros - 3) % 2 ^ 8 ≡ 0
   even =
       ap (λ (x : ℕ). n * 2 ^ x % 2 ^ 8) (sym (join (zeros - 3) eight))
@@ -90,28 +94,29 @@ module _ (n : ℕ) (h : n < 2 ^ 53) (z : n ≡ 0 → ⊥) where
       join : (u : ℕ) → 8 ≤ u → u - 8 + 8 ≡ u
       join u h = omega arith
 
-  pub normal-value : n * 2 ^ (zeros - 3) % 2 ^ 64 * 2 ^ (64 - (zeros - 3)) ≡ n * 2 ^ 64
-  normal-value =
-      ap (λ (x : ℕ). x * 2 ^ (64 - (zeros - 3))) exact
-      ∙ mul-assoc n (2 ^ (zeros - 3)) (2 ^ (64 - (zeros - 3)))
-      ∙ ap (λ (x : ℕ). n * x) (sym (pow-add 2 (zeros - 3) (64 - (zeros - 3))) ∙ ap (λ (x : ℕ). 2 ^ x) (join (zeros - 3) (omega (arith, zeros-range .1))))
-    where
-      join : (u : ℕ) → u ≤ 64 → u + (64 - u) ≡ 64
-      join u h = omega arith
+  module _ (e : ℕ) (E : e < 2 ^ 11) where
+    pub normal-value : n * 2 ^ (zeros - 3) % 2 ^ 64 * 2 ^ (e + 63 - (zeros - 3)) ≡ n * 2 ^ (e + 63)
+    normal-value =
+        ap (λ (x : ℕ). x * 2 ^ (e + 63 - (zeros - 3))) exact
+        ∙ mul-assoc n (2 ^ (zeros - 3)) (2 ^ (e + 63 - (zeros - 3)))
+        ∙ ap (λ (x : ℕ). n * x) (sym (pow-add 2 (zeros - 3) (e + 63 - (zeros - 3))) ∙ ap (λ (x : ℕ). 2 ^ x) (join e zeros (zeros-range .1)))
+      where
+        join : (e l : ℕ) → l < 64 → l - 3 + (e + 63 - (l - 3)) ≡ e + 63
+        join e l h = omega arith
 
-  pub normal-of : Normal (n * 2 ^ (zeros - 3) % 2 ^ 64) (64 - (zeros - 3))
-  normal-of =
-      subst (λ (x : ℕ). Normal x (64 - (zeros - 3))) (sym exact)
-      (record {
-        under = under;
-        over = λ p. over;
-        zero = λ p. absurd (lt-irrefl 0 (lt-of-lt-of-le (lt-of-lt-of-le (pow-pos 60) over) (le-of-eq p)));
-        tail = even;
-        small = small (zeros - 3);
-      })
-    where
-      small : (u : ℕ) → 64 - u < 2 ^ 12
-      small u = omega arith
+    pub normal-of : Normal (n * 2 ^ (zeros - 3) % 2 ^ 64) (e + 63 - (zeros - 3))
+    normal-of =
+        subst (λ (x : ℕ). Normal x (e + 63 - (zeros - 3))) (sym exact)
+        (record {
+          under = under;
+          over = λ p. over;
+          zero = λ p. absurd (lt-irrefl 0 (lt-of-lt-of-le some (le-of-eq p)));
+          tail = even;
+          small = small e (zeros - 3) E;
+        })
+      where
+        small : (e u : ℕ) → e < 2 ^ 11 → e + 63 - u < 2 ^ 12
+        small e u h = omega arith
 
 pub normal-zero : Normal 0 0
 normal-zero = record {
@@ -235,27 +240,6 @@ module _ (x : Float) (F : T (fits binary64 x)) (p : T (finite x)) where
       place : (f : ℕ) → 0 < f → f - 1 + 64 ≡ f + 63
       place f g = omega arith
 
--- ---- a significand with its leading digit
-
-module _ (e t : ℕ) (E : e < 2 ^ 11) (D : t < 2 ^ 52) where
-  pub ordinary-value : (t + 2 ^ 52) * 2 ^ 8 * 2 ^ (e + 55) ≡ (t + 2 ^ 52) * 2 ^ (e + 63)
-  ordinary-value = mul-assoc (t + 2 ^ 52) (2 ^ 8) (2 ^ (e + 55)) ∙ ap (λ (n : ℕ). (t + 2 ^ 52) * n) (sym (pow-add 2 8 (e + 55)) ∙ ap (λ (n : ℕ). 2 ^ n) (join e))
-    where
-      join : (e : ℕ) → 8 + (e + 55) ≡ e + 63
-      join e = omega arith
-
-  pub ordinary-pos : 0 < (t + 2 ^ 52) * 2 ^ 8
-  ordinary-pos = omega arith
-
-  pub ordinary-of : Normal ((t + 2 ^ 52) * 2 ^ 8) (e + 55)
-  ordinary-of = record {
-    under = omega arith;
-    over = λ p. omega arith;
-    zero = λ p. absurd (lt-irrefl 0 (lt-of-lt-of-le ordinary-pos (le-of-eq p)));
-    tail = mul-mod-left (t + 2 ^ 52) (2 ^ 8);
-    small = omega arith;
-  }
-
 -- ---- and of `unpack`
 
 pub unpacked : (x : Float) (s u : Bool) (v m e : ℕ) → HasValue x s v (2 ^ 1138) → u ≡ s → m * 2 ^ e ≡ v → Normal m e → Unpacked x u m e
@@ -263,3 +247,43 @@ unpacked x s u v m e h p q n = record {
   value = subst (λ (t : Bool). HasValue x t (m * 2 ^ e) (2 ^ 1138)) (sym p) (subst (λ (k : ℕ). HasValue x s k (2 ^ 1138)) (sym q) h);
   normal = n;
 }
+
+-- ---- the significand of an ordinary number or a subnormal: its digits t and its leading digit l, at the place w
+
+module _ (x : Float) (s : Bool) (e t l : ℕ) (F : Fields x s e t) (L : (e ≡ 0 → l ≡ 0) × (0 < e → l ≡ 2 ^ 52)) where
+  pub whole-under : t + l < 2 ^ 53
+  whole-under = elim (eq-zero-or-pos e) [
+    | inl z ↦ low t l (F .digits) (L .0 z)
+    | inr g ↦ high t l (F .digits) (L .1 g)
+  ]
+    where
+      low : (t l : ℕ) → t < 2 ^ 52 → l ≡ 0 → t + l < 2 ^ 53
+      low t l h k = omega arith
+
+      high : (t l : ℕ) → t < 2 ^ 52 → l ≡ 2 ^ 52 → t + l < 2 ^ 53
+      high t l h k = omega arith
+
+  pub whole-zero : t + l ≡ 0 → Unpacked x s 0 0
+  whole-zero h = elim (eq-zero-or-pos e) [
+    | inl z ↦ unpacked x s s (t * 2 ^ 64) 0 0 (F .low z) refl (sym (ap (λ (n : ℕ). n * 2 ^ 64) (none t l h) ∙ zero-mul (2 ^ 64))) normal-zero
+    | inr g ↦ absurd (some t l (L .1 g) h)
+  ]
+    where
+      none : (t l : ℕ) → t + l ≡ 0 → t ≡ 0
+      none t l h = omega arith
+
+      some : (t l : ℕ) → l ≡ 2 ^ 52 → t + l ≡ 0 → ⊥
+      some t l k h = omega arith
+
+  module _ (w : ℕ) (W : (e ≡ 0 → w ≡ 1) × (0 < e → w ≡ e)) where
+    pub whole-place : w < 2 ^ 11
+    whole-place = elim (eq-zero-or-pos e) [
+      | inl z ↦ subst (λ (n : ℕ). n < 2 ^ 11) (sym (W .0 z)) (lit< tt)
+      | inr g ↦ subst (λ (n : ℕ). n < 2 ^ 11) (sym (W .1 g)) (F .field)
+    ]
+
+    pub whole-value : HasValue x s ((t + l) * 2 ^ (w + 63)) (2 ^ 1138)
+    whole-value = elim (eq-zero-or-pos e) [
+      | inl z ↦ rw (L .0 z, W .0 z, add-zero t) (F .low z)
+      | inr g ↦ rw (L .1 g, W .1 g) (F .high g)
+    ]

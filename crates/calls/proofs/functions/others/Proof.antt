@@ -10,7 +10,7 @@ use Rattle.lists.specs.Refusals.{Outcome}
 use Rattle.quotes.specs.Utils.{Two}
 use Rattle.calls.specs.declared.record.Record.{Record}
 use Rattle.calls.specs.Calls.{generateCall}
-use Rattle.calls.specs.Agree.{output, tellsBothOf, reachesOf, writesOf, othersOf}
+use Rattle.calls.specs.Agree.{output, tellsBothOf, writesOf, othersOf}
 use borrow.Author.Needs.{needs}
 use Rattle.calls.proofs.functions.others.Statement.{statement}
 use Rattle.calls.proofs.functions.others.Tie as tie
@@ -38,9 +38,6 @@ tells-both-requires c κs = search needs
 pillars-reached-requires : tie.Need-pillars-reached-requires
 pillars-reached-requires c κs = search needs
 
-reaches-requires : tie.Need-reaches-requires
-reaches-requires c κs = search needs
-
 transition-variances-requires : tie.Need-transition-variances-requires
 transition-variances-requires c κs = search needs
 
@@ -53,7 +50,7 @@ returns c = let r = c .before .before .before .before .args .r in named _ 18 (c 
 
 returns-2 : tie.Need-returns-2
 unfolding othersOf
-returns-2 c = let a = c .before .before .before .before .args in named _ 19 (c .before .before .before .before .args .r) (now (c .before .before .before .before .args .s)) _ (c .before .before .match .keys2) (c .reaches .ensures ∙ ap (λ (l : List Float). reachesOf l (a .r) (now (a .s))) (c .before .pillars-reached .ensures))
+returns-2 c = named _ 19 (c .before .before .before .args .r) (now (c .before .before .before .args .s)) _ (c .before .match .keys2) (c .pillars-reached .ensures)
 
 returns-3 : tie.Need-returns-3
 unfolding othersOf
@@ -69,7 +66,6 @@ others-spec =
     d1-d2-requires
     tells-both-requires
     pillars-reached-requires
-    reaches-requires
     transition-variances-requires
     generate-requires
     returns

@@ -1,4 +1,4 @@
--- `calls::pillars::pillars_reached` meets its contract: the call's arguments are those of the record. Assumes nothing.
+-- `calls::pillars::pillars_reached` meets its contract: the call's arguments are those of the record, and so is what is expected. Assumes nothing.
 use borrow.Author.Needs.{needs}
 use Rattle.calls.proofs.pillars.pillars_reached.Statement.{statement}
 use Rattle.calls.proofs.pillars.pillars_reached.Tie as tie
@@ -9,16 +9,29 @@ part-requires c κs = search needs
 part-requires-2 : tie.Need-part-requires-2
 part-requires-2 c κs = search needs
 
+part-requires-3 : tie.Need-part-requires-3
+part-requires-3 c κs = search needs
+
 float-of-requires : tie.Need-float-of-requires
 float-of-requires c κs = search needs
 
-pillars-reached-requires : tie.Need-pillars-reached-requires
-pillars-reached-requires c κs = search needs
+reaches-requires : tie.Need-reaches-requires
+reaches-requires c κs = search needs
+
+has-requires : tie.Need-has-requires
+has-requires c κs = search needs
 
 returns : tie.Need-returns
-returns c = rw (c .pillars-reached .ensures .0, c .before .float-of .ensures, c .before .before .part2 .ensures, c .before .before .before .part .ensures)
+returns c = rw (c .has .ensures, c .before .reaches .ensures, c .before .before .float-of .ensures, c .before .before .before .part3 .ensures, c .before .before .before .before .part2 .ensures, c .before .before .before .before .before .part .ensures)
 
 pub pillars-reached-spec : {M : Type 1} → statement M
 pillars-reached-spec =
     tie.close
-    (tie.spec part-requires part-requires-2 float-of-requires pillars-reached-requires returns)
+    (tie.spec
+    part-requires
+    part-requires-2
+    part-requires-3
+    float-of-requires
+    reaches-requires
+    has-requires
+    returns)
