@@ -1,3 +1,5 @@
 -- In what order, and on what grounds, calls are refused.
+pub mod Places
 pub mod Order
+pub mod Stages
 pub mod Grounds
