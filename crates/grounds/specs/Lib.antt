@@ -2,4 +2,6 @@
 pub mod Places
 pub mod Order
 pub mod Stages
+pub mod Steps
+pub mod Calls
 pub mod Grounds

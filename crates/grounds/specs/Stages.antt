@@ -50,7 +50,7 @@ module _ {W B : Type 0} (rules : List Rule) (found : Outcome (List Float)) (work
 -- ---- the law: it is so of every call whose stages refuse by their own refusals alone
 
 -- the rules are those that stand before rule 8
-abbrev allRules : List Rule → Bool
+abbrev pub allRules : List Rule → Bool
 allRules [] = true
 allRules (x ∷ xs) = ltb (placeOf (x .refusal)) (placeOf R.OffCurve) && allRules xs
 
