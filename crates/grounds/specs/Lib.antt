@@ -4,4 +4,5 @@ pub mod Order
 pub mod Stages
 pub mod Steps
 pub mod Calls
+pub mod Searches
 pub mod Grounds
