@@ -5,4 +5,5 @@ pub mod Stages
 pub mod Steps
 pub mod Calls
 pub mod Searches
+pub mod Evaluations
 pub mod Grounds
