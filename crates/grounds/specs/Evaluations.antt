@@ -6,16 +6,19 @@ use mathlib.Core.List.{List, [], _∷_, _++_, map}
 use Prim.Native.Nat.{ℕ, suc}
 use Prim.Native.Nat as Nat
 use lib.Dec.{T}
-use lib.ListN.{drop}
-use lib.Ieee.{Float, isNan}
-use lib.Ieee.Scale.{finite}
-use Rattle.ieee.specs.Rounded.{_⊕_}
-use Rattle.elementary.specs.Simple.{midpointOf}
+use lib.ListN.{length, drop}
+use lib.Ieee.{Float, isNan, lt}
+use Rattle.ieee.specs.Rounded.{_⊖_, _⊗_, _⊘_}
+use Rattle.elementary.specs.Simple.{absOf}
+use Rattle.lists.specs.declared.checks.Test.the-variants.{Zero}
 use Rattle.lists.specs.declared.refusals.Refusal.{Refusal}
 use Rattle.lists.specs.declared.refusals.Refusal.the-variants as R
 use Rattle.lists.specs.declared.refusals.Answer.{Answer}
 use Rattle.lists.specs.declared.refusals.Answer.the-variants as A
 use Rattle.lists.specs.Refusals.{Outcome, served, refused, answerOf, firstOf, after, following}
+use Rattle.lists.specs.Checks.{allOf}
+use Rattle.lists.proofs.Outcomes.{not-both, served-is}
+use Rattle.coupons.specs.Sum.{couponSum}
 use Rattle.search.specs.Rate.{good, criticalOf}
 use Rattle.search.specs.Values.{Values, criticalOutcome}
 use Rattle.search.specs.Reached.{ladderRates, upToGood, fromGood, midpoints, onceBoth, reached, someNan, someGood, hasGood, Exactly}
@@ -25,6 +28,19 @@ use Rattle.bisection.specs.declared.result.Fit.{Fit}
 use Rattle.bisection.specs.Solve.{lowest, highest, sameSign, closeEnough, residualAt, movedTo, halvingsFrom, endsOf, solveOf}
 use Rattle.bisection.specs.Tried.{triedFrom, triedOf}
 use Rattle.bisection.proofs.Steps.{mid, Met, stopped, close, away, met, last-stopped, last-served, halving-stopped, halving-close, halving-away, tried-last, tried-stopped, tried-close, tried-away, Begun, low-stopped, high-stopped, alike, apart, begun, solve-low, solve-high, solve-alike, solve-apart, tried-apart}
+use Rattle.jamshidian.specs.Price as Model
+use Rattle.jamshidian.specs.Price.{priceAt}
+use Rattle.jamshidian.specs.PricedSum.{sumOf}
+use Rattle.closedform.specs.declared.bond_option.SwaptionType.{SwaptionType}
+use Rattle.closedform.specs.Newton.{flatLimit, sumsOf, stepped}
+use Rattle.closedform.specs.Components.{componentsOf}
+use Rattle.valuations.specs.Value.{Valued}
+use Rattle.objectives.specs.declared.market.Quote.{Quote}
+use Rattle.objectives.specs.Market.{swaptionMarketOf}
+use Rattle.objectives.specs.Objective.{valueAlone, modelPriceAt, swaptionObjective}
+use Rattle.entries.specs.Entries.{Entry, entriesOf, rulesOn}
+use Rattle.baskets.specs.Basket.{fitOf, Records, withFit, fitsOf, Bumps, bumpOf, withBump, bumpsOf, basketFrom, fittedBasket, basketOf}
+use Rattle.grounds.specs.Searches.{searchAndStep}
 
 -- ---- the first answer that is a refusal
 unfoldable pub firstRefused : List Answer → Answer
@@ -247,3 +263,114 @@ module _ (f : Float → Outcome Float) where
           ∙ sym (ap (λ (x : Answer). firstRefused (x ∷ mids)) (signs-are p q ∙ ap (refusedWhere R.NoSignChange) s))
           ∙ passes highest (signsAnswer ∷ mids) q
           ∙ passes lowest (residualAnswer highest ∷ signsAnswer ∷ mids) p
+
+-- ---- kinds 5, 10 and 11: the price at a sigma is refused as its search is
+module _ (alpha : Float) (payments accruals : List Float) (strike t pt pPlus : Float) (ps : List Float) (sigma : Float) where
+  -- the priced coupon sum, as a function of the rate
+  abbrev pub pricedSum : Float → Float
+  pricedSum = sumOf alpha t payments accruals strike sigma pt pPlus ps
+
+  as-its-search : {B : Type 0} (o : Outcome Values) (made : Values → B) → answerOf (following o (λ root. served (made root))) ≡ answerOf o
+  as-its-search (served root) made = refl
+  as-its-search (refused r) made = refl
+
+  pub price-in-order : answerOf (modelPriceAt alpha payments accruals strike t pt pPlus ps sigma) ≡ firstRefused (searchAnswers pricedSum)
+  unfolding modelPriceAt priceAt
+  price-in-order = as-its-search (criticalOutcome (criticalOf pricedSum)) _ ∙ search-in-order pricedSum
+
+  pub objective-in-order : (quote : Quote) (vol : Float) → answerOf (swaptionObjective quote alpha payments accruals strike t vol pt pPlus ps sigma) ≡ firstRefused (searchAnswers pricedSum)
+  unfolding swaptionObjective
+  objective-in-order quote vol = go (modelPriceAt alpha payments accruals strike t pt pPlus ps sigma) ∙ price-in-order
+    where
+      go : (o : Outcome Model.Valued) → answerOf (following (valueAlone o) (λ model. served (model ⊖ swaptionMarketOf quote strike t vol accruals pt ps))) ≡ answerOf o
+      go (served v) = refl
+      go (refused r) = refl
+
+-- ---- kinds 6 and 7: the search, then the Newton step
+both-steps : {C : Type 0} (o : Outcome Values) (flat : Values → Bool) (next : Values → Float) (made : Values → Float → C)
+    → answerOf (following o (λ root. following (cond (flat root) (refused R.FlatDerivative) (served (next root))) (λ s. served (made root s)))) ≡ then (answerOf o) (firstRefused (onto o (λ root. refusedWhere R.FlatDerivative (flat root)) ∷ []))
+unfolding then firstRefused
+both-steps (refused r) flat next made = refl
+both-steps {C = C} (served root) flat next made = go (flat root)
+  where
+    go : (b : Bool) → answerOf (following (cond b (refused R.FlatDerivative) (served (next root))) (λ s. served (made root s))) ≡ firstRefused (refusedWhere R.FlatDerivative b ∷ [])
+    go true = refl
+    go false = refl
+
+module _ (option : SwaptionType) (deviation pt : Float) (cs affs bs ps owns : List Float) (notional side : Float) where
+  -- 11: "The critical-rate derivative is below 1e-14 in size"
+  abbrev pub stepAnswer : Answer
+  stepAnswer = onto (criticalOutcome (criticalOf (couponSum cs affs bs))) (λ root. refusedWhere R.FlatDerivative (lt (absOf (sumsOf (root .rate) cs affs bs .derivative)) flatLimit))
+
+  pub step-in-order : answerOf (searchAndStep option deviation pt cs affs bs ps owns notional side) ≡ firstRefused (searchAnswers (couponSum cs affs bs) ++ (stepAnswer ∷ []))
+  unfolding stepped
+  step-in-order =
+      both-steps (criticalOutcome (criticalOf (couponSum cs affs bs))) (λ root. lt (absOf (sumsOf (root .rate) cs affs bs .derivative)) flatLimit) (λ root. root .rate ⊖ sumsOf (root .rate) cs affs bs .objective ⊘ sumsOf (root .rate) cs affs bs .derivative)
+      (λ root s. record { value = componentsOf option (not (allOf Zero owns)) deviation pt s cs affs bs ps owns ⊗ notional ⊗ side; after-step = s; root = root })
+      ∙ ap (λ (a : Answer). then a (firstRefused (stepAnswer ∷ []))) (search-in-order (couponSum cs affs bs))
+      ∙ sym (joined (searchAnswers (couponSum cs affs bs)) (stepAnswer ∷ []))
+
+-- ---- a basket: "All fits run, then all bumped fits, 13 being met at each one's end; the first refusal refuses the basket."
+module _ (alpha : Float) (xs fs : List Float) where
+  abbrev pub fitAnswer : Entry → Answer
+  fitAnswer e = answerOf (fitOf alpha xs fs e (e .vol))
+
+  -- a bumped fit, beside the sigma fitted
+  abbrev pub bumpAnswer : Entry → Answer
+  bumpAnswer e = onto (fitOf alpha xs fs e (e .vol)) (λ v. answerOf (bumpOf alpha xs fs e (v .sigma)))
+
+  abbrev pub basketAnswers : List Entry → List Answer
+  basketAnswers es = map fitAnswer es ++ map bumpAnswer es
+
+  one-more : {B C : Type 0} (o : Outcome B) (p : Outcome C) {D : Type 0} (made : B → C → D) → answerOf (following o (λ v. following p (λ w. served (made v w)))) ≡ then (answerOf o) (answerOf p)
+  unfolding then
+  one-more (served v) (served w) made = refl
+  one-more (served v) (refused r) made = refl
+  one-more (refused r) p made = refl
+
+  fits-in-order : (es : List Entry) → answerOf (fitsOf alpha xs fs es) ≡ firstRefused (map fitAnswer es)
+  unfolding fitsOf
+  fits-in-order [] = unfold firstRefused in refl
+  fits-in-order (e ∷ es) = one-more (fitOf alpha xs fs e (e .vol)) (fitsOf alpha xs fs es) withFit ∙ ap (then (fitAnswer e)) (fits-in-order es) ∙ sym (first-then (fitAnswer e) (map fitAnswer es))
+
+  bumps-in-order : (es : List Entry) (rs : Records) → fitsOf alpha xs fs es ≡ served rs → answerOf (bumpsOf alpha xs fs es (rs .sigmas)) ≡ firstRefused (map bumpAnswer es)
+  unfolding fitsOf bumpsOf
+  bumps-in-order [] rs k = unfold firstRefused in refl
+  bumps-in-order (e ∷ es) rs k = go (fitOf alpha xs fs e (e .vol)) (fitsOf alpha xs fs es) refl refl k (bumps-in-order es)
+    where
+      go : (o : Outcome Fit) (p : Outcome Records) → fitOf alpha xs fs e (e .vol) ≡ o → fitsOf alpha xs fs es ≡ p → following o (λ v. following p (λ qs. served (withFit v qs))) ≡ served rs
+          → ((qs : Records) → fitsOf alpha xs fs es ≡ served qs → answerOf (bumpsOf alpha xs fs es (qs .sigmas)) ≡ firstRefused (map bumpAnswer es)) → answerOf (bumpsOf alpha xs fs (e ∷ es) (rs .sigmas)) ≡ firstRefused (bumpAnswer e ∷ map bumpAnswer es)
+      go (refused r) p a b z on = absurd (not-both z)
+      go (served v) (refused r) a b z on = absurd (not-both z)
+      go (served v) (served qs) a b z on =
+          ap (λ (ws : Records). answerOf (bumpsOf alpha xs fs (e ∷ es) (ws .sigmas))) (sym (served-is z))
+          ∙ one-more (bumpOf alpha xs fs e (v .sigma)) (bumpsOf alpha xs fs es (qs .sigmas)) (withBump (v .sigma))
+          ∙ ap (then (answerOf (bumpOf alpha xs fs e (v .sigma)))) (on qs b)
+          ∙ sym (first-then (answerOf (bumpOf alpha xs fs e (v .sigma))) (map bumpAnswer es))
+          ∙ ap (λ (o : Outcome Fit). firstRefused (onto o (λ w. answerOf (bumpOf alpha xs fs e (w .sigma))) ∷ map bumpAnswer es)) (sym a)
+
+  fitted-in-order : (es : List Entry) → answerOf (fittedBasket alpha xs fs es) ≡ firstRefused (basketAnswers es)
+  unfolding fittedBasket then
+  fitted-in-order es = go (fitsOf alpha xs fs es) refl (fits-in-order es) ∙ sym (joined (map fitAnswer es) (map bumpAnswer es))
+    where
+      bumped : (rs : Records) (o : Outcome Bumps) → answerOf (following o (λ bs. served (basketFrom (length es) rs bs))) ≡ answerOf o
+      bumped rs (served bs) = refl
+      bumped rs (refused r) = refl
+
+      go : (o : Outcome Records) → fitsOf alpha xs fs es ≡ o → answerOf o ≡ firstRefused (map fitAnswer es)
+          → answerOf (following o (λ rs. following (bumpsOf alpha xs fs es (rs .sigmas)) (λ bs. served (basketFrom (length es) rs bs)))) ≡ then (firstRefused (map fitAnswer es)) (firstRefused (map bumpAnswer es))
+      go (served rs) a k = bumped rs (bumpsOf alpha xs fs es (rs .sigmas)) ∙ bumps-in-order es rs a ∙ ap (λ (x : Answer). then x (firstRefused (map bumpAnswer es))) k
+      go (refused r) a k = ap (λ (x : Answer). then x (firstRefused (map bumpAnswer es))) k
+
+  -- the rules over all entries first
+  pub basket-in-order : (ns : List Bool) (ks ts ends vs : List Float)
+      → answerOf (basketOf alpha xs fs ns ks ts ends vs) ≡ firstRefused (firstOf (rulesOn alpha xs fs ns ks ts ends vs) ∷ basketAnswers (entriesOf ns ks ts ends vs))
+  unfolding basketOf
+  basket-in-order ns ks ts ends vs = go (firstOf (rulesOn alpha xs fs ns ks ts ends vs)) (fittedBasket alpha xs fs es) ∙ ap (then (firstOf (rulesOn alpha xs fs ns ks ts ends vs))) (fitted-in-order es) ∙ sym (first-then (firstOf (rulesOn alpha xs fs ns ks ts ends vs)) (basketAnswers es))
+    where
+      es : List Entry
+      es = entriesOf ns ks ts ends vs
+
+      go : {B : Type 0} (a : Answer) (o : Outcome B) → answerOf (after a o) ≡ then a (answerOf o)
+      go A.Served o = unfold then in refl
+      go (A.Refused r) o = unfold then in refl
