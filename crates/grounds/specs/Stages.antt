@@ -54,11 +54,11 @@ abbrev pub allRules : List Rule → Bool
 allRules [] = true
 allRules (x ∷ xs) = ltb (placeOf (x .refusal)) (placeOf R.OffCurve) && allRules xs
 
+taken : (b : Bool) (x y : Stage) → T b → cond b x y ≡ x
+taken true x y h = refl
+
 early : (r : Refusal) → T (ltb (placeOf r) (placeOf R.OffCurve)) → stageOf r ≡ by-rule
-early r h = go (ltb (placeOf r) (placeOf R.OffCurve)) h
-  where
-    go : (b : Bool) → T b → cond b by-rule (cond (eqb (placeOf r) (placeOf R.OffCurve)) off-curve (cond (ltb (placeOf r) (placeOf R.Overflow)) evaluated finished)) ≡ by-rule
-    go true k = refl
+early r h = taken (ltb (placeOf r) (placeOf R.OffCurve)) by-rule _ h
 
 ruled : (r : Refusal) (xs : List Rule) → T (allRules xs) → First r xs → stageOf r ≡ by-rule
 ruled r [] k f = absurd f
