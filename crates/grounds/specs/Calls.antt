@@ -5,14 +5,13 @@ use mathlib.Core.List.{List, [], _∷_}
 use Prim.Native.Nat.{ℕ}
 use borrow.Author.Tests.{eqb-true, eqb-false, not-false}
 use lib.Dec.{ltb, eqb}
-use lib.ListN.{length, take, drop}
+use lib.ListN.{length, take}
 use lib.Ieee.{Float, lt}
 use lib.Ieee.Scale.{finite}
-use Rattle.ieee.specs.Rounded.{_⊕_, _⊖_, _⊗_}
+use Rattle.ieee.specs.Rounded.{_⊕_, _⊖_}
 use Rattle.ieee.specs.Numbers.{zero, two}
 use Rattle.ieee.specs.Fused.{fusedOf}
-use Rattle.lists.specs.declared.checks.Test.the-variants.{Finite, Zero}
-use Rattle.lists.specs.declared.refusals.Refusal.{Refusal}
+use Rattle.lists.specs.declared.checks.Test.the-variants.{Finite}
 use Rattle.lists.specs.declared.refusals.Refusal.the-variants as R
 use Rattle.lists.specs.declared.refusals.Answer.the-variants as A
 use Rattle.lists.specs.Refusals.{Outcome, served, refused, Rule, firstOf, unless, following, prepend, finishing}
@@ -54,23 +53,23 @@ finite-only v = finishing-only (finite v) v
 -- ---- kinds 1 to 4
 pub optionlet-met : (option : BondOption) (alpha : Float) (ts fs : List Float) (strike t S sigma : Float)
     → Met (optionRules (curveFaults ts fs) alpha t S sigma strike) (factorsAt ts fs (t ∷ S ∷ []))
-      (λ ps. served (optionletOf strike t S (bondOptionOf option (volatilityOf alpha sigma t S) (optionletStrikeOf strike t S) (nth 0 ps) (nth 1 ps)))) finishing
-      (optionletOutcome option alpha ts fs strike t S sigma)
+    (λ ps. served (optionletOf strike t S (bondOptionOf option (volatilityOf alpha sigma t S) (optionletStrikeOf strike t S) (nth 0 ps) (nth 1 ps)))) finishing
+    (optionletOutcome option alpha ts fs strike t S sigma)
 unfolding optionletOutcome optionletPriced factorsAt
 optionlet-met option alpha ts fs strike t S sigma =
     plain _ _ _ _ _ tt (λ z. factors-only ts fs (t ∷ S ∷ [])) finite-only
     (ap (λ (o : Outcome Float). unless (optionRules (curveFaults ts fs) alpha t S sigma strike) o)
-      (two-and (factorAt ts fs t) (factorAt ts fs S) (served []) (λ p q ps. finishing (optionletOf strike t S (bondOptionOf option (volatilityOf alpha sigma t S) (optionletStrikeOf strike t S) p q)))))
+    (two-and (factorAt ts fs t) (factorAt ts fs S) (served []) (λ p q ps. finishing (optionletOf strike t S (bondOptionOf option (volatilityOf alpha sigma t S) (optionletStrikeOf strike t S) p q)))))
 
 pub bond-option-met : (option : BondOption) (alpha : Float) (ts fs : List Float) (t T strike sigma : Float)
     → Met (optionRules (curveFaults ts fs) alpha t T sigma strike) (factorsAt ts fs (t ∷ T ∷ []))
-      (λ ps. served (bondOptionOf option (volatilityOf alpha sigma t T) strike (nth 0 ps) (nth 1 ps))) finishing
-      (bondOptionOutcome option alpha ts fs t T strike sigma)
+    (λ ps. served (bondOptionOf option (volatilityOf alpha sigma t T) strike (nth 0 ps) (nth 1 ps))) finishing
+    (bondOptionOutcome option alpha ts fs t T strike sigma)
 unfolding bondOptionOutcome bondOptionPriced factorsAt
 bond-option-met option alpha ts fs t T strike sigma =
     plain _ _ _ _ _ tt (λ z. factors-only ts fs (t ∷ T ∷ [])) finite-only
     (ap (λ (o : Outcome Float). unless (optionRules (curveFaults ts fs) alpha t T sigma strike) o)
-      (two-and (factorAt ts fs t) (factorAt ts fs T) (served []) (λ p q ps. finishing (bondOptionOf option (volatilityOf alpha sigma t T) strike p q))))
+    (two-and (factorAt ts fs t) (factorAt ts fs T) (served []) (λ p q ps. finishing (bondOptionOf option (volatilityOf alpha sigma t T) strike p q))))
 
 -- ---- the other formulas of hullwhitemodel.rs
 pub b-met : (alpha t T : Float) → Met (optionRules noFaults alpha t T zero zero) noTimes (λ ps. served (bOf alpha t T)) finishing (Curves.bOutcome alpha t T)
@@ -87,23 +86,23 @@ short-rate-variance-met alpha t T sigma = plain _ _ _ _ _ tt (λ z. never []) fi
 
 pub a-met : (alpha : Float) (ts fs : List Float) (t T sigma : Float)
     → Met (optionRules (curveFaults ts fs) alpha t T sigma zero) (factorsAt ts fs (t ∷ T ∷ (t ⊕ h) ∷ []))
-      (λ ps. served (aOf alpha t sigma (bOf alpha t T) (forwardOf (nth 0 ps) (nth 2 ps)) (nth 0 ps) (nth 1 ps))) finishing
-      (Curves.aOutcome alpha ts fs t T sigma)
+    (λ ps. served (aOf alpha t sigma (bOf alpha t T) (forwardOf (nth 0 ps) (nth 2 ps)) (nth 0 ps) (nth 1 ps))) finishing
+    (Curves.aOutcome alpha ts fs t T sigma)
 unfolding Curves.aOutcome Curves.aPriced factorsAt
 a-met alpha ts fs t T sigma =
     plain _ _ _ _ _ tt (λ z. factors-only ts fs (t ∷ T ∷ (t ⊕ h) ∷ [])) finite-only
     (ap (λ (o : Outcome Float). unless (optionRules (curveFaults ts fs) alpha t T sigma zero) o)
-      (three (factorAt ts fs t) (factorAt ts fs T) (factorAt ts fs (t ⊕ h)) (λ p q r. finishing (aOf alpha t sigma (bOf alpha t T) (forwardOf p r) p q))))
+    (three (factorAt ts fs t) (factorAt ts fs T) (factorAt ts fs (t ⊕ h)) (λ p q r. finishing (aOf alpha t sigma (bOf alpha t T) (forwardOf p r) p q))))
 
 pub zcb-met : (alpha : Float) (ts fs : List Float) (r t T sigma : Float)
     → Met (optionRules (curveFaults ts fs) alpha t T sigma r) (factorsAt ts fs (t ∷ T ∷ (t ⊕ h) ∷ []))
-      (λ ps. served (zcbOf (aOf alpha t sigma (bOf alpha t T) (forwardOf (nth 0 ps) (nth 2 ps)) (nth 0 ps) (nth 1 ps)) (bOf alpha t T) r)) finishing
-      (Curves.zcbOutcome alpha ts fs r t T sigma)
+    (λ ps. served (zcbOf (aOf alpha t sigma (bOf alpha t T) (forwardOf (nth 0 ps) (nth 2 ps)) (nth 0 ps) (nth 1 ps)) (bOf alpha t T) r)) finishing
+    (Curves.zcbOutcome alpha ts fs r t T sigma)
 unfolding Curves.zcbOutcome Curves.zcbPriced factorsAt
 zcb-met alpha ts fs r t T sigma =
     plain _ _ _ _ _ tt (λ z. factors-only ts fs (t ∷ T ∷ (t ⊕ h) ∷ [])) finite-only
     (ap (λ (o : Outcome Float). unless (optionRules (curveFaults ts fs) alpha t T sigma r) o)
-      (three (factorAt ts fs t) (factorAt ts fs T) (factorAt ts fs (t ⊕ h)) (λ p q s. finishing (zcbOf (aOf alpha t sigma (bOf alpha t T) (forwardOf p s) p q) (bOf alpha t T) r))))
+    (three (factorAt ts fs t) (factorAt ts fs T) (factorAt ts fs (t ⊕ h)) (λ p q s. finishing (zcbOf (aOf alpha t sigma (bOf alpha t T) (forwardOf p s) p q) (bOf alpha t T) r))))
 
 pub forward-met : (ts fs : List Float) (t : Float)
     → Met (forwardRules (curveFaults ts fs) t) (factorsAt ts fs (t ∷ (t ⊕ h) ∷ [])) (λ ps. served (forwardOf (nth 0 ps) (nth 1 ps))) finishing (Curves.forwardOutcome ts fs t)
@@ -122,7 +121,7 @@ module _ (alpha : Float) (ts fs : List Float) (t sigma : Float) where
 
   theta-looked : (back : Bool)
       → needing (factorAt ts fs t) (λ p. needing (factorAt ts fs (t ⊕ h)) (λ q.
-        cond back (needing (factorAt ts fs (t ⊖ h)) (λ r. finishing (thetaOn true p q r))) (needing (factorAt ts fs (fusedOf two h t)) (λ r. finishing (thetaOn false p q r)))))
+      cond back (needing (factorAt ts fs (t ⊖ h)) (λ r. finishing (thetaOn true p q r))) (needing (factorAt ts fs (fusedOf two h t)) (λ r. finishing (thetaOn false p q r)))))
       ≡ following (factorsAt ts fs (thetaTimes back)) (λ ps. finishing (thetaOn back (nth 0 ps) (nth 1 ps) (nth 2 ps)))
   unfolding factorsAt
   theta-looked true = three (factorAt ts fs t) (factorAt ts fs (t ⊕ h)) (factorAt ts fs (t ⊖ h)) (λ p q r. finishing (thetaOn true p q r))
@@ -137,7 +136,7 @@ module _ (alpha : Float) (ts fs : List Float) (t sigma : Float) where
 -- ---- utils.rs
 pub d1-d2-met : (fwd strike vol tau : Float)
     → Met (quoteRules true fwd strike vol tau) noTimes (λ ps. served (record { first = d1Of fwd strike vol tau; second = d2Of vol tau (d1Of fwd strike vol tau) }))
-      (λ (v : Two). cond (finite (v .first) && finite (v .second)) (served v) (refused R.Overflow)) (d1d2Outcome fwd strike vol tau)
+    (λ (v : Two). cond (finite (v .first) && finite (v .second)) (served v) (refused R.Overflow)) (d1d2Outcome fwd strike vol tau)
 unfolding d1d2Outcome d1d2Worked
 d1-d2-met fwd strike vol tau = plain _ _ _ _ _ tt (λ z. never []) (λ v. finishing-only (finite (v .first) && finite (v .second)) v) refl
 

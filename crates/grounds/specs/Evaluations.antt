@@ -1,4 +1,4 @@
--- "A search or fit meets 8 to 12 in the order of its evaluations." Rule 8 stands before all of them (specs/Searches.antt); 9 to 12 do not come by their places: a fit may meet 10 at 1e-8, and another may be past that and meet 9 at 2.0. Here the evaluations of a search, of a valuation, of a fit and of a basket are listed in order, each with what it answers, and the first that refuses is what the whole answers.
+-- "A search or fit meets 8 to 12 in the order of its evaluations." Every time that a call needs is looked up before the first of them (specs/Searches.antt), so that 8 stands before 9 to 12; among themselves 9 to 12 do not come by their places: a fit that meets 10 at 1e-8 is refused so, though 9 may wait at 2.0. Here the evaluations of a search, of a valuation, of a fit and of a basket are listed in order, each with what it answers: the first of these answers that is a refusal is what the whole answers.
 use mathlib.Core.Path.{_≡_, refl, sym, _∙_, ap, subst}
 use mathlib.Core.Logic.{_⊎_, inl, inr}
 use mathlib.Core.Bool.{Bool, true, false, not, _&&_, _||_, cond}
@@ -21,11 +21,11 @@ use Rattle.lists.proofs.Outcomes.{not-both, served-is}
 use Rattle.coupons.specs.Sum.{couponSum}
 use Rattle.search.specs.Rate.{good, criticalOf}
 use Rattle.search.specs.Values.{Values, criticalOutcome}
-use Rattle.search.specs.Reached.{ladderRates, upToGood, fromGood, midpoints, onceBoth, reached, someNan, someGood, hasGood, Exactly}
+use Rattle.search.specs.Reached.{ladderRates, upToGood, fromGood, midpoints, onceBoth, reached, someNan, someGood, hasGood}
 use Rattle.search.proofs.Reaching.{exactly}
 use Rattle.bisection.specs.declared.halving.Ends.{Ends}
 use Rattle.bisection.specs.declared.result.Fit.{Fit}
-use Rattle.bisection.specs.Solve.{lowest, highest, sameSign, closeEnough, residualAt, movedTo, halvingsFrom, endsOf, solveOf}
+use Rattle.bisection.specs.Solve.{lowest, highest, sameSign, residualAt, movedTo, halvingsFrom, endsOf, solveOf}
 use Rattle.bisection.specs.Tried.{triedFrom, triedOf}
 use Rattle.bisection.proofs.Steps.{mid, Met, stopped, close, away, met, last-stopped, last-served, halving-stopped, halving-close, halving-away, tried-last, tried-stopped, tried-close, tried-away, Begun, low-stopped, high-stopped, alike, apart, begun, solve-low, solve-high, solve-alike, solve-apart, tried-apart}
 use Rattle.jamshidian.specs.Price as Model
@@ -181,9 +181,9 @@ module _ (sum : Float → Float) where
           joined (map sumAt lows) (map sumAt highs ++ (bracketOf ∷ map sumAt mids))
           ∙ ap (λ (a : Answer). then a (firstRefused (map sumAt highs ++ (bracketOf ∷ map sumAt mids)))) (sums-first lows)
           ∙ ap (then (refusedWhere R.NanReached (someNan sum lows)))
-            (joined (map sumAt highs) (bracketOf ∷ map sumAt mids)
-            ∙ ap (λ (a : Answer). then a (firstRefused (bracketOf ∷ map sumAt mids))) (sums-first highs)
-            ∙ ap (then (refusedWhere R.NanReached (someNan sum highs))) (first-then bracketOf (map sumAt mids) ∙ ap (then bracketOf) (sums-first mids)))
+          (joined (map sumAt highs) (bracketOf ∷ map sumAt mids)
+          ∙ ap (λ (a : Answer). then a (firstRefused (bracketOf ∷ map sumAt mids))) (sums-first highs)
+          ∙ ap (then (refusedWhere R.NanReached (someNan sum highs))) (first-then bracketOf (map sumAt mids) ∙ ap (then bracketOf) (sums-first mids)))
 
 -- ---- a fit: the residuals at 1e-8 and at 2.0, their signs, the residuals at the midpoints
 module _ (f : Float → Outcome Float) where

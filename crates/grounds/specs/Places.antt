@@ -1,9 +1,9 @@
--- A refusal's place in the order of refusals. "A number says nothing about its place."
+-- A refusal's place in the order of refusals.
 use Prim.Native.Nat.{ℕ}
 use Rattle.lists.specs.declared.refusals.Refusal.{Refusal}
 use Rattle.lists.specs.declared.refusals.Refusal.the-variants as R
 
--- The order of the numbers is 1, 17, 2, 3, 4, 5, 6, 14, 16, 7, 15, 8, 9, 10, 11, 12, 13, 18: places 2, 8, 9, 11 and 18 are kept for numbers to come.
+-- the refusal's place in the order in which refusals are met, of which its number says nothing: with the numbers 14 to 18, whose places are left free, the order is 1, 17, 2, 3, 4, 5, 6, 14, 16, 7, 15, 8, 9, 10, 11, 12, 13, 18
 abbrev pub placeOf : Refusal → ℕ
 placeOf R.Size = 1
 placeOf R.NotFinite = 3

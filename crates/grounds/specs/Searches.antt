@@ -19,7 +19,7 @@ use Rattle.formulas.specs.HullWhite.{h, forwardOf}
 use Rattle.schedules.specs.Variance.{varianceOf}
 use Rattle.coupons.specs.Sum.{couponSum}
 use Rattle.search.specs.Rate.{criticalOf}
-use Rattle.search.specs.Values.{Values, criticalOutcome}
+use Rattle.search.specs.Values.{criticalOutcome}
 use Rattle.terms.specs.Terms.{coefficientsOf, bsOf, factorsAt}
 use Rattle.jamshidian.specs.Price as Model
 use Rattle.jamshidian.specs.Price.{priceAt, finishingSwaption}

@@ -3,8 +3,6 @@ use mathlib.Core.Path.{_≡_, refl, sym, _∙_, ap, subst}
 use mathlib.Core.Logic.{_↔_, inl, inr}
 use mathlib.Core.Bool.{Bool, true, cond, _&&_}
 use mathlib.Core.List.{List, [], _∷_}
-use Prim.Native.Nat.{ℕ}
-use native.Mathlib.Omega.{arith}
 use lib.Dec.{T, ltb, eqb}
 use lib.Ieee.{Float}
 use lib.Ieee.Fits.{and-l, and-r}
@@ -18,9 +16,13 @@ use Rattle.grounds.specs.Places.{placeOf}
 
 -- ---- the stages of a call, and the stage of a refusal, which its place decides
 pub data Stage : Type 0 where
+  -- rules 1 to 7
   by-rule : Stage
+  -- 8
   off-curve : Stage
+  -- 9 to 12
   evaluated : Stage
+  -- 13
   finished : Stage
 
 abbrev pub stageOf : Refusal → Stage
