@@ -41,11 +41,7 @@ use Rattle.paths.specs.Generate.{startsBelow, pathRules, generateOutcome}
 use Rattle.terms.specs.Terms.{factorsAt}
 use Rattle.objectives.specs.Market.{annuityOnto, annuityOf}
 use Rattle.grounds.specs.Stages.{off-curve, finished, Only, Met}
-use Rattle.grounds.specs.Steps.{nth, never, finishing-only, required-only, needing-only, prepend-only, factors-only, two-and, three, plain}
-
--- a call that needs no time
-abbrev pub noTimes : Outcome (List Float)
-noTimes = served []
+use Rattle.grounds.specs.Steps.{nth, noTimes, never, finishing-only, required-only, needing-only, prepend-only, factors-only, two-and, three, plain}
 
 finite-only : (v : Float) → Only finished (finishing v)
 finite-only v = finishing-only (finite v) v

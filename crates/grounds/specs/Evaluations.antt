@@ -8,7 +8,7 @@ use Prim.Native.Nat as Nat
 use lib.Dec.{T}
 use lib.ListN.{length, drop}
 use lib.Ieee.{Float, isNan, lt}
-use Rattle.ieee.specs.Rounded.{_⊖_, _⊗_, _⊘_}
+use Rattle.ieee.specs.Rounded.{_⊖_, _⊗_}
 use Rattle.elementary.specs.Simple.{absOf}
 use Rattle.lists.specs.declared.checks.Test.the-variants.{Zero}
 use Rattle.lists.specs.declared.refusals.Refusal.{Refusal}
@@ -34,7 +34,6 @@ use Rattle.jamshidian.specs.PricedSum.{sumOf}
 use Rattle.closedform.specs.declared.bond_option.SwaptionType.{SwaptionType}
 use Rattle.closedform.specs.Newton.{flatLimit, sumsOf, stepped}
 use Rattle.closedform.specs.Components.{componentsOf}
-use Rattle.valuations.specs.Value.{Valued}
 use Rattle.objectives.specs.declared.market.Quote.{Quote}
 use Rattle.objectives.specs.Market.{swaptionMarketOf}
 use Rattle.objectives.specs.Objective.{valueAlone, modelPriceAt, swaptionObjective}
@@ -287,28 +286,35 @@ module _ (alpha : Float) (payments accruals : List Float) (strike t pt pPlus : F
       go (refused r) = refl
 
 -- ---- kinds 6 and 7: the search, then the Newton step
-both-steps : {C : Type 0} (o : Outcome Values) (flat : Values → Bool) (next : Values → Float) (made : Values → Float → C)
-    → answerOf (following o (λ root. following (cond (flat root) (refused R.FlatDerivative) (served (next root))) (λ s. served (made root s)))) ≡ then (answerOf o) (firstRefused (onto o (λ root. refusedWhere R.FlatDerivative (flat root)) ∷ []))
-unfolding then firstRefused
-both-steps (refused r) flat next made = refl
-both-steps {C = C} (served root) flat next made = go (flat root)
-  where
-    go : (b : Bool) → answerOf (following (cond b (refused R.FlatDerivative) (served (next root))) (λ s. served (made root s))) ≡ firstRefused (refusedWhere R.FlatDerivative b ∷ [])
-    go true = refl
-    go false = refl
-
-module _ (option : SwaptionType) (deviation pt : Float) (cs affs bs ps owns : List Float) (notional side : Float) where
+module _ (cs affs bs : List Float) where
   -- 11: "The critical-rate derivative is below 1e-14 in size"
   abbrev pub stepAnswer : Answer
   stepAnswer = onto (criticalOutcome (criticalOf (couponSum cs affs bs))) (λ root. refusedWhere R.FlatDerivative (lt (absOf (sumsOf (root .rate) cs affs bs .derivative)) flatLimit))
 
-  pub step-in-order : answerOf (searchAndStep option deviation pt cs affs bs ps owns notional side) ≡ firstRefused (searchAnswers (couponSum cs affs bs) ++ (stepAnswer ∷ []))
-  unfolding stepped
-  step-in-order =
-      both-steps (criticalOutcome (criticalOf (couponSum cs affs bs))) (λ root. lt (absOf (sumsOf (root .rate) cs affs bs .derivative)) flatLimit) (λ root. root .rate ⊖ sumsOf (root .rate) cs affs bs .objective ⊘ sumsOf (root .rate) cs affs bs .derivative)
-      (λ root s. record { value = componentsOf option (not (allOf Zero owns)) deviation pt s cs affs bs ps owns ⊗ notional ⊗ side; after-step = s; root = root })
-      ∙ ap (λ (a : Answer). then a (firstRefused (stepAnswer ∷ []))) (search-in-order (couponSum cs affs bs))
-      ∙ sym (joined (searchAnswers (couponSum cs affs bs)) (stepAnswer ∷ []))
+  abbrev pub stepAnswers : List Answer
+  stepAnswers = searchAnswers (couponSum cs affs bs) ++ (stepAnswer ∷ [])
+
+  -- whatever is made of the root and the rate after the step
+  module _ {C : Type 0} (made : Values → Float → C) where
+    stepping : (o : Outcome Values) → answerOf (following o (λ root. following (stepped (root .rate) (sumsOf (root .rate) cs affs bs)) (λ s. served (made root s))))
+        ≡ then (answerOf o) (firstRefused (onto o (λ root. refusedWhere R.FlatDerivative (lt (absOf (sumsOf (root .rate) cs affs bs .derivative)) flatLimit)) ∷ []))
+    unfolding stepped then firstRefused
+    stepping (refused r) = refl
+    stepping (served root) = go (lt (absOf (sumsOf (root .rate) cs affs bs .derivative)) flatLimit) _
+      where
+        go : (b : Bool) (next : Float) → answerOf (following (cond b (refused R.FlatDerivative) (served next)) (λ s. served (made root s))) ≡ firstRefused (refusedWhere R.FlatDerivative b ∷ [])
+        go true next = refl
+        go false next = refl
+
+    pub steps-in-order : answerOf (following (criticalOutcome (criticalOf (couponSum cs affs bs))) (λ root. following (stepped (root .rate) (sumsOf (root .rate) cs affs bs)) (λ s. served (made root s)))) ≡ firstRefused stepAnswers
+    steps-in-order =
+        stepping (criticalOutcome (criticalOf (couponSum cs affs bs)))
+        ∙ ap (λ (a : Answer). then a (firstRefused (stepAnswer ∷ []))) (search-in-order (couponSum cs affs bs))
+        ∙ sym (joined (searchAnswers (couponSum cs affs bs)) (stepAnswer ∷ []))
+
+pub valuation-in-order : (option : SwaptionType) (deviation pt : Float) (cs affs bs ps owns : List Float) (notional side : Float) → answerOf (searchAndStep option deviation pt cs affs bs ps owns notional side) ≡ firstRefused (stepAnswers cs affs bs)
+valuation-in-order option deviation pt cs affs bs ps owns notional side =
+    steps-in-order cs affs bs (λ root s. record { value = componentsOf option (not (allOf Zero owns)) deviation pt s cs affs bs ps owns ⊗ notional ⊗ side; after-step = s; root = root })
 
 -- ---- a basket: "All fits run, then all bumped fits, 13 being met at each one's end; the first refusal refuses the basket."
 module _ (alpha : Float) (xs fs : List Float) where

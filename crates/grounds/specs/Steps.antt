@@ -25,6 +25,10 @@ use Rattle.grounds.specs.Stages.{Stage, off-curve, evaluated, finished, 
 abbrev pub nth : ℕ → List Float → Float
 nth i ps = getD ps i nan
 
+-- a call that needs no time
+abbrev pub noTimes : Outcome (List Float)
+noTimes = served []
+
 -- ---- what refuses by a stage's refusals alone
 module _ {B : Type 0} {s : Stage} where
   pub never : (v : B) → Only s (served v)
