@@ -1,7 +1,7 @@
--- Demand 1, "the FIRST refusal in document 01's order": the rules of every call stand in the order of document 01's numbers, so that the first of them that applies has the smallest number of all that apply.
+-- Demand 1, "the FIRST refusal in document 01's order": the rules of every call stand in the order of their refusals' places, so that the first of them that applies has the smallest place of all that apply.
 use mathlib.Core.Path.{_≡_, refl, _∙_, ap, sym, subst}
 use mathlib.Core.Logic.{inl, inr}
-use mathlib.Core.Bool.{Bool, true, false, _&&_, true≢false}
+use mathlib.Core.Bool.{Bool, true, _&&_, true≢false}
 use mathlib.Core.List.{List, [], _∷_, List·Memᴰ, List·Memᴰ·cases-cons, List·Memᴰ·not-nil}
 use Prim.Native.Nat.{ℕ, _≤_, _<_}
 use native.Mathlib.Omega.{arith}
@@ -12,7 +12,8 @@ use Rattle.lists.specs.declared.refusals.Refusal.{Refusal}
 use Rattle.lists.specs.declared.refusals.Answer.{Answer}
 use Rattle.lists.specs.declared.refusals.Answer.the-variants as A
 use Rattle.lists.specs.declared.curves.Faults.{Faults}
-use Rattle.lists.specs.Refusals.{Outcome, refused, numberOf, answerNumber, answerOf, Rule, firstOf, after, unless}
+use Rattle.lists.specs.Refusals.{Outcome, refused, Rule, firstOf, after, unless}
+use Rattle.grounds.specs.Places.{placeOf}
 use Rattle.lists.specs.Order.{First, NoneApplies, first-applies, none-applies}
 use Rattle.quotes.specs.Rules.{quoteRules, annuityRules}
 use Rattle.schedules.specs.Rules.{varianceRules, volatilityRules}
@@ -26,36 +27,36 @@ use Rattle.objectives.specs.declared.market.Quote.{Quote}
 use Rattle.calibration.specs.Fits.{capletRules, swaptionRules}
 use Rattle.entries.specs.Entries.{basketRules}
 
--- numbers that rise from rule to rule, all above n
+-- places that rise from rule to rule, all above n
 abbrev rising : ℕ → List Rule → Bool
 rising n [] = true
-rising n (x ∷ xs) = ltb n (numberOf (x .refusal)) && rising (numberOf (x .refusal)) xs
+rising n (x ∷ xs) = ltb n (placeOf (x .refusal)) && rising (placeOf (x .refusal)) xs
 
 abbrev pub InOrder : List Rule → Type 0
 InOrder rules = T (rising 0 rules)
 
--- ---- of rules in order, the one that turns a call down has the smallest number of those that apply
-above : (n : ℕ) (rules : List Rule) → T (rising n rules) → (x : Rule) → List·Memᴰ x rules → n < numberOf (x .refusal)
+-- ---- of rules in order, the one that turns a call down has the smallest place of those that apply
+above : (n : ℕ) (rules : List Rule) → T (rising n rules) → (x : Rule) → List·Memᴰ x rules → n < placeOf (x .refusal)
 above n [] k x m = absurd (List·Memᴰ·not-nil m)
 above n (y ∷ ys) k x m =
-    let l = ltb→lt n (numberOf (y .refusal)) (and-l (ltb n (numberOf (y .refusal))) (rising (numberOf (y .refusal)) ys) k) in
+    let l = ltb→lt n (placeOf (y .refusal)) (and-l (ltb n (placeOf (y .refusal))) (rising (placeOf (y .refusal)) ys) k) in
     elim (List·Memᴰ·cases-cons m) [
-      | inl e ↦ subst (λ (z : Rule). n < numberOf (z .refusal)) (sym e) l
-      | inr t ↦ let h = above (numberOf (y .refusal)) ys (and-r (ltb n (numberOf (y .refusal))) (rising (numberOf (y .refusal)) ys) k) x t in omega arith
+      | inl e ↦ subst (λ (z : Rule). n < placeOf (z .refusal)) (sym e) l
+      | inr t ↦ let h = above (placeOf (y .refusal)) ys (and-r (ltb n (placeOf (y .refusal))) (rising (placeOf (y .refusal)) ys) k) x t in omega arith
     ]
 
-least : (r : Refusal) (n : ℕ) (rules : List Rule) → T (rising n rules) → First r rules → (x : Rule) → List·Memᴰ x rules → x .applies ≡ true → numberOf r ≤ numberOf (x .refusal)
+least : (r : Refusal) (n : ℕ) (rules : List Rule) → T (rising n rules) → First r rules → (x : Rule) → List·Memᴰ x rules → x .applies ≡ true → placeOf r ≤ placeOf (x .refusal)
 least r n [] k f x m a = absurd f
 least r n (y ∷ ys) k (inl h) x m a = elim (List·Memᴰ·cases-cons m) [
-  | inl e ↦ let p = ap (λ (z : Rule). numberOf (z .refusal)) e in let q = ap numberOf (h .1) in omega arith
-  | inr t ↦ let q = ap numberOf (h .1) in let l = above (numberOf (y .refusal)) ys (and-r (ltb n (numberOf (y .refusal))) (rising (numberOf (y .refusal)) ys) k) x t in omega arith
+  | inl e ↦ let p = ap (λ (z : Rule). placeOf (z .refusal)) e in let q = ap placeOf (h .1) in omega arith
+  | inr t ↦ let q = ap placeOf (h .1) in let l = above (placeOf (y .refusal)) ys (and-r (ltb n (placeOf (y .refusal))) (rising (placeOf (y .refusal)) ys) k) x t in omega arith
 ]
 least r n (y ∷ ys) k (inr h) x m a = elim (List·Memᴰ·cases-cons m) [
   | inl e ↦ absurd (true≢false (sym a ∙ ap (λ (z : Rule). z .applies) e ∙ h .0))
-  | inr t ↦ least r (numberOf (y .refusal)) ys (and-r (ltb n (numberOf (y .refusal))) (rising (numberOf (y .refusal)) ys) k) (h .1) x t a
+  | inr t ↦ least r (placeOf (y .refusal)) ys (and-r (ltb n (placeOf (y .refusal))) (rising (placeOf (y .refusal)) ys) k) (h .1) x t a
 ]
 
-pub smallest : (rules : List Rule) → InOrder rules → (r : Refusal) → firstOf rules ≡ A.Refused r → (x : Rule) → List·Memᴰ x rules → x .applies ≡ true → numberOf r ≤ numberOf (x .refusal)
+pub smallest : (rules : List Rule) → InOrder rules → (r : Refusal) → firstOf rules ≡ A.Refused r → (x : Rule) → List·Memᴰ x rules → x .applies ≡ true → placeOf r ≤ placeOf (x .refusal)
 smallest rules k r e x m a = least r 0 rules k (first-applies r rules .0 e) x m a
 
 -- ---- the same of a call: whether a rule refuses it or what comes behind the rules, where none of them applies
@@ -67,15 +68,16 @@ none-of (y ∷ ys) k x m a = elim (List·Memᴰ·cases-cons m) [
 ]
 
 by-answer : {B : Type 0} (answer : Answer) (rules : List Rule) → InOrder rules → firstOf rules ≡ answer → (rest : Outcome B) (r : Refusal) → after answer rest ≡ refused r
-    → (x : Rule) → List·Memᴰ x rules → x .applies ≡ true → numberOf r ≤ numberOf (x .refusal)
+    → (x : Rule) → List·Memᴰ x rules → x .applies ≡ true → placeOf r ≤ placeOf (x .refusal)
 by-answer A.Served rules k e rest r h x m a = absurd (none-of rules (none-applies rules .0 e) x m a)
 by-answer {B = B} (A.Refused q) rules k e rest r h x m a =
-    let n = ap (λ (o : Outcome B). answerNumber (answerOf o)) h in
+    let n : q ≡ r = cc in
+    let p = ap placeOf n in
     let l = smallest rules k q e x m a in
     omega arith
 
 pub call-smallest : {B : Type 0} (rules : List Rule) → InOrder rules → (rest : Outcome B) (r : Refusal) → unless rules rest ≡ refused r
-    → (x : Rule) → List·Memᴰ x rules → x .applies ≡ true → numberOf r ≤ numberOf (x .refusal)
+    → (x : Rule) → List·Memᴰ x rules → x .applies ≡ true → placeOf r ≤ placeOf (x .refusal)
 call-smallest rules k rest r h = by-answer (firstOf rules) rules k refl rest r h
 
 -- ---- the rules of every call
