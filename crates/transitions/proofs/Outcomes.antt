@@ -1,16 +1,22 @@
--- What transition variances that their rules let through know: the steps fit the working list and the output. Assumes nothing.
+-- What transition variances that their rules let through know: the steps fit the working list and the output; and what the writing of a worked list comes to. Assumes nothing.
 use mathlib.Core.Path.{_≡_, sym, _∙_}
-use mathlib.Core.Bool.{Bool, _||_}
+use mathlib.Core.Bool.{Bool, true, false, not, cond, _||_}
+use mathlib.Core.List.{List, _++_}
 use Prim.Native.Nat.{ℕ, _≤_}
 use borrow.Author.Tests.{ltb-false}
 use lib.Dec.{ltb}
+use lib.ListN.{length, drop}
 use lib.Ieee.{Float}
 use Rattle.lists.specs.declared.curves.Faults.{Faults}
 use Rattle.lists.specs.declared.refusals.Answer.{Answer}
 use Rattle.lists.specs.declared.refusals.Answer.the-variants as A
-use Rattle.lists.specs.Refusals.{firstOf}
+use Rattle.lists.specs.declared.checks.Test.the-variants.{Finite}
+use Rattle.lists.specs.declared.refusals.Refusal.the-variants as R
+use Rattle.lists.specs.Checks.{allOf}
+use Rattle.lists.specs.Refusals.{rule, andRule, answerOf, firstOf}
 use Rattle.lists.specs.Order.{none-applies}
 use Rattle.lists.proofs.Outcomes.{neither}
+use Rattle.transitions.specs.Written.{storedOf, finishingList}
 use Rattle.transitions.specs.Transition.{transitionRules}
 
 -- ---- rule 1 did not apply
@@ -21,3 +27,14 @@ steps-fit pillars empty alpha steps room timeStep e h =
     let two = neither (pillars .size || ltb 1024 steps) (ltb room steps) (none .0) in
     let one = neither (pillars .size) (ltb 1024 steps) (two .0) in
     (ltb-false 1024 steps (one .1), ltb-false room steps (two .1))
+
+-- ---- rule 13 of a worked list: its answer, and what its output holds
+pub finished-answer : (fine : Bool) (xs : List Float) → fine ≡ allOf Finite xs → andRule A.Served (rule R.Overflow (not fine)) ≡ answerOf (finishingList xs)
+unfolding andRule
+finished-answer true xs e = rw (← e)
+finished-answer false xs e = rw (← e)
+
+pub finished-output : (fine : Bool) (xs out : List Float) {written : List Float} → fine ≡ allOf Finite xs → written ≡ cond fine (xs ++ drop (length xs) out) out
+    → written ≡ storedOf (finishingList xs) out
+finished-output true xs out e q = rw (← e) q
+finished-output false xs out e q = rw (← e) q

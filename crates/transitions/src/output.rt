@@ -1,5 +1,6 @@
 // The writing of a list that was worked, last of all.
 ghost use mathlib.Core.Path.{_≡_};
+ghost use mathlib.Core.Bool.{cond};
 ghost use mathlib.Core.List.{_++_};
 ghost use Prim.Native.Nat.{_≤_};
 ghost use lib.ListN.{length, drop};
@@ -16,19 +17,20 @@ pub fn finish(values: &[f64], out: &mut [f64]) -> Answer
     ensures answer { λ r. ⌜ r ≡ answerOf (finishingList (now (values .entry))) ⌝ }
     ensures output { λ r. ⌜ now (out .exit) ≡ storedOf (finishingList (now (values .entry))) (now (out .entry)) ⌝ }
 {
-    if lists::all(values, Test::Finite) {
-        store(values, out);
-        Answer::Served
-    } else {
-        Answer::Refused(Refusal::Overflow)
-    }
+    let finite = lists::all(values, Test::Finite);
+    store(finite, values, out);
+    lists::and_rule(Answer::Served, Refusal::Overflow, !finite)
 }
 
-// Writes the values over the front of the output. `finish` hands on that it has room for them.
-fn store(values: &[f64], out: &mut [f64])
+// Writes the values over the front of the output where they are wanted, and else nothing. `finish` hands on that
+// it has room for them.
+fn store(wanted: bool, values: &[f64], out: &mut [f64])
     requires { ⌜ length (now values) ≤ length (now out) ⌝ }
-    ensures { λ _. ⌜ now (out .exit) ≡ now (values .entry) ++ drop (length (now (values .entry))) (now (out .entry)) ⌝ }
+    ensures { λ _. ⌜ now (out .exit) ≡ cond wanted (now (values .entry) ++ drop (length (now (values .entry))) (now (out .entry))) (now (out .entry)) ⌝ }
 {
+    if !wanted {
+        return;
+    }
     let mut i = 0;
     while i < values.len() {
         out[i] = values[i];

@@ -4,7 +4,7 @@ use Rattle.closedform.proofs.bond_option.normal.Statement.{statement}
 use Rattle.closedform.proofs.bond_option.normal.Tie as tie
 
 returns : tie.Need-returns
-returns c = c .norm-cdf-dual .ensures .0
+returns c = cc
 
 pub normal-spec : {M : Type 1} → statement M
 normal-spec = tie.close (tie.spec (λ c κs. search needs) returns)

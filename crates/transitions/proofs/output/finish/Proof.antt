@@ -1,6 +1,7 @@
 -- `transitions::output::finish` meets its contract: the list is stored where each value is finite, and else refused by rule 13. Assumes nothing.
-use mathlib.Core.Path.{refl, sym, _∙_}
+use mathlib.Core.Path.{_∙_}
 use borrow.Author.Needs.{needs}
+use Rattle.transitions.proofs.Outcomes.{finished-answer, finished-output}
 use Rattle.transitions.proofs.output.finish.Statement.{statement}
 use Rattle.transitions.proofs.output.finish.Tie as tie
 
@@ -10,16 +11,14 @@ all-requires c κs = search needs
 store-requires : tie.Need-store-requires
 store-requires c κs = search needs
 
+and-rule-requires : tie.Need-and-rule-requires
+and-rule-requires c κs = search needs
+
 same-length : tie.Need-same-length
 same-length c = search needs
 
 returns : tie.Need-returns
-returns c =
-    let e = c .before .before .before .before in
-    rw (sym (e .before .all .ensures) ∙ e .if1 .taken) (refl, c .before .before .store .ensures)
-
-returns-2 : tie.Need-returns-2
-returns-2 c = rw (sym (c .before .all .ensures) ∙ c .if1 .left) (refl, refl)
+returns c = (c .and-rule .ensures ∙ finished-answer _ _ (c .before .before .before .before .before .all .ensures), finished-output _ _ _ (c .before .before .before .before .before .all .ensures) (c .before .before .before .store .ensures))
 
 pub finish-spec : {M : Type 1} → statement M
-finish-spec = tie.close (tie.spec all-requires store-requires same-length returns returns-2)
+finish-spec = tie.close (tie.spec all-requires store-requires and-rule-requires same-length returns)

@@ -1,9 +1,10 @@
--- `transitions::output::store` meets its contract. The loop's invariant: the first i values stand over the front of the output, whose rest is as it was. Assumes nothing.
+-- `transitions::output::store` meets its contract: values that are not wanted leave the output as it was. The loop's invariant: the first i values stand over the front of the output, whose rest is as it was. Assumes nothing.
 use mathlib.Core.Path.{_≡_, refl}
 use mathlib.Core.List.{_++_}
 use Prim.Native.Nat.{_≤_, _-_}
 use native.Mathlib.Nat.{le-antisymm}
 use borrow.Author.Needs.{needs}
+use borrow.Author.Tests.{not-true, not-false}
 use denote.Ref.{now}
 use lib.ListN.{length, drop, take, length-set}
 use Rattle.transitions.proofs.Walks.{store-turn, store-end}
@@ -11,10 +12,13 @@ use Rattle.transitions.proofs.output.store.Statement.{statement}
 use Rattle.transitions.proofs.output.store.Tie as tie
 
 abbrev Inv-loop : tie.InvT-loop
-Inv-loop values out₀ i₀ out i = (i ≤ length values) × (length out ≡ length out₀) × (out ≡ take i values ++ drop i out₀)
+Inv-loop wanted values out₀ i₀ out i = (i ≤ length values) × (length out ≡ length out₀) × (out ≡ take i values ++ drop i out₀)
 
 abbrev μ-loop : tie.MeasureT-loop
-μ-loop values out₀ i₀ out i = length values - i
+μ-loop wanted values out₀ i₀ out i = length values - i
+
+returns : tie.Need-returns Inv-loop μ-loop
+returns c = rw (not-true (c .before .args .wanted) (c .if1 .taken))
 
 loop-holds : tie.Need-loop-holds Inv-loop μ-loop
 loop-holds c = (search needs, refl, refl)
@@ -40,17 +44,17 @@ loop-less c = search needs
 loop-again : tie.Need-loop-again Inv-loop μ-loop
 loop-again c =
     let l = c .before .before .loop in
-    let a = c .before .before .before .args in
+    let a = c .before .before .before .before .args in
     (search needs, simp length-set (l .inv .1), store-turn (now (a .values)) (now (a .out)) (l .out) (l .i) (search needs) (search needs) (l .inv .2))
 
 same-length : tie.Need-same-length Inv-loop μ-loop
 same-length c = c .before .loop .inv .1
 
-returns : tie.Need-returns Inv-loop μ-loop
-returns c =
+returns-2 : tie.Need-returns-2 Inv-loop μ-loop
+returns-2 c =
     let l = c .before .loop in
-    let a = c .before .before .args in
-    store-end (now (a .values)) (now (a .out)) (l .out) (l .i) (le-antisymm (l .inv .0) (c .loop-test .left)) (l .inv .2)
+    let a = c .before .before .before .args in
+    rw (not-false (a .wanted) (c .before .before .if1 .left)) (store-end (now (a .values)) (now (a .out)) (l .out) (l .i) (le-antisymm (l .inv .0) (c .loop-test .left)) (l .inv .2))
 
 pub store-spec : {M : Type 1} → statement M
 store-spec =
@@ -58,6 +62,7 @@ store-spec =
     (tie.spec
     Inv-loop
     μ-loop
+    returns
     loop-holds
     mul-out
     shared-slice-read-out
@@ -67,4 +72,4 @@ store-spec =
     loop-less
     loop-again
     same-length
-    returns)
+    returns-2)
