@@ -13,9 +13,8 @@ use Rattle.lists.specs.declared.refusals.Refusal.{Refusal}
 use Rattle.lists.specs.declared.refusals.Refusal.the-variants as R
 use Rattle.lists.specs.declared.refusals.Answer.{Answer}
 use Rattle.lists.specs.declared.refusals.Answer.the-variants as A
-use Rattle.lists.specs.Refusals.{Outcome, served, refused, Rule, firstOf, after, unless, following}
+use Rattle.lists.specs.Refusals.{Outcome, served, refused, placeOf, Rule, firstOf, after, unless, following}
 use Rattle.lists.specs.Order.{First, first-applies}
-use Rattle.grounds.specs.Places.{placeOf}
 
 -- ---- the stages of a call, and the stage of a refusal, which its place decides
 pub data Stage : Type 0 where
