@@ -1,5 +1,4 @@
 -- In what order, and on what grounds, calls are refused.
-pub mod Places
 pub mod Order
 pub mod Stages
 pub mod Steps

@@ -12,8 +12,7 @@ use Rattle.lists.specs.declared.refusals.Refusal.{Refusal}
 use Rattle.lists.specs.declared.refusals.Answer.{Answer}
 use Rattle.lists.specs.declared.refusals.Answer.the-variants as A
 use Rattle.lists.specs.declared.curves.Faults.{Faults}
-use Rattle.lists.specs.Refusals.{Outcome, refused, Rule, firstOf, after, unless}
-use Rattle.grounds.specs.Places.{placeOf}
+use Rattle.lists.specs.Refusals.{Outcome, refused, placeOf, Rule, firstOf, after, unless}
 use Rattle.lists.specs.Order.{First, NoneApplies, first-applies, none-applies}
 use Rattle.quotes.specs.Rules.{quoteRules, annuityRules}
 use Rattle.schedules.specs.Rules.{varianceRules, volatilityRules}

@@ -1,8 +1,11 @@
 -- What a call meets and in what order, rules 1 to 13: its rules 1 to 7; then the times that it needs, rule 8; then what it evaluates, rules 9 to 12, among themselves "in the order of its evaluations"; and last the floats of its answer, rule 13.
 use mathlib.Core.Path.{_≡_, refl, sym, _∙_, ap, subst}
 use mathlib.Core.Logic.{_↔_, inl, inr}
-use mathlib.Core.Bool.{Bool, true, cond, _&&_}
+use mathlib.Core.Bool.{Bool, true, false, cond, _&&_}
 use mathlib.Core.List.{List, [], _∷_}
+use Prim.Native.Nat.{ℕ, _≤_, _<_}
+use native.Mathlib.Omega.{arith}
+use borrow.Author.Tests.{ltb-true, ltb-false, eqb-true, eqb-false}
 use lib.Dec.{T, ltb, eqb}
 use lib.Ieee.{Float}
 use lib.Ieee.Fits.{and-l, and-r}
@@ -10,9 +13,8 @@ use Rattle.lists.specs.declared.refusals.Refusal.{Refusal}
 use Rattle.lists.specs.declared.refusals.Refusal.the-variants as R
 use Rattle.lists.specs.declared.refusals.Answer.{Answer}
 use Rattle.lists.specs.declared.refusals.Answer.the-variants as A
-use Rattle.lists.specs.Refusals.{Outcome, served, refused, Rule, firstOf, after, unless, following}
+use Rattle.lists.specs.Refusals.{Outcome, served, refused, placeOf, Rule, firstOf, after, unless, following}
 use Rattle.lists.specs.Order.{First, first-applies}
-use Rattle.grounds.specs.Places.{placeOf}
 
 -- ---- the stages of a call, and the stage of a refusal, which its place decides
 pub data Stage : Type 0 where
@@ -25,8 +27,59 @@ pub data Stage : Type 0 where
   -- 13
   finished : Stage
 
+abbrev stageAt : ℕ → Stage
+stageAt place = cond (ltb place (placeOf R.OffCurve)) by-rule (cond (eqb place (placeOf R.OffCurve)) off-curve (cond (ltb place (placeOf R.Overflow)) evaluated finished))
+
 abbrev pub stageOf : Refusal → Stage
-stageOf r = cond (ltb (placeOf r) (placeOf R.OffCurve)) by-rule (cond (eqb (placeOf r) (placeOf R.OffCurve)) off-curve (cond (ltb (placeOf r) (placeOf R.Overflow)) evaluated finished))
+stageOf r = stageAt (placeOf r)
+
+-- the stages' own order
+abbrev pub turnOf : Stage → ℕ
+turnOf by-rule = 1
+turnOf off-curve = 2
+turnOf evaluated = 3
+turnOf finished = 4
+
+-- what is met in an earlier stage has a smaller place
+abbrev Within : Stage → ℕ → Type 0
+Within by-rule place = place < placeOf R.OffCurve
+Within off-curve place = place ≡ placeOf R.OffCurve
+Within evaluated place = (placeOf R.OffCurve < place) × (place < placeOf R.Overflow)
+Within finished place = placeOf R.Overflow ≤ place
+
+chosen : (P : Stage → Type 0) (b : Bool) (x y : Stage) → (b ≡ true → P x) → (b ≡ false → P y) → P (cond b x y)
+chosen P true x y h k = h refl
+chosen P false x y h k = k refl
+
+within : (place : ℕ) → Within (stageAt place) place
+within place =
+    let P : Stage → Type 0 = λ s. Within s place in
+    chosen P (ltb place (placeOf R.OffCurve)) _ _ (ltb-true place (placeOf R.OffCurve)) (λ a.
+    chosen P (eqb place (placeOf R.OffCurve)) _ _ (eqb-true place (placeOf R.OffCurve)) (λ b.
+    let least = ltb-false place (placeOf R.OffCurve) a in
+    let other = eqb-false place (placeOf R.OffCurve) b in
+    chosen P (ltb place (placeOf R.Overflow)) _ _ (λ c. (omega arith, ltb-true place (placeOf R.Overflow) c)) (ltb-false place (placeOf R.Overflow))))
+
+apart : (s t : Stage) (m n : ℕ) → Within s m → Within t n → turnOf s < turnOf t → m < n
+apart by-rule by-rule m n a b h = omega arith
+apart by-rule off-curve m n a b h = omega arith
+apart by-rule evaluated m n a b h = omega arith
+apart by-rule finished m n a b h = omega arith
+apart off-curve by-rule m n a b h = omega arith
+apart off-curve off-curve m n a b h = omega arith
+apart off-curve evaluated m n a b h = omega arith
+apart off-curve finished m n a b h = omega arith
+apart evaluated by-rule m n a b h = omega arith
+apart evaluated off-curve m n a b h = omega arith
+apart evaluated evaluated m n a b h = omega arith
+apart evaluated finished m n a b h = omega arith
+apart finished by-rule m n a b h = omega arith
+apart finished off-curve m n a b h = omega arith
+apart finished evaluated m n a b h = omega arith
+apart finished finished m n a b h = omega arith
+
+pub by-place : (q r : Refusal) → turnOf (stageOf q) < turnOf (stageOf r) → placeOf q < placeOf r
+by-place q r h = apart (stageOf q) (stageOf r) (placeOf q) (placeOf r) (within (placeOf q)) (within (placeOf r)) h
 
 -- refused, if at all, by what belongs to the stage
 abbrev pub Only : {B : Type 0} → Stage → Outcome B → Type 0
