@@ -36,10 +36,10 @@ use Rattle.closedform.specs.Newton.{flatLimit, sumsOf, stepped}
 use Rattle.closedform.specs.Components.{componentsOf}
 use Rattle.objectives.specs.declared.market.Quote.{Quote}
 use Rattle.objectives.specs.Market.{swaptionMarketOf}
-use Rattle.objectives.specs.Objective.{valueAlone, modelPriceAt, swaptionObjective}
+use Rattle.objectives.specs.Objective.{valueAlone, swaptionObjective}
 use Rattle.entries.specs.Entries.{Entry, entriesOf, rulesOn}
 use Rattle.baskets.specs.Basket.{fitOf, Records, withFit, fitsOf, Bumps, bumpOf, withBump, bumpsOf, basketFrom, fittedBasket, basketOf}
-use Rattle.grounds.specs.Searches.{searchAndStep}
+use Rattle.grounds.specs.Searches.{searchAndStep, rateAndStep}
 
 -- ---- the first answer that is a refusal
 unfoldable pub firstRefused : List Answer → Answer
@@ -273,13 +273,13 @@ module _ (alpha : Float) (payments accruals : List Float) (strike t pt pPlus : F
   as-its-search (served root) made = refl
   as-its-search (refused r) made = refl
 
-  pub price-in-order : answerOf (modelPriceAt alpha payments accruals strike t pt pPlus ps sigma) ≡ firstRefused (searchAnswers pricedSum)
-  unfolding modelPriceAt priceAt
+  pub price-in-order : answerOf (priceAt alpha payments accruals strike t pt pPlus ps sigma) ≡ firstRefused (searchAnswers pricedSum)
+  unfolding priceAt
   price-in-order = as-its-search (criticalOutcome (criticalOf pricedSum)) _ ∙ search-in-order pricedSum
 
   pub objective-in-order : (quote : Quote) (vol : Float) → answerOf (swaptionObjective quote alpha payments accruals strike t vol pt pPlus ps sigma) ≡ firstRefused (searchAnswers pricedSum)
   unfolding swaptionObjective
-  objective-in-order quote vol = go (modelPriceAt alpha payments accruals strike t pt pPlus ps sigma) ∙ price-in-order
+  objective-in-order quote vol = go (priceAt alpha payments accruals strike t pt pPlus ps sigma) ∙ price-in-order
     where
       go : (o : Outcome Model.Valued) → answerOf (following (valueAlone o) (λ model. served (model ⊖ swaptionMarketOf quote strike t vol accruals pt ps))) ≡ answerOf o
       go (served v) = refl
@@ -315,6 +315,10 @@ module _ (cs affs bs : List Float) where
 pub valuation-in-order : (option : SwaptionType) (deviation pt : Float) (cs affs bs ps owns : List Float) (notional side : Float) → answerOf (searchAndStep option deviation pt cs affs bs ps owns notional side) ≡ firstRefused (stepAnswers cs affs bs)
 valuation-in-order option deviation pt cs affs bs ps owns notional side =
     steps-in-order cs affs bs (λ root s. record { value = componentsOf option (not (allOf Zero owns)) deviation pt s cs affs bs ps owns ⊗ notional ⊗ side; after-step = s; root = root })
+
+-- `implicit_critical_rate`, alike
+pub implicit-in-order : (cs affs bs : List Float) → answerOf (rateAndStep cs affs bs) ≡ firstRefused (stepAnswers cs affs bs)
+implicit-in-order cs affs bs = steps-in-order cs affs bs (λ root s. record { after-step = s; root = root })
 
 -- ---- a basket: "All fits run, then all bumped fits, 13 being met at each one's end; the first refusal refuses the basket."
 module _ (alpha : Float) (xs fs : List Float) where

@@ -21,6 +21,7 @@ use Rattle.models.specs.Rules.{thetaRules, forwardRules}
 use Rattle.paths.specs.Generate.{pathRules}
 use Rattle.transitions.specs.Transition.{transitionRules}
 use Rattle.swaptions.specs.Model.{modelRules}
+use Rattle.critical.specs.Find.{searchRules}
 use Rattle.pricers.specs.Pricer.{pricerRules}
 use Rattle.objectives.specs.declared.market.Quote.{Quote}
 use Rattle.calibration.specs.Fits.{capletRules, swaptionRules}
@@ -109,6 +110,9 @@ path-rules schedule curve points empty below short alpha = tt
 
 pub model-rules : (curve coupons : Faults) (later : Bool) (alpha strike t sigma : Float) → InOrder (modelRules curve coupons later alpha strike t sigma)
 model-rules curve coupons later alpha strike t sigma = tt
+
+pub search-rules : (cs affs bs : List Float) → InOrder (searchRules cs affs bs)
+search-rules cs affs bs = tt
 
 pub pricer-rules : (curve schedule coupons : Faults) (unpaired ownFinite ownFit later empty : Bool) (alpha strike t notional side : Float)
     → InOrder (pricerRules curve schedule coupons unpaired ownFinite ownFit later empty alpha strike t notional side)

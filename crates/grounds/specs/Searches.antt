@@ -19,7 +19,7 @@ use Rattle.formulas.specs.HullWhite.{h, forwardOf}
 use Rattle.schedules.specs.Variance.{varianceOf}
 use Rattle.coupons.specs.Sum.{couponSum}
 use Rattle.search.specs.Rate.{criticalOf}
-use Rattle.search.specs.Values.{criticalOutcome}
+use Rattle.search.specs.Values.{Values, criticalOutcome}
 use Rattle.terms.specs.Terms.{coefficientsOf, bsOf, factorsAt}
 use Rattle.jamshidian.specs.Price as Model
 use Rattle.jamshidian.specs.Price.{priceAt, finishingSwaption}
@@ -29,18 +29,20 @@ use Rattle.closedform.specs.declared.newton.Sums.{Sums}
 use Rattle.closedform.specs.Affine.{deviationOf, affinesOf}
 use Rattle.closedform.specs.Newton.{flatLimit, sumsOf, stepped}
 use Rattle.closedform.specs.Components.{componentsOf}
+use Rattle.critical.specs.Find.{searchRules, finiteRoot, finishingRate, findOutcome}
+use Rattle.critical.specs.Implicit.{Implicit, finishingImplicit, steppedFrom, implicitOutcome}
 use Rattle.valuations.specs.Value.{Valued, finishingValuation, pricedBy, swaptionPriced}
 use Rattle.pricers.specs.Pricer as Pricer
 use Rattle.bisection.specs.declared.result.Fit.{Fit}
 use Rattle.bisection.specs.Result.{finishingFit}
 use Rattle.bisection.specs.Solve.{solveOf}
 use Rattle.objectives.specs.declared.market.Quote.{Quote}
-use Rattle.objectives.specs.Objective.{capletObjective, modelPriceAt, swaptionObjective}
+use Rattle.objectives.specs.Objective.{capletObjective, swaptionObjective}
 use Rattle.calibration.specs.Fits.{capletRules, swaptionRulesOn, capletFitted, capletFitOutcome, swaptionFitted, swaptionFitOutcome}
 use Rattle.entries.specs.Entries.{Entry}
 use Rattle.baskets.specs.Basket.{fitOf, bump, diagonalOf, bumpOf}
 use Rattle.grounds.specs.Stages.{evaluated, finished, Only, Met, met}
-use Rattle.grounds.specs.Steps.{nth, never, by, either, following-only, finishing-only, factors-only, search-only, solve-only, two-and}
+use Rattle.grounds.specs.Steps.{nth, noTimes, never, by, either, following-only, finishing-only, factors-only, search-only, solve-only, two-and}
 
 -- ---- kind 5
 model-only : (v : Model.Valued) → Only finished (finishingSwaption v)
@@ -52,14 +54,14 @@ module _ (alpha : Float) (ts fs payments accruals : List Float) (strike t sigma 
   modelTimes none = cond none [] (t ∷ (t ⊕ h) ∷ payments)
 
   abbrev pub modelValued : Bool → List Float → Outcome Model.Valued
-  modelValued none ps = cond none (served Model.noValued) (modelPriceAt alpha payments accruals strike t (nth 0 ps) (nth 1 ps) (drop 2 ps) sigma)
+  modelValued none ps = cond none (served Model.noValued) (priceAt alpha payments accruals strike t (nth 0 ps) (nth 1 ps) (drop 2 ps) sigma)
 
-  price-only : (ps : List Float) → Only evaluated (modelPriceAt alpha payments accruals strike t (nth 0 ps) (nth 1 ps) (drop 2 ps) sigma)
-  unfolding modelPriceAt priceAt
+  price-only : (ps : List Float) → Only evaluated (priceAt alpha payments accruals strike t (nth 0 ps) (nth 1 ps) (drop 2 ps) sigma)
+  unfolding priceAt
   price-only ps = following-only (criticalOutcome (criticalOf _)) _ (search-only (criticalOf _)) (λ root. never _)
 
   model-looked : (none : Bool) → cond none (served Model.noValued) (modelPriced alpha ts fs payments accruals strike t sigma) ≡ following (factorsAt ts fs (modelTimes none)) (λ ps. following (modelValued none ps) finishingSwaption)
-  unfolding modelPriced termsPriced modelPriceAt factorsAt ofBits
+  unfolding modelPriced termsPriced factorsAt ofBits
   model-looked true = refl
   model-looked false = two-and (factorAt ts fs t) (factorAt ts fs (t ⊕ h)) (factorsAt ts fs payments) (λ pt pPlus ps. termsPriced alpha payments accruals strike t sigma pt pPlus ps)
 
@@ -142,6 +144,32 @@ module _ (option : SwaptionType) (alpha : Float) (pls ss ts fs payments accruals
       met _ _ _ _ tt (λ z. factors-only ts fs (t ∷ (t ⊕ h) ∷ payments)) valued-only valuation-only _
       (ap (λ (o : Outcome Valued). unless (Pricer.rulesOn alpha pls ss ts fs payments accruals owns strike t notional side) o) pricer-looked)
 
+-- ---- the critical rate as calls, on coefficients, A and B: they need no time
+rate-only : (v : Values) → Only finished (finishingRate v)
+rate-only v = finishing-only (finiteRoot v) v
+
+pub find-rate-met : (cs affs bs : List Float) → Met (searchRules cs affs bs) noTimes (λ ps. criticalOutcome (criticalOf (couponSum cs affs bs))) finishingRate (findOutcome cs affs bs)
+unfolding findOutcome
+find-rate-met cs affs bs = met _ _ _ _ tt (λ z. never []) (λ ps. search-only (criticalOf (couponSum cs affs bs))) rate-only _ refl
+
+-- the search, then the Newton step
+abbrev pub rateAndStep : List Float → List Float → List Float → Outcome Implicit
+rateAndStep cs affs bs =
+    following (criticalOutcome (criticalOf (couponSum cs affs bs))) (λ root.
+    following (stepped (root .rate) (sumsOf (root .rate) cs affs bs)) (λ s. served (record { after-step = s; root = root })))
+
+implicit-only : (v : Implicit) → Only finished (finishingImplicit v)
+implicit-only v = finishing-only (finiteRoot (v .root) && finite (v .after-step)) v
+
+pub implicit-rate-met : (cs affs bs : List Float) → Met (searchRules cs affs bs) noTimes (λ ps. rateAndStep cs affs bs) finishingImplicit (implicitOutcome cs affs bs)
+unfolding implicitOutcome steppedFrom
+implicit-rate-met cs affs bs =
+    met _ _ _ _ tt (λ z. never [])
+    (λ ps. following-only (criticalOutcome (criticalOf (couponSum cs affs bs))) _ (search-only (criticalOf (couponSum cs affs bs))) (λ root. following-only (stepped (root .rate) _) _ (step-only (root .rate) _) (λ s. never _)))
+    implicit-only _
+    (ap (λ (o : Outcome Implicit). unless (searchRules cs affs bs) o)
+      (two-steps (criticalOutcome (criticalOf (couponSum cs affs bs))) (λ root. stepped (root .rate) (sumsOf (root .rate) cs affs bs)) (λ root s. record { after-step = s; root = root }) finishingImplicit))
+
 -- ---- kinds 8 and 9
 fit-only : (fit : Fit) → Only finished (finishingFit fit)
 fit-only fit = let e = fit .ends in finishing-only (finite (fit .sigma) && finite (fit .residual) && finite (e .low) && finite (e .high) && finite (e .«low_residual») && finite (e .«high_residual»)) fit
@@ -173,7 +201,7 @@ module _ (quote : Quote) (alpha : Float) (ts fs payments accruals : List Float) 
   unfolding swaptionObjective
   swaption-only ps =
       solve-only (swaptionObjective quote alpha payments accruals strike t vol (nth 0 ps) (nth 1 ps) (drop 2 ps)) (λ sigma.
-      following-only _ _ (following-only (modelPriceAt alpha payments accruals strike t (nth 0 ps) (nth 1 ps) (drop 2 ps) sigma) _ (price-only alpha ts fs payments accruals strike t sigma ps) (λ v. never _)) (λ v. never _))
+      following-only _ _ (following-only (priceAt alpha payments accruals strike t (nth 0 ps) (nth 1 ps) (drop 2 ps) sigma) _ (price-only alpha ts fs payments accruals strike t sigma ps) (λ v. never _)) (λ v. never _))
 
   swaption-looked : swaptionFitted quote alpha ts fs payments accruals strike t vol ≡ following (factorsAt ts fs (t ∷ (t ⊕ h) ∷ payments)) (λ ps. following (swaptionSolved ps) finishingFit)
   unfolding swaptionFitted factorsAt
