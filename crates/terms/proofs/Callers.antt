@@ -14,7 +14,7 @@ use Rattle.lists.specs.declared.refusals.Refusal.{Refusal}
 use Rattle.lists.specs.declared.refusals.Refusal.the-variants as R
 use Rattle.lists.specs.declared.refusals.Answer.{Answer}
 use Rattle.lists.specs.declared.refusals.Answer.the-variants as A
-use Rattle.lists.specs.Refusals.{Outcome, served, refused, numberOf, answerNumber, answerOf, Rule, firstOf, after, unless, following}
+use Rattle.lists.specs.Refusals.{Outcome, served, refused, placeOf, answerNumber, answerOf, Rule, firstOf, after, unless, following}
 use Rattle.lists.specs.Order.{First, first-applies}
 use Rattle.lookups.specs.Lookups.{Maybe, just, nothing, needing}
 use Rattle.lists.proofs.Outcomes.{not-both, served-is}
@@ -29,7 +29,7 @@ use Rattle.search.proofs.Reaching.{exactly}
 
 -- ---- the refusals of rules 1 to 8, and the outcomes beyond them
 abbrev pub early : Refusal → Bool
-early q = ltb (numberOf q) 9
+early q = ltb (placeOf q) (placeOf R.NanReached)
 
 abbrev pub allEarly : List Rule → Bool
 allEarly [] = true
