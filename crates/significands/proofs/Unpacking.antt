@@ -37,16 +37,13 @@ finite-no-nan (fin s m e) h = tt
 
 -- ---- a number that is not 0, with its leading digit at 60
 
-module _ (n : ℕ) (h : n < 2 ^ 53) (z : n ≡ 0 → ⊥) where
+module _ (n : ℕ) (g : 0 < n) (h : n < 2 ^ 53) where
   abbrev zeros : ℕ
   zeros = leadingZeros 64 n
 
   -- j is the place of the leading digit
   at : (j : ℕ) × (zeros + suc j ≡ 64) × (2 ^ j ≤ n) × (n < 2 ^ suc j)
-  at = leading-top 64 n (pos n z) (lt-of-lt-of-le h (lit≤ tt))
-    where
-      pos : (n : ℕ) → (n ≡ 0 → ⊥) → 0 < n
-      pos n z = omega arith
+  at = leading-top 64 n g (lt-of-lt-of-le h (lit≤ tt))
 
   place : at .0 < 53
   place = pow-lt-back (at .0) 53 (lt-of-le-of-lt (at .2) h)
@@ -81,6 +78,12 @@ module _ (n : ℕ) (h : n < 2 ^ 53) (z : n ≡ 0 → ⊥) where
   exact : n * 2 ^ (zeros - 3) % 2 ^ 64 ≡ n * 2 ^ (zeros - 3)
   exact = mod-eq-of-lt (lt-of-lt-of-le under (lit≤ tt))
 
+  some : 0 < n * 2 ^ (zeros - 3)
+  some = lt-of-lt-of-le (pow-pos 60) over
+
+  pub normal-pos : 0 < n * 2 ^ (zeros - 3) % 2 ^ 64
+  normal-pos = subst (λ (x : ℕ). 0 < x) (sym exact) some
+
   even : n * 2 ^ (zeros - 3) % 2 ^ 8 ≡ 0
   even =
       ap (λ (x : ℕ). n * 2 ^ x % 2 ^ 8) (sym (join (zeros - 3) eight))
@@ -90,28 +93,29 @@ module _ (n : ℕ) (h : n < 2 ^ 53) (z : n ≡ 0 → ⊥) where
       join : (u : ℕ) → 8 ≤ u → u - 8 + 8 ≡ u
       join u h = omega arith
 
-  pub normal-value : n * 2 ^ (zeros - 3) % 2 ^ 64 * 2 ^ (64 - (zeros - 3)) ≡ n * 2 ^ 64
-  normal-value =
-      ap (λ (x : ℕ). x * 2 ^ (64 - (zeros - 3))) exact
-      ∙ mul-assoc n (2 ^ (zeros - 3)) (2 ^ (64 - (zeros - 3)))
-      ∙ ap (λ (x : ℕ). n * x) (sym (pow-add 2 (zeros - 3) (64 - (zeros - 3))) ∙ ap (λ (x : ℕ). 2 ^ x) (join (zeros - 3) (omega (arith, zeros-range .1))))
-    where
-      join : (u : ℕ) → u ≤ 64 → u + (64 - u) ≡ 64
-      join u h = omega arith
+  module _ (e : ℕ) (E : e < 2 ^ 11) where
+    pub normal-value : n * 2 ^ (zeros - 3) % 2 ^ 64 * 2 ^ (e + 63 - (zeros - 3)) ≡ n * 2 ^ (e + 63)
+    normal-value =
+        ap (λ (x : ℕ). x * 2 ^ (e + 63 - (zeros - 3))) exact
+        ∙ mul-assoc n (2 ^ (zeros - 3)) (2 ^ (e + 63 - (zeros - 3)))
+        ∙ ap (λ (x : ℕ). n * x) (sym (pow-add 2 (zeros - 3) (e + 63 - (zeros - 3))) ∙ ap (λ (x : ℕ). 2 ^ x) (join e zeros (zeros-range .1)))
+      where
+        join : (e l : ℕ) → l < 64 → l - 3 + (e + 63 - (l - 3)) ≡ e + 63
+        join e l h = omega arith
 
-  pub normal-of : Normal (n * 2 ^ (zeros - 3) % 2 ^ 64) (64 - (zeros - 3))
-  normal-of =
-      subst (λ (x : ℕ). Normal x (64 - (zeros - 3))) (sym exact)
-      (record {
-        under = under;
-        over = λ p. over;
-        zero = λ p. absurd (lt-irrefl 0 (lt-of-lt-of-le (lt-of-lt-of-le (pow-pos 60) over) (le-of-eq p)));
-        tail = even;
-        small = small (zeros - 3);
-      })
-    where
-      small : (u : ℕ) → 64 - u < 2 ^ 12
-      small u = omega arith
+    pub normal-of : Normal (n * 2 ^ (zeros - 3) % 2 ^ 64) (e + 63 - (zeros - 3))
+    normal-of =
+        subst (λ (x : ℕ). Normal x (e + 63 - (zeros - 3))) (sym exact)
+        (record {
+          under = under;
+          over = λ p. over;
+          zero = λ p. absurd (lt-irrefl 0 (lt-of-lt-of-le some (le-of-eq p)));
+          tail = even;
+          small = small e (zeros - 3) E;
+        })
+      where
+        small : (e u : ℕ) → e < 2 ^ 11 → e + 63 - u < 2 ^ 12
+        small e u h = omega arith
 
 pub normal-zero : Normal 0 0
 normal-zero = record {
@@ -234,27 +238,6 @@ module _ (x : Float) (F : T (fits binary64 x)) (p : T (finite x)) where
 
       place : (f : ℕ) → 0 < f → f - 1 + 64 ≡ f + 63
       place f g = omega arith
-
--- ---- a significand with its leading digit
-
-module _ (e t : ℕ) (E : e < 2 ^ 11) (D : t < 2 ^ 52) where
-  pub ordinary-value : (t + 2 ^ 52) * 2 ^ 8 * 2 ^ (e + 55) ≡ (t + 2 ^ 52) * 2 ^ (e + 63)
-  ordinary-value = mul-assoc (t + 2 ^ 52) (2 ^ 8) (2 ^ (e + 55)) ∙ ap (λ (n : ℕ). (t + 2 ^ 52) * n) (sym (pow-add 2 8 (e + 55)) ∙ ap (λ (n : ℕ). 2 ^ n) (join e))
-    where
-      join : (e : ℕ) → 8 + (e + 55) ≡ e + 63
-      join e = omega arith
-
-  pub ordinary-pos : 0 < (t + 2 ^ 52) * 2 ^ 8
-  ordinary-pos = omega arith
-
-  pub ordinary-of : Normal ((t + 2 ^ 52) * 2 ^ 8) (e + 55)
-  ordinary-of = record {
-    under = omega arith;
-    over = λ p. omega arith;
-    zero = λ p. absurd (lt-irrefl 0 (lt-of-lt-of-le ordinary-pos (le-of-eq p)));
-    tail = mul-mod-left (t + 2 ^ 52) (2 ^ 8);
-    small = omega arith;
-  }
 
 -- ---- and of `unpack`
 

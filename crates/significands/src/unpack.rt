@@ -51,39 +51,35 @@ pub fn unpack(x: f64) -> Parts
     if 0 < f.exp {
         return ordinary(f.sign, f.exp, f.digits);
     }
-    normal(f.sign, f.digits)
-}
-
-// ±(digits + 2^52) * 2^(exp + 63): a field of exp that is not 0 gives the significand its leading
-// digit, and the place of that is known. `unpack` and `ieee::sum::terms_of` have the bounds from `read`.
-pub fn ordinary(sign: bool, exp: u64, digits: u64) -> Parts
-    requires { ⌜ (exp < 2 ^ 11) × (digits < 2 ^ 52) ⌝ }
-    ensures { λ r. ⌜ (r .sign ≡ sign) × (r .sig * 2 ^ r .exp ≡ (digits + 2 ^ 52) * 2 ^ (exp + 63)) × Normal (r .sig) (r .exp) × (0 < r .sig) ⌝ }
-{
-    Parts {
-        sign,
-        sig: (digits + 0x10_0000_0000_0000) * 0x100,
-        exp: exp + 55,
-    }
-}
-
-// ±sig * 2^64, with sig brought to full width by its count of leading zeros. `unpack` has the bound, of
-// the digits of a subnormal, from `read`.
-fn normal(sign: bool, sig: u64) -> Parts
-    requires { ⌜ sig < 2 ^ 53 ⌝ }
-    ensures { λ r. ⌜ (r .sign ≡ sign) × (r .sig * 2 ^ r .exp ≡ sig * 2 ^ 64) × Normal (r .sig) (r .exp) ⌝ }
-{
-    if sig == 0 {
+    if f.digits == 0 {
         return Parts {
-            sign,
+            sign: f.sign,
             sig: 0,
             exp: 0,
         };
     }
+    normal(f.sign, 1, f.digits)
+}
+
+// ±(digits + 2^52) * 2^(exp + 63): a field of exp that is not 0 gives the significand its leading
+// digit. `unpack` and `ieee::sum::terms_of` have the bounds from `read`.
+pub fn ordinary(sign: bool, exp: u64, digits: u64) -> Parts
+    requires { ⌜ (exp < 2 ^ 11) × (digits < 2 ^ 52) ⌝ }
+    ensures { λ r. ⌜ (r .sign ≡ sign) × (r .sig * 2 ^ r .exp ≡ (digits + 2 ^ 52) * 2 ^ (exp + 63)) × Normal (r .sig) (r .exp) × (0 < r .sig) ⌝ }
+{
+    normal(sign, exp, digits + 0x10_0000_0000_0000)
+}
+
+// ±sig * 2^(exp + 63), with sig brought to full width by its count of leading zeros. `ordinary` and
+// `unpack` show the bounds. Where there is a leading digit the compiler knows the count, so that it costs nothing.
+fn normal(sign: bool, exp: u64, sig: u64) -> Parts
+    requires { ⌜ (exp < 2 ^ 11) × (0 < sig) × (sig < 2 ^ 53) ⌝ }
+    ensures { λ r. ⌜ (r .sign ≡ sign) × (r .sig * 2 ^ r .exp ≡ sig * 2 ^ (exp + 63)) × Normal (r .sig) (r .exp) × (0 < r .sig) ⌝ }
+{
     let up = u64::leading_zeros(sig) as u64 - 3;
     Parts {
         sign,
         sig: sig << up,
-        exp: 64 - up,
+        exp: exp + 63 - up,
     }
 }

@@ -1,25 +1,20 @@
 -- `significands::unpack::normal` meets its contract. The leading digit is moved to the place 60. Assumes nothing.
-use mathlib.Core.Path.{refl, sym, ap, _∙_}
-use Prim.Native.Nat.{ℕ, _*_, _^_, _≤_, _<_}
-use native.Mathlib.Nat.{zero-mul}
+use mathlib.Core.Path.{refl}
+use Prim.Native.Nat.{_≤_, _<_}
 use native.Mathlib.Omega.{arith}
+use borrow.Author.Needs.{needs}
 use lib.Count.{leadingZeros}
-use Rattle.significands.proofs.Unpacking.{normal-zero, zeros-range, normal-value, normal-of}
+use Rattle.significands.proofs.Unpacking.{zeros-range, normal-value, normal-of, normal-pos}
 use Rattle.wide.proofs.Words.{zeros-fit}
 use Rattle.significands.proofs.unpack.normal.Statement.{statement}
 use Rattle.significands.proofs.unpack.normal.Tie as tie
 
 -- a significand of at most 53 digits has at least 11 leading zeros
-range : (c : tie.Else1) → (11 ≤ leadingZeros 64 (c .before .args .sig)) × (leadingZeros 64 (c .before .args .sig) < 64)
-range c = zeros-range (c .before .args .sig) (c .before .pre) (c .if1 .left)
-
-returns : tie.Need-returns
-returns c =
-    let s = c .before in
-    (refl, sym (ap (λ (n : ℕ). n * 2 ^ 64) (c .if1 .taken) ∙ zero-mul (2 ^ 64)), normal-zero)
+range : (c : tie.Start) → (11 ≤ leadingZeros 64 (c .args .sig)) × (leadingZeros 64 (c .args .sig) < 64)
+range c = zeros-range (c .args .sig) (c .pre .1) (c .pre .2)
 
 cast-up : tie.Need-cast-up
-cast-up c = zeros-fit (c .before .args .sig)
+cast-up c = zeros-fit (c .args .sig)
 
 sub-up : tie.Need-sub-up
 sub-up c = let r = range c in omega arith
@@ -27,13 +22,19 @@ sub-up c = let r = range c in omega arith
 shl-t6 : tie.Need-shl-t6
 shl-t6 c = let r = range c in omega arith
 
-sub-t7 : tie.Need-sub-t7
-sub-t7 c = let r = range c in omega arith
+add-t7 : tie.Need-add-t7
+add-t7 c = search needs
 
-returns-2 : tie.Need-returns-2
-returns-2 c =
-    let s = c .before in
-    (refl, normal-value (s .args .sig) (s .pre) (c .if1 .left), normal-of (s .args .sig) (s .pre) (c .if1 .left))
+sub-t8 : tie.Need-sub-t8
+sub-t8 c = let r = range c in omega arith
+
+returns : tie.Need-returns
+returns c =
+    let n = c .args .sig in
+    let e = c .args .exp in
+    let g = c .pre .1 in
+    let h = c .pre .2 in
+    (refl, normal-value n g h e (c .pre .0), normal-of n g h e (c .pre .0), normal-pos n g h)
 
 pub normal-spec : {M : Type 1} → statement M
-normal-spec = tie.close (tie.spec returns cast-up sub-up shl-t6 sub-t7 returns-2)
+normal-spec = tie.close (tie.spec cast-up sub-up shl-t6 add-t7 sub-t8 returns)
