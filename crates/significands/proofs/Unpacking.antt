@@ -1,9 +1,8 @@
 -- The tests, the fields and the normalisation of `unpack`: what they give of a finite f64 is its value at full width (`fields`, `unpacked`). Assumes nothing.
 use mathlib.Core.Path.{_≡_, refl, sym, ap, _∙_, subst}
-use mathlib.Core.Logic.{inl, inr}
 use mathlib.Core.Bool.{Bool, true, false, not, cond, true≢false, false≢true}
 use Prim.Native.Nat.{ℕ, zero, suc, _+_, _-_, _*_, _/_, _%_, _^_, _≤_, _<_}
-use native.Mathlib.Nat.{le-trans, le-of-eq, lt-of-lt-of-le, lt-of-le-of-lt, lt-irrefl, mul-assoc, mul-right-comm, mul-le-mul-right, mod-eq-of-lt, mul-mod-left, add-comm, add-zero, zero-mul, eq-zero-or-pos}
+use native.Mathlib.Nat.{le-trans, le-of-eq, lt-of-lt-of-le, lt-of-le-of-lt, lt-irrefl, mul-assoc, mul-right-comm, mul-le-mul-right, mod-eq-of-lt, mul-mod-left, add-comm}
 use native.Mathlib.Omega.{arith}
 use lib.Dec.{T, lit<, lit≤, leb, eqb, eqb-refl, T-not}
 use lib.Pow.{pow-add, pow-pos, shl-lt}
@@ -247,43 +246,3 @@ unpacked x s u v m e h p q n = record {
   value = subst (λ (t : Bool). HasValue x t (m * 2 ^ e) (2 ^ 1138)) (sym p) (subst (λ (k : ℕ). HasValue x s k (2 ^ 1138)) (sym q) h);
   normal = n;
 }
-
--- ---- the significand of an ordinary number or a subnormal: its digits t and its leading digit l, at the place w
-
-module _ (x : Float) (s : Bool) (e t l : ℕ) (F : Fields x s e t) (L : (e ≡ 0 → l ≡ 0) × (0 < e → l ≡ 2 ^ 52)) where
-  pub whole-under : t + l < 2 ^ 53
-  whole-under = elim (eq-zero-or-pos e) [
-    | inl z ↦ low t l (F .digits) (L .0 z)
-    | inr g ↦ high t l (F .digits) (L .1 g)
-  ]
-    where
-      low : (t l : ℕ) → t < 2 ^ 52 → l ≡ 0 → t + l < 2 ^ 53
-      low t l h k = omega arith
-
-      high : (t l : ℕ) → t < 2 ^ 52 → l ≡ 2 ^ 52 → t + l < 2 ^ 53
-      high t l h k = omega arith
-
-  pub whole-zero : t + l ≡ 0 → Unpacked x s 0 0
-  whole-zero h = elim (eq-zero-or-pos e) [
-    | inl z ↦ unpacked x s s (t * 2 ^ 64) 0 0 (F .low z) refl (sym (ap (λ (n : ℕ). n * 2 ^ 64) (none t l h) ∙ zero-mul (2 ^ 64))) normal-zero
-    | inr g ↦ absurd (some t l (L .1 g) h)
-  ]
-    where
-      none : (t l : ℕ) → t + l ≡ 0 → t ≡ 0
-      none t l h = omega arith
-
-      some : (t l : ℕ) → l ≡ 2 ^ 52 → t + l ≡ 0 → ⊥
-      some t l k h = omega arith
-
-  module _ (w : ℕ) (W : (e ≡ 0 → w ≡ 1) × (0 < e → w ≡ e)) where
-    pub whole-place : w < 2 ^ 11
-    whole-place = elim (eq-zero-or-pos e) [
-      | inl z ↦ subst (λ (n : ℕ). n < 2 ^ 11) (sym (W .0 z)) (lit< tt)
-      | inr g ↦ subst (λ (n : ℕ). n < 2 ^ 11) (sym (W .1 g)) (F .field)
-    ]
-
-    pub whole-value : HasValue x s ((t + l) * 2 ^ (w + 63)) (2 ^ 1138)
-    whole-value = elim (eq-zero-or-pos e) [
-      | inl z ↦ rw (L .0 z, W .0 z, add-zero t) (F .low z)
-      | inr g ↦ rw (L .1 g, W .1 g) (F .high g)
-    ]

@@ -42,39 +42,27 @@ pub fn read(x: f64) -> Fields
 }
 
 // The sign, the significand and the exponent of a finite x, as `ieee::root::positive` and
-// `ieee::sum::any_terms` are given. Ordinary numbers and subnormals go one way.
+// `ieee::sum::any_terms` are given.
 pub fn unpack(x: f64) -> Parts
     requires { ⌜ T (Scale.finite x) ⌝ }
     ensures { λ r. ⌜ Unpacked x (r .sign) (r .sig) (r .exp) ⌝ }
 {
     let f = read(x);
-    let sig = f.digits + leading(f.exp);
-    if sig == 0 {
+    if 0 < f.exp {
+        return ordinary(f.sign, f.exp, f.digits);
+    }
+    if f.digits == 0 {
         return Parts {
             sign: f.sign,
             sig: 0,
             exp: 0,
         };
     }
-    normal(f.sign, place(f.exp), sig)
-}
-
-// The weight of a significand's leading digit, which a field of 0 does not give.
-fn leading(exp: u64) -> u64
-    ensures { λ r. ⌜ (exp ≡ 0 → r ≡ 0) × (0 < exp → r ≡ 2 ^ 52) ⌝ }
-{
-    if 0 < exp { 0x10_0000_0000_0000 } else { 0 }
-}
-
-// A subnormal's digits stand where those of the smallest ordinary numbers do.
-fn place(exp: u64) -> u64
-    ensures { λ r. ⌜ (exp ≡ 0 → r ≡ 1) × (0 < exp → r ≡ exp) ⌝ }
-{
-    if 0 < exp { exp } else { 1 }
+    normal(f.sign, 1, f.digits)
 }
 
 // ±(digits + 2^52) * 2^(exp + 63): a field of exp that is not 0 gives the significand its leading
-// digit. `ieee::sum::terms_of` has the bounds from `read`.
+// digit. `unpack` and `ieee::sum::terms_of` have the bounds from `read`.
 pub fn ordinary(sign: bool, exp: u64, digits: u64) -> Parts
     requires { ⌜ (exp < 2 ^ 11) × (digits < 2 ^ 52) ⌝ }
     ensures { λ r. ⌜ (r .sign ≡ sign) × (r .sig * 2 ^ r .exp ≡ (digits + 2 ^ 52) * 2 ^ (exp + 63)) × Normal (r .sig) (r .exp) × (0 < r .sig) ⌝ }
@@ -83,7 +71,7 @@ pub fn ordinary(sign: bool, exp: u64, digits: u64) -> Parts
 }
 
 // ±sig * 2^(exp + 63), with sig brought to full width by its count of leading zeros. `ordinary` and
-// `unpack` show the bounds.
+// `unpack` show the bounds. Where there is a leading digit the compiler knows the count, so that it costs nothing.
 fn normal(sign: bool, exp: u64, sig: u64) -> Parts
     requires { ⌜ (exp < 2 ^ 11) × (0 < sig) × (sig < 2 ^ 53) ⌝ }
     ensures { λ r. ⌜ (r .sign ≡ sign) × (r .sig * 2 ^ r .exp ≡ sig * 2 ^ (exp + 63)) × Normal (r .sig) (r .exp) × (0 < r .sig) ⌝ }

@@ -1,61 +1,45 @@
--- `significands::unpack::unpack` meets its contract. By whether the significand, with its leading digit, is 0. Assumes nothing.
-use Prim.Native.Nat.{_+_, _*_, _^_, _<_}
+-- `significands::unpack::unpack` meets its contract. By whether the exponent's field is 0, and the digits are. Assumes nothing.
+use mathlib.Core.Path.{refl, sym, ap, _∙_}
+use Prim.Native.Nat.{ℕ, _+_, _*_, _^_}
+use native.Mathlib.Nat.{zero-mul}
 use native.Mathlib.Omega.{arith}
 use borrow.Author.Needs.{needs}
-use Rattle.significands.proofs.Unpacking.{unpacked, whole-under, whole-zero, whole-place, whole-value}
+use Rattle.significands.proofs.Unpacking.{normal-zero, unpacked}
 use Rattle.significands.proofs.unpack.unpack.Statement.{statement}
 use Rattle.significands.proofs.unpack.unpack.Tie as tie
 
 read-requires : tie.Need-read-requires
 read-requires c κs = search needs
 
-leading-requires : tie.Need-leading-requires
-leading-requires c κs = search needs
-
--- the significand, with its leading digit, has at most 53 digits
-under : (c : tie.After-leading) → c .before .read .result .digits + c .leading .result < 2 ^ 53
-under c =
-    let f = c .before .read in
-    whole-under (c .before .before .args .x) (f .result .sign) (f .result .exp) (f .result .digits) (c .leading .result) (f .ensures) (c .leading .ensures)
-
-add-sig : tie.Need-add-sig
-add-sig c = let u = under (c .before) in omega arith
+ordinary-requires : tie.Need-ordinary-requires
+ordinary-requires c κs = search needs
 
 returns : tie.Need-returns
 returns c =
-    let l = c .before .before in
-    let f = l .before .read in
-    whole-zero (l .before .before .args .x) (f .result .sign) (f .result .exp) (f .result .digits) (l .leading .result) (f .ensures) (l .leading .ensures) (c .if1 .taken)
-
-place-requires : tie.Need-place-requires
-place-requires c κs = search needs
-
-normal-requires : tie.Need-normal-requires
-normal-requires c κs =
-    let l = c .before .before .before in
-    let f = l .before .read in (
-      whole-place (l .before .before .args .x) (f .result .sign) (f .result .exp) (f .result .digits) (l .leading .result) (f .ensures) (l .leading .ensures) (c .place .result) (c .place .ensures),
-      omega (arith, c .before .if1 .left),
-      under l,
-    )
+    let f = c .before .before .before .read in
+    let r = c .ordinary in
+    unpacked (c .before .before .before .before .args .x) (f .result .sign) (r .result .sign) ((f .result .digits + 2 ^ 52) * 2 ^ (f .result .exp + 63)) (r .result .sig) (r .result .exp)
+    (f .ensures .high (c .before .if1 .taken)) (r .ensures .0) (r .ensures .1) (r .ensures .2)
 
 returns-2 : tie.Need-returns-2
 returns-2 c =
-    let l = c .before .before .before .before in
-    let f = l .before .read in
-    let w = c .before .place in
+    let k = c .before in
+    let f = k .before .before .before .read in
+    unpacked (k .before .before .before .before .args .x) (f .result .sign) (f .result .sign) (f .result .digits * 2 ^ 64) 0 0
+    (f .ensures .low (omega (arith, k .before .if1 .left))) refl (sym (ap (λ (n : ℕ). n * 2 ^ 64) (c .if2 .taken) ∙ zero-mul (2 ^ 64))) normal-zero
+
+normal-requires : tie.Need-normal-requires
+normal-requires c κs = search needs
+
+returns-3 : tie.Need-returns-3
+returns-3 c =
+    let k = c .before .before in
+    let f = k .before .before .before .read in
     let r = c .normal in
-    unpacked (l .before .before .args .x) (f .result .sign) (r .result .sign) ((f .result .digits + l .leading .result) * 2 ^ (w .result + 63)) (r .result .sig) (r .result .exp)
-    (whole-value (l .before .before .args .x) (f .result .sign) (f .result .exp) (f .result .digits) (l .leading .result) (f .ensures) (l .leading .ensures) (w .result) (w .ensures)) (r .ensures .0) (r .ensures .1) (r .ensures .2)
+    unpacked (k .before .before .before .before .args .x) (f .result .sign) (r .result .sign) (f .result .digits * 2 ^ 64) (r .result .sig) (r .result .exp)
+    (f .ensures .low (omega (arith, k .before .if1 .left))) (r .ensures .0) (r .ensures .1) (r .ensures .2)
 
 pub unpack-spec : {M : Type 1} → statement M
 unpack-spec =
     tie.close
-    (tie.spec
-    read-requires
-    leading-requires
-    add-sig
-    returns
-    place-requires
-    normal-requires
-    returns-2)
+    (tie.spec read-requires ordinary-requires returns returns-2 normal-requires returns-3)
