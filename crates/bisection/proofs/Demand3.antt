@@ -158,6 +158,12 @@ module _ (f : Float → Outcome Float) where
     there : getD xs place nan ≡ fit .sigma
     number : entryOf fit ≡ 2 + (made + place)
 
+  entry-found : (made : ℕ) (e : Ends) (v : Float) → entryOf (found made e v) ≡ 2 + made
+  entry-found made e v = omega arith
+
+  entry-unfound : (made : ℕ) (e : Ends) (v : Float) → made ≡ 200 → entryOf (unfound e v) ≡ 2 + made
+  entry-unfound made e v l = omega arith
+
   placed-only : (made : ℕ) (e : Ends) {xs : List Float} {fit : Fit} → xs ≡ mid e ∷ [] → mid e ≡ fit .sigma → entryOf fit ≡ 2 + made → Placed made xs fit
   placed-only made e t s n = record { place = 0; counted = ap length t; there = ap (λ (xs : List Float). getD xs 0 nan) t ∙ s; number = omega arith }
 
@@ -175,9 +181,7 @@ module _ (f : Float → Outcome Float) where
   placed zero made e fit l h = go (met f e)
     where
       here : (v : Float) → residualAt f (mid e) ≡ served v → Placed made (triedFrom f zero e) fit
-      here v p =
-          let z : made ≡ 200 = sym (zero-add made) ∙ l in
-          subst (λ (x : Fit). Placed made (triedFrom f zero e) x) (served-is (sym (last-served f made e p) ∙ h)) (placed-only made e (tried-last f e) refl (ap (λ (k : ℕ). 2 + k) (sym z)))
+      here v p = subst (λ (x : Fit). Placed made (triedFrom f zero e) x) (served-is (sym (last-served f made e p) ∙ h)) (placed-only made e (tried-last f e) refl (entry-unfound made e v (sym (zero-add made) ∙ l)))
 
       go : Met f e → Placed made (triedFrom f zero e) fit
       go (stopped r p) = absurd (not-both (sym (last-stopped f made e p) ∙ h))
@@ -188,12 +192,9 @@ module _ (f : Float → Outcome Float) where
       less : suc left + made ≡ 200 → left + suc made ≡ 200
       less l = omega arith
 
-      next : 1 + suc made ≡ 2 + made
-      next = omega arith
-
       go : ((e : Ends) (fit : Fit) → left + suc made ≡ 200 → halvingsFrom f left (suc made) e ≡ served fit → Placed (suc made) (triedFrom f left e) fit) → Met f e → Placed made (triedFrom f (suc left) e) fit
       go ih (stopped r p) = absurd (not-both (sym (halving-stopped f made e left p) ∙ h))
-      go ih (close v p q) = subst (λ (x : Fit). Placed made (triedFrom f (suc left) e) x) (served-is (sym (halving-close f made e left p q) ∙ h)) (placed-only made e (tried-close f e left p q) refl next)
+      go ih (close v p q) = subst (λ (x : Fit). Placed made (triedFrom f (suc left) e) x) (served-is (sym (halving-close f made e left p q) ∙ h)) (placed-only made e (tried-close f e left p q) refl (entry-found made e v))
       go ih (away v p q) = placed-later made (tried-away f e left p q) (ih (movedTo e (mid e) v) fit (less l) (sym (halving-away f made e left p q) ∙ h))
 
   -- ---- refused for want of a bracket: so was the last sigma tried
