@@ -67,8 +67,8 @@ pub fn affines(alpha: f64, sigma: f64, decay: f64, b: &[f64], drift: &[f64], out
     }
 }
 
-// The weight of each term in the coupon sum, coefficient × A. `jamshidian::price_at` has worked an A for each
-// coefficient, and `valuations::priced_by` is given one.
+// The weight of each term in the coupon sum, coefficient × A. `critical_rate` and `valuations::priced_by` are given
+// an A for each coefficient.
 pub fn weights(c: &[f64], a: &[f64], out: &mut [f64])
     requires { ⌜ (length (now out) ≡ length (now c)) × (length (now a) ≡ length (now c)) ⌝ }
     ensures { λ _. ⌜ now (out .exit) ≡ weightsOf (now (c .entry)) (now (a .entry)) ⌝ }
