@@ -1,3 +1,3 @@
--- What the program prints for every file, and the contracts of what fills its output, job by job.
+-- What the program prints for every file, its pieces, and the contracts of what fills them, job by job.
 pub mod Output
-pub mod Order
+pub mod Pieces

@@ -1,2 +1,3 @@
--- The laws that the proofs of `serving` share.
+-- What the functions' proofs cite.
 pub mod Lists
+pub mod Sent

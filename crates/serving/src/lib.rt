@@ -1,7 +1,4 @@
-// A run file served to standard output: what the programs calstwid, details and rounds have in common.
-mod answers;
-mod details;
+// A run file served to standard output.
 mod serve;
-mod text;
 
 pub use serve::serve_file;

@@ -1,6 +1,8 @@
--- `serving::serve` is safe and ends: the jobs are served of a file that keeps its layout. Assumes nothing.
+-- `serving::serve_file` meets its contract: the one line of a broken file is sent, or the header and then the jobs. Assumes nothing.
 use borrow.Author.Needs.{needs}
 use mathlib.Core.Path.{sym, _∙_}
+use denote.Ref.{now}
+use Rattle.serving.proofs.Sent.{header-due, jobs-due, refusal-due, refusal-sent}
 use Rattle.serving.proofs.serve.serve_file.Statement.{statement}
 use Rattle.serving.proofs.serve.serve_file.Tie as tie
 
@@ -16,11 +18,13 @@ write-refused-requires c κs = search needs
 array-share-prefix-text : tie.Need-array-share-prefix-text
 array-share-prefix-text c = search needs
 
-slice-aggregate-write-all : tie.Need-slice-aggregate-write-all
-slice-aggregate-write-all c = search needs
+slice-aggregate-send : tie.Need-slice-aggregate-send
+slice-aggregate-send c = search needs
 
-write-all-requires : tie.Need-write-all-requires
-write-all-requires c κs = search needs
+send-requires : tie.Need-send-requires
+send-requires c κs =
+    let s = c .before .before .before .before .before .before .before .before in
+    refusal-due (now (s .args .file)) (sym (c .before .before .before .before .before .before .lay-out .ensures) ∙ c .before .before .before .before .enum-told .given .1) _ (now (s .args .due)) _ _ (s .pre) (c .before .before .write-refused .ensures)
 
 enum-known-laid : tie.Need-enum-known-laid
 enum-known-laid c = search needs
@@ -28,26 +32,36 @@ enum-known-laid c = search needs
 write-header-requires : tie.Need-write-header-requires
 write-header-requires c κs = search needs
 
+cast-send : tie.Need-cast-send
+cast-send c = search needs
+
+add-send : tie.Need-add-send
+add-send c = search needs
+
 array-share-prefix-text-2 : tie.Need-array-share-prefix-text-2
 array-share-prefix-text-2 c = search needs
 
-slice-aggregate-write-all-2 : tie.Need-slice-aggregate-write-all-2
-slice-aggregate-write-all-2 c = search needs
+slice-aggregate-send-2 : tie.Need-slice-aggregate-send-2
+slice-aggregate-send-2 c = search needs
 
-write-all-requires-2 : tie.Need-write-all-requires-2
-write-all-requires-2 c κs = search needs
+send-requires-2 : tie.Need-send-requires-2
+send-requires-2 c κs =
+    let s = c .before .before .before .before .before .before .before .before .before .before in
+    header-due (now (s .args .file)) _ (sym (c .before .before .before .before .before .before .before .before .lay-out .ensures) ∙ c .before .before .before .before .before .before .laid .given .1) _ (now (s .args .due)) _ _ (s .pre) (c .before .before .before .write-header .ensures)
 
 serve-jobs-requires : tie.Need-serve-jobs-requires
-serve-jobs-requires c κs = sym (c .before .before .before .before .before .before .before .before .lay-out .ensures) ∙ c .before .before .before .before .before .before .laid .given .1
+serve-jobs-requires c κs =
+    let s = c .before .before .before .before .before .before .before .before .before .before .before .before in
+    let e = sym (c .before .before .before .before .before .before .before .before .before .before .lay-out .ensures) ∙ c .before .before .before .before .before .before .before .before .laid .given .1 in
+    (e, jobs-due (now (s .args .file)) _ e (now (s .args .due)) _ (s .pre) (c .before .send2 .ensures))
 
 returns : tie.Need-returns
-returns c = search needs
+returns c =
+    let s = c .before .before .before .before .before .before .before .before .before in
+    refusal-sent (now (s .args .file)) (sym (c .before .before .before .before .before .before .before .lay-out .ensures) ∙ c .before .before .before .before .before .enum-told .given .1) (now (s .args .due)) _ (s .pre) (c .send .ensures)
 
 returns-2 : tie.Need-returns-2
 returns-2 c = search needs
-
-returns-3 : tie.Need-returns-3
-returns-3 c = search needs
 
 pub serve-file-spec : {M : Type 1} → statement M
 serve-file-spec =
@@ -57,14 +71,15 @@ serve-file-spec =
     enum-told
     write-refused-requires
     array-share-prefix-text
-    slice-aggregate-write-all
-    write-all-requires
+    slice-aggregate-send
+    send-requires
     enum-known-laid
     write-header-requires
+    cast-send
+    add-send
     array-share-prefix-text-2
-    slice-aggregate-write-all-2
-    write-all-requires-2
+    slice-aggregate-send-2
+    send-requires-2
     serve-jobs-requires
     returns
-    returns-2
-    returns-3)
+    returns-2)

@@ -1,4 +1,4 @@
--- `serving::serve_jobs` is safe and ends: the curve is read to lists of its length. Assumes nothing.
+-- `serving::serve_jobs` meets its contract: the curve is read to lists of its length. Assumes nothing.
 use borrow.Author.Needs.{needs}
 use mathlib.Core.Path.{sym, _∙_}
 use mathlib.Core.List.{List}
@@ -18,7 +18,7 @@ abbrev work : List Float
 work = replicate 2048 zero
 
 whole : (s : tie.Start) → Kept (now (s .args .file)) (s .args .l)
-whole s = kept (now (s .args .file)) (s .args .l) (s .pre)
+whole s = kept (now (s .args .file)) (s .args .l) (s .pre .0)
 
 part : (s : tie.Start) → Whole (now (s .args .file)) (s .args .l .curve) 16 2048
 part s = whole s .curve
@@ -63,24 +63,24 @@ alpha-requires : tie.Need-alpha-requires
 alpha-requires c κs = let s = c .before .before .before .before .before .before .before .before .before .before .before in whole s .model
 
 array-share-prefix-times-2 : tie.Need-array-share-prefix-times-2
-array-share-prefix-times-2 c = let w = c .before .before .before .before .before .before .before .before .column in back-fits work _ (part (c .before .before .before .before .before .before .before .before .before .before .before .before) .few) (w .last .1 .1 .1 .1 .0) (w .kept .1 .1 .1 .1 .0)
+array-share-prefix-times-2 c = let w = c .before .before .before .before .before .before .before .before .before .column in back-fits work _ (part (c .before .before .before .before .before .before .before .before .before .before .before .before .before) .few) (w .last .1 .1 .1 .1 .0) (w .kept .1 .1 .1 .1 .0)
 
 slice-aggregate-with-pillars : tie.Need-slice-aggregate-with-pillars
-slice-aggregate-with-pillars c = let w = c .before .before .before .before .before .before .before .before .before .column in back-is work _ (part (c .before .before .before .before .before .before .before .before .before .before .before .before .before) .few) (w .last .1 .1 .1 .1 .0) (w .kept .1 .1 .1 .1 .0)
+slice-aggregate-with-pillars c = let w = c .before .before .before .before .before .before .before .before .before .before .column in back-is work _ (part (c .before .before .before .before .before .before .before .before .before .before .before .before .before .before) .few) (w .last .1 .1 .1 .1 .0) (w .kept .1 .1 .1 .1 .0)
 
 array-share-prefix-factors-2 : tie.Need-array-share-prefix-factors-2
-array-share-prefix-factors-2 c = let w = c .before .before .before .before .before .before .column2 in back-fits work _ (part (c .before .before .before .before .before .before .before .before .before .before .before .before .before) .few) (w .last .1 .1 .1 .1 .0) (w .kept .1 .1 .1 .1 .0)
+array-share-prefix-factors-2 c = let w = c .before .before .before .before .before .before .before .column2 in back-fits work _ (part (c .before .before .before .before .before .before .before .before .before .before .before .before .before .before) .few) (w .last .1 .1 .1 .1 .0) (w .kept .1 .1 .1 .1 .0)
 
 slice-aggregate-with-pillars-2 : tie.Need-slice-aggregate-with-pillars-2
-slice-aggregate-with-pillars-2 c = let w = c .before .before .before .before .before .before .before .column2 in back-is work _ (part (c .before .before .before .before .before .before .before .before .before .before .before .before .before .before) .few) (w .last .1 .1 .1 .1 .0) (w .kept .1 .1 .1 .1 .0)
+slice-aggregate-with-pillars-2 c = let w = c .before .before .before .before .before .before .before .before .column2 in back-is work _ (part (c .before .before .before .before .before .before .before .before .before .before .before .before .before .before .before) .few) (w .last .1 .1 .1 .1 .0) (w .kept .1 .1 .1 .1 .0)
 
 with-pillars-requires : tie.Need-with-pillars-requires
 with-pillars-requires c κs =
-    let s = c .before .before .before .before .before .before .before .before .before .before .before .before .before .before in
+    let s = c .before .before .before .before .before .before .before .before .before .before .before .before .before .before .before in
     let a = s .args in
-    let w1 = c .before .before .before .before .before .before .before .before .before .before .column in
-    let w2 = c .before .before .before .before .before .before .before .column2 in
-    (s .pre, (c .before .before .before .curve-faults .ensures, curve-read (now (a .file)) (a .l) (c .before .before .alpha .result) _ _ (c .before .before .alpha .ensures) (values-are work _ (part s .few) (w1 .last .1 .1 .1 .1 .0) (w1 .kept .1 .1 .1 .1 .0) ∙ w1 .ensures) (values-are work _ (part s .few) (w2 .last .1 .1 .1 .1 .0) (w2 .kept .1 .1 .1 .1 .0) ∙ w2 .ensures)))
+    let w1 = c .before .before .before .before .before .before .before .before .before .before .before .column in
+    let w2 = c .before .before .before .before .before .before .before .before .column2 in
+    (s .pre .0, (c .before .before .before .before .curve-faults .ensures, (curve-read (now (a .file)) (a .l) (c .before .before .before .alpha .result) _ _ (c .before .before .before .alpha .ensures) (values-are work _ (part s .few) (w1 .last .1 .1 .1 .1 .0) (w1 .kept .1 .1 .1 .1 .0) ∙ w1 .ensures) (values-are work _ (part s .few) (w2 .last .1 .1 .1 .1 .0) (w2 .kept .1 .1 .1 .1 .0) ∙ w2 .ensures), s .pre .1)))
 
 returns : tie.Need-returns
 returns c = search needs

@@ -1,4 +1,4 @@
--- `serving::with_coupons` is safe and ends: the coupons are read to lists of their length. Assumes nothing.
+-- `serving::with_coupons` meets its contract: the coupons are read to lists of their length. Assumes nothing.
 use borrow.Author.Needs.{needs}
 use mathlib.Core.Path.{sym, _∙_}
 use mathlib.Core.List.{List}
@@ -54,31 +54,31 @@ column-requires-3 : tie.Need-column-requires-3
 column-requires-3 c κs = let p = part (c .before .before .before .before .before .before .before .before .before .before .before .before .before) in (p .inside, (omega arith, sym (lent-is work _ (p .few))))
 
 array-share-prefix-payments : tie.Need-array-share-prefix-payments
-array-share-prefix-payments c = let w = c .before .before .before .before .before .before .before .column in back-fits work _ (part (c .before .before .before .before .before .before .before .before .before .before .before .before .before .before .before) .few) (w .last .1 .1 .1 .1 .0) (w .kept .1 .1 .1 .1 .0)
+array-share-prefix-payments c = let w = c .before .before .before .before .before .before .before .before .column in back-fits work _ (part (c .before .before .before .before .before .before .before .before .before .before .before .before .before .before .before .before) .few) (w .last .1 .1 .1 .1 .0) (w .kept .1 .1 .1 .1 .0)
 
 slice-aggregate-with-grid : tie.Need-slice-aggregate-with-grid
-slice-aggregate-with-grid c = let w = c .before .before .before .before .before .before .before .before .column in back-is work _ (part (c .before .before .before .before .before .before .before .before .before .before .before .before .before .before .before .before) .few) (w .last .1 .1 .1 .1 .0) (w .kept .1 .1 .1 .1 .0)
+slice-aggregate-with-grid c = let w = c .before .before .before .before .before .before .before .before .before .column in back-is work _ (part (c .before .before .before .before .before .before .before .before .before .before .before .before .before .before .before .before .before) .few) (w .last .1 .1 .1 .1 .0) (w .kept .1 .1 .1 .1 .0)
 
 array-share-prefix-accruals : tie.Need-array-share-prefix-accruals
-array-share-prefix-accruals c = let w = c .before .before .before .before .before .column2 in back-fits work _ (part (c .before .before .before .before .before .before .before .before .before .before .before .before .before .before .before .before) .few) (w .last .1 .1 .1 .1 .0) (w .kept .1 .1 .1 .1 .0)
+array-share-prefix-accruals c = let w = c .before .before .before .before .before .before .column2 in back-fits work _ (part (c .before .before .before .before .before .before .before .before .before .before .before .before .before .before .before .before .before) .few) (w .last .1 .1 .1 .1 .0) (w .kept .1 .1 .1 .1 .0)
 
 slice-aggregate-with-grid-2 : tie.Need-slice-aggregate-with-grid-2
-slice-aggregate-with-grid-2 c = let w = c .before .before .before .before .before .before .column2 in back-is work _ (part (c .before .before .before .before .before .before .before .before .before .before .before .before .before .before .before .before .before) .few) (w .last .1 .1 .1 .1 .0) (w .kept .1 .1 .1 .1 .0)
+slice-aggregate-with-grid-2 c = let w = c .before .before .before .before .before .before .before .column2 in back-is work _ (part (c .before .before .before .before .before .before .before .before .before .before .before .before .before .before .before .before .before .before) .few) (w .last .1 .1 .1 .1 .0) (w .kept .1 .1 .1 .1 .0)
 
 array-share-prefix-owns : tie.Need-array-share-prefix-owns
-array-share-prefix-owns c = let w = c .before .before .before .column3 in back-fits work _ (part (c .before .before .before .before .before .before .before .before .before .before .before .before .before .before .before .before .before) .few) (w .last .1 .1 .1 .1 .0) (w .kept .1 .1 .1 .1 .0)
+array-share-prefix-owns c = let w = c .before .before .before .before .column3 in back-fits work _ (part (c .before .before .before .before .before .before .before .before .before .before .before .before .before .before .before .before .before .before) .few) (w .last .1 .1 .1 .1 .0) (w .kept .1 .1 .1 .1 .0)
 
 slice-aggregate-with-grid-3 : tie.Need-slice-aggregate-with-grid-3
-slice-aggregate-with-grid-3 c = let w = c .before .before .before .before .column3 in back-is work _ (part (c .before .before .before .before .before .before .before .before .before .before .before .before .before .before .before .before .before .before) .few) (w .last .1 .1 .1 .1 .0) (w .kept .1 .1 .1 .1 .0)
+slice-aggregate-with-grid-3 c = let w = c .before .before .before .before .before .column3 in back-is work _ (part (c .before .before .before .before .before .before .before .before .before .before .before .before .before .before .before .before .before .before .before) .few) (w .last .1 .1 .1 .1 .0) (w .kept .1 .1 .1 .1 .0)
 
 with-grid-requires : tie.Need-with-grid-requires
 with-grid-requires c κs =
-    let s = c .before .before .before .before .before .before .before .before .before .before .before .before .before .before .before .before .before .before in
+    let s = c .before .before .before .before .before .before .before .before .before .before .before .before .before .before .before .before .before .before .before in
     let a = s .args in
-    let w1 = c .before .before .before .before .before .before .before .before .before .before .column in
-    let w2 = c .before .before .before .before .before .before .before .column2 in
-    let w3 = c .before .before .before .before .column3 in
-    (s .pre .0, (s .pre .1 .0, coupons-read (now (a .file)) (a .l) (a .alpha) (now (a .pillars)) (now (a .sigmas)) (now (a .times)) (now (a .factors)) _ _ _ (values-are work _ (part s .few) (w1 .last .1 .1 .1 .1 .0) (w1 .kept .1 .1 .1 .1 .0) ∙ w1 .ensures) (values-are work _ (part s .few) (w2 .last .1 .1 .1 .1 .0) (w2 .kept .1 .1 .1 .1 .0) ∙ w2 .ensures) (values-are work _ (part s .few) (w3 .last .1 .1 .1 .1 .0) (w3 .kept .1 .1 .1 .1 .0) ∙ w3 .ensures) (s .pre .1 .1)))
+    let w1 = c .before .before .before .before .before .before .before .before .before .before .before .column in
+    let w2 = c .before .before .before .before .before .before .before .before .column2 in
+    let w3 = c .before .before .before .before .before .column3 in
+    (s .pre .0, (s .pre .1 .0, (coupons-read (now (a .file)) (a .l) (a .alpha) (now (a .pillars)) (now (a .sigmas)) (now (a .times)) (now (a .factors)) _ _ _ (values-are work _ (part s .few) (w1 .last .1 .1 .1 .1 .0) (w1 .kept .1 .1 .1 .1 .0) ∙ w1 .ensures) (values-are work _ (part s .few) (w2 .last .1 .1 .1 .1 .0) (w2 .kept .1 .1 .1 .1 .0) ∙ w2 .ensures) (values-are work _ (part s .few) (w3 .last .1 .1 .1 .1 .0) (w3 .kept .1 .1 .1 .1 .0) ∙ w3 .ensures) (s .pre .1 .1 .0), s .pre .1 .1 .1)))
 
 returns : tie.Need-returns
 returns c = search needs

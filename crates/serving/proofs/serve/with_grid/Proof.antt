@@ -1,4 +1,4 @@
--- `serving::with_grid` is safe and ends: the grid is read to lists of its length. Assumes nothing.
+-- `serving::with_grid` meets its contract: the grid is read to lists of its length. Assumes nothing.
 use borrow.Author.Needs.{needs}
 use mathlib.Core.Path.{sym, _∙_}
 use mathlib.Core.List.{List}
@@ -45,24 +45,24 @@ column-requires-2 : tie.Need-column-requires-2
 column-requires-2 c κs = let p = part (c .before .before .before .before .before .before .before .before .before .before .before .before .before) in (p .inside, (omega arith, sym (lent-is work _ (p .few))))
 
 array-share-prefix-grid : tie.Need-array-share-prefix-grid
-array-share-prefix-grid c = let w = c .before .before .before .before .column in back-fits work _ (part (c .before .before .before .before .before .before .before .before .before .before .before .before .before .before .before) .few) (w .last .1 .1 .1 .1 .0) (w .kept .1 .1 .1 .1 .0)
+array-share-prefix-grid c = let w = c .before .before .before .before .before .column in back-fits work _ (part (c .before .before .before .before .before .before .before .before .before .before .before .before .before .before .before .before) .few) (w .last .1 .1 .1 .1 .0) (w .kept .1 .1 .1 .1 .0)
 
 slice-aggregate-each-job : tie.Need-slice-aggregate-each-job
-slice-aggregate-each-job c = let w = c .before .before .before .before .before .column in back-is work _ (part (c .before .before .before .before .before .before .before .before .before .before .before .before .before .before .before .before) .few) (w .last .1 .1 .1 .1 .0) (w .kept .1 .1 .1 .1 .0)
+slice-aggregate-each-job c = let w = c .before .before .before .before .before .before .column in back-is work _ (part (c .before .before .before .before .before .before .before .before .before .before .before .before .before .before .before .before .before) .few) (w .last .1 .1 .1 .1 .0) (w .kept .1 .1 .1 .1 .0)
 
 array-share-prefix-draws : tie.Need-array-share-prefix-draws
-array-share-prefix-draws c = let w = c .before .before .column2 in back-fits work _ (part (c .before .before .before .before .before .before .before .before .before .before .before .before .before .before .before .before) .few) (w .last .1 .1 .1 .1 .0) (w .kept .1 .1 .1 .1 .0)
+array-share-prefix-draws c = let w = c .before .before .before .column2 in back-fits work _ (part (c .before .before .before .before .before .before .before .before .before .before .before .before .before .before .before .before .before) .few) (w .last .1 .1 .1 .1 .0) (w .kept .1 .1 .1 .1 .0)
 
 slice-aggregate-each-job-2 : tie.Need-slice-aggregate-each-job-2
-slice-aggregate-each-job-2 c = let w = c .before .before .before .column2 in back-is work _ (part (c .before .before .before .before .before .before .before .before .before .before .before .before .before .before .before .before .before) .few) (w .last .1 .1 .1 .1 .0) (w .kept .1 .1 .1 .1 .0)
+slice-aggregate-each-job-2 c = let w = c .before .before .before .before .column2 in back-is work _ (part (c .before .before .before .before .before .before .before .before .before .before .before .before .before .before .before .before .before .before) .few) (w .last .1 .1 .1 .1 .0) (w .kept .1 .1 .1 .1 .0)
 
 each-job-requires : tie.Need-each-job-requires
 each-job-requires c κs =
-    let s = c .before .before .before .before .before .before .before .before .before .before .before .before .before .before .before .before .before in
+    let s = c .before .before .before .before .before .before .before .before .before .before .before .before .before .before .before .before .before .before in
     let a = s .args in
-    let w1 = c .before .before .before .before .before .before .column in
-    let w2 = c .before .before .before .column2 in
-    (s .pre .0, (s .pre .1 .0, grid-read (now (a .file)) (a .l) (a .alpha) (now (a .pillars)) (now (a .sigmas)) (now (a .times)) (now (a .factors)) (now (a .payments)) (now (a .accruals)) (now (a .owns)) _ _ (values-are work _ (part s .few) (w1 .last .1 .1 .1 .1 .0) (w1 .kept .1 .1 .1 .1 .0) ∙ w1 .ensures) (values-are work _ (part s .few) (w2 .last .1 .1 .1 .1 .0) (w2 .kept .1 .1 .1 .1 .0) ∙ w2 .ensures) (s .pre .1 .1)))
+    let w1 = c .before .before .before .before .before .before .before .column in
+    let w2 = c .before .before .before .before .column2 in
+    (s .pre .0, (s .pre .1 .0, (grid-read (now (a .file)) (a .l) (a .alpha) (now (a .pillars)) (now (a .sigmas)) (now (a .times)) (now (a .factors)) (now (a .payments)) (now (a .accruals)) (now (a .owns)) _ _ (values-are work _ (part s .few) (w1 .last .1 .1 .1 .1 .0) (w1 .kept .1 .1 .1 .1 .0) ∙ w1 .ensures) (values-are work _ (part s .few) (w2 .last .1 .1 .1 .1 .0) (w2 .kept .1 .1 .1 .1 .0) ∙ w2 .ensures) (s .pre .1 .1 .0), s .pre .1 .1 .1)))
 
 returns : tie.Need-returns
 returns c = search needs

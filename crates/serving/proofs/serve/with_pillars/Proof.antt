@@ -1,4 +1,4 @@
--- `serving::with_pillars` is safe and ends: the pillars are read to lists of their length. Assumes nothing.
+-- `serving::with_pillars` meets its contract: the pillars are read to lists of their length. Assumes nothing.
 use borrow.Author.Needs.{needs}
 use mathlib.Core.Path.{sym, _∙_}
 use mathlib.Core.List.{List}
@@ -45,24 +45,24 @@ column-requires-2 : tie.Need-column-requires-2
 column-requires-2 c κs = let p = part (c .before .before .before .before .before .before .before .before) in (p .inside, (omega arith, sym (lent-is work _ (p .few))))
 
 array-share-prefix-pillars : tie.Need-array-share-prefix-pillars
-array-share-prefix-pillars c = let w = c .before .before .before .before .column in back-fits work _ (part (c .before .before .before .before .before .before .before .before .before .before) .few) (w .last .1 .1 .1 .1 .0) (w .kept .1 .1 .1 .1 .0)
+array-share-prefix-pillars c = let w = c .before .before .before .before .before .column in back-fits work _ (part (c .before .before .before .before .before .before .before .before .before .before .before) .few) (w .last .1 .1 .1 .1 .0) (w .kept .1 .1 .1 .1 .0)
 
 slice-aggregate-with-coupons : tie.Need-slice-aggregate-with-coupons
-slice-aggregate-with-coupons c = let w = c .before .before .before .before .before .column in back-is work _ (part (c .before .before .before .before .before .before .before .before .before .before .before) .few) (w .last .1 .1 .1 .1 .0) (w .kept .1 .1 .1 .1 .0)
+slice-aggregate-with-coupons c = let w = c .before .before .before .before .before .before .column in back-is work _ (part (c .before .before .before .before .before .before .before .before .before .before .before .before) .few) (w .last .1 .1 .1 .1 .0) (w .kept .1 .1 .1 .1 .0)
 
 array-share-prefix-sigmas : tie.Need-array-share-prefix-sigmas
-array-share-prefix-sigmas c = let w = c .before .before .column2 in back-fits work _ (part (c .before .before .before .before .before .before .before .before .before .before .before) .few) (w .last .1 .1 .1 .1 .0) (w .kept .1 .1 .1 .1 .0)
+array-share-prefix-sigmas c = let w = c .before .before .before .column2 in back-fits work _ (part (c .before .before .before .before .before .before .before .before .before .before .before .before) .few) (w .last .1 .1 .1 .1 .0) (w .kept .1 .1 .1 .1 .0)
 
 slice-aggregate-with-coupons-2 : tie.Need-slice-aggregate-with-coupons-2
-slice-aggregate-with-coupons-2 c = let w = c .before .before .before .column2 in back-is work _ (part (c .before .before .before .before .before .before .before .before .before .before .before .before) .few) (w .last .1 .1 .1 .1 .0) (w .kept .1 .1 .1 .1 .0)
+slice-aggregate-with-coupons-2 c = let w = c .before .before .before .before .column2 in back-is work _ (part (c .before .before .before .before .before .before .before .before .before .before .before .before .before) .few) (w .last .1 .1 .1 .1 .0) (w .kept .1 .1 .1 .1 .0)
 
 with-coupons-requires : tie.Need-with-coupons-requires
 with-coupons-requires c κs =
-    let s = c .before .before .before .before .before .before .before .before .before .before .before .before in
+    let s = c .before .before .before .before .before .before .before .before .before .before .before .before .before in
     let a = s .args in
-    let w1 = c .before .before .before .before .before .before .column in
-    let w2 = c .before .before .before .column2 in
-    (s .pre .0, (s .pre .1 .0, pillars-read (now (a .file)) (a .l) (a .alpha) _ _ (now (a .times)) (now (a .factors)) (values-are work _ (part s .few) (w1 .last .1 .1 .1 .1 .0) (w1 .kept .1 .1 .1 .1 .0) ∙ w1 .ensures) (values-are work _ (part s .few) (w2 .last .1 .1 .1 .1 .0) (w2 .kept .1 .1 .1 .1 .0) ∙ w2 .ensures) (s .pre .1 .1)))
+    let w1 = c .before .before .before .before .before .before .before .column in
+    let w2 = c .before .before .before .before .column2 in
+    (s .pre .0, (s .pre .1 .0, (pillars-read (now (a .file)) (a .l) (a .alpha) _ _ (now (a .times)) (now (a .factors)) (values-are work _ (part s .few) (w1 .last .1 .1 .1 .1 .0) (w1 .kept .1 .1 .1 .1 .0) ∙ w1 .ensures) (values-are work _ (part s .few) (w2 .last .1 .1 .1 .1 .0) (w2 .kept .1 .1 .1 .1 .0) ∙ w2 .ensures) (s .pre .1 .1 .0), s .pre .1 .1 .1)))
 
 returns : tie.Need-returns
 returns c = search needs
