@@ -3,7 +3,5 @@ fn main() {
     // One byte more than a run file may have, so that a longer one is seen to be longer.
     let mut file = [0u8; 65537];
     let n = io::read_full(libc::STDIN_FILENO, &mut file);
-    // The piece of the output that is due.
-    let mut due = 0;
-    serving::serve_file(&file[..n], &mut due);
+    serving::serve_file(&file[..n]);
 }

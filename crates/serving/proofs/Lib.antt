@@ -1,3 +1,2 @@
 -- What the functions' proofs cite.
-pub mod Lists
-pub mod Sent
+pub mod Sending

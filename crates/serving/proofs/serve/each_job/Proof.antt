@@ -1,46 +1,73 @@
--- `serving::each_job` meets its contract: job by job, each with all that its lines ask, until no piece is due. Assumes nothing.
+-- `serving::serve::each_job` meets its contract: job by job, each with all that its lines ask, until none is left or a write fails. Assumes nothing.
 use borrow.Author.Needs.{needs}
 use mathlib.Core.Path.{_≡_, sym, _∙_}
-use mathlib.Core.Logic.{_⊎_, inl, inr}
-use Prim.Native.Nat.{ℕ, suc, _+_, _-_, _≤_, _<_}
+use mathlib.Core.Logic.{inl, inr}
+use Prim.Native.Nat.{_+_, _-_, _≤_}
 use native.Mathlib.Omega.{arith}
 use denote.Ref.{now}
 use lib.ListN.{length}
-use Rattle.runfile.specs.Pieces.{count-is}
-use Rattle.serving.proofs.Lists.{jobs-read}
-use Rattle.serving.proofs.Sent.{more-sent, fewer-due, job-due}
+use Rattle.layout.proofs.Kept.{kept}
+use Rattle.runfile.proofs.Lists.{lists-are}
+use Rattle.serving.specs.Sending.{Due}
+use Rattle.serving.proofs.Sending.{job-due, all-sent}
 use Rattle.serving.proofs.serve.each_job.Statement.{statement}
 use Rattle.serving.proofs.serve.each_job.Tie as tie
 
 abbrev Inv-loop : tie.InvT-loop
-Inv-loop file l due₀ curve alpha pillars sigmas times factors payments accruals owns grid draws out₀ n-jobs due out = (0 < due) × (due ≤ suc n-jobs) × (length out ≡ 131072)
+Inv-loop file l floats due₀ alpha pillars sigmas times factors payments accruals owns grid draws curve n-jobs out₀ last₀ k₀ due out last k =
+    (k ≤ n-jobs) × (length out ≡ 131072) × Due last due × (due ≡ k + 1)
 
 abbrev μ-loop : tie.MeasureT-loop
-μ-loop file l due₀ curve alpha pillars sigmas times factors payments accruals owns grid draws out₀ n-jobs due out = suc n-jobs - due
+μ-loop file l floats due₀ alpha pillars sigmas times factors payments accruals owns grid draws curve n-jobs out₀ last₀ k₀ due out last k = n-jobs - k
+
+alpha-requires : tie.Need-alpha-requires Inv-loop μ-loop
+alpha-requires c κs = let s = c .before .before in kept (now (s .args .file)) (s .args .l) (s .pre .0) .model
+
+list-requires : tie.Need-list-requires Inv-loop μ-loop
+list-requires c κs = let s = c .before .before .before in (s .pre .0, s .pre .1, omega arith)
+
+list-requires-2 : tie.Need-list-requires-2 Inv-loop μ-loop
+list-requires-2 c κs = let s = c .before .before .before .before in (s .pre .0, s .pre .1, omega arith)
+
+list-requires-3 : tie.Need-list-requires-3 Inv-loop μ-loop
+list-requires-3 c κs = let s = c .before .before .before .before .before in (s .pre .0, s .pre .1, omega arith)
+
+list-requires-4 : tie.Need-list-requires-4 Inv-loop μ-loop
+list-requires-4 c κs = let s = c .before .before .before .before .before .before in (s .pre .0, s .pre .1, omega arith)
+
+list-requires-5 : tie.Need-list-requires-5 Inv-loop μ-loop
+list-requires-5 c κs = let s = c .before .before .before .before .before .before .before in (s .pre .0, s .pre .1, omega arith)
+
+list-requires-6 : tie.Need-list-requires-6 Inv-loop μ-loop
+list-requires-6 c κs = let s = c .before .before .before .before .before .before .before .before in (s .pre .0, s .pre .1, omega arith)
+
+list-requires-7 : tie.Need-list-requires-7 Inv-loop μ-loop
+list-requires-7 c κs = let s = c .before .before .before .before .before .before .before .before .before in (s .pre .0, s .pre .1, omega arith)
+
+list-requires-8 : tie.Need-list-requires-8 Inv-loop μ-loop
+list-requires-8 c κs = let s = c .before .before .before .before .before .before .before .before .before .before in (s .pre .0, s .pre .1, omega arith)
+
+list-requires-9 : tie.Need-list-requires-9 Inv-loop μ-loop
+list-requires-9 c κs = let s = c .before .before .before .before .before .before .before .before .before .before .before in (s .pre .0, s .pre .1, omega arith)
+
+curve-faults-requires : tie.Need-curve-faults-requires Inv-loop μ-loop
+curve-faults-requires c κs = search needs
 
 cast-n-jobs : tie.Need-cast-n-jobs Inv-loop μ-loop
-cast-n-jobs c = search needs
+cast-n-jobs c = let s = c .before .before .before .before .before .before .before .before .before .before .before .before .before .before in omega (arith, kept (now (s .args .file)) (s .args .l) (s .pre .0) .jobs .few)
 
 loop-holds : tie.Need-loop-holds Inv-loop μ-loop
-loop-holds c =
-    let s = c .before .before .before .before .before .before .before .before .before .before .before in
-    (s .pre .1 .1 .1 .0, rw (count-is (now (s .args .file)) (s .args .l) (s .pre .0)) at (s .pre .1 .1 .1 .1), search needs)
-
-sub-job-lines : tie.Need-sub-job-lines Inv-loop μ-loop
-sub-job-lines c = omega (arith, c .before .before .loop .inv .0)
+loop-holds c = let s = c .before .before .before .before .before .before .before .before .before .before .before .before .before .before in (search needs, search needs, s .pre .2, s .pre .3)
 
 slice-aggregate-job-lines : tie.Need-slice-aggregate-job-lines Inv-loop μ-loop
-slice-aggregate-job-lines c = let h = c .before .before .before .loop .inv .2 in search (needs, h)
+slice-aggregate-job-lines c = let h = c .before .before .loop .inv .1 in search (needs, h)
 
 job-lines-requires : tie.Need-job-lines-requires Inv-loop μ-loop
 job-lines-requires c κs =
-    let s = c .before .before .before .before .before .before .before .before .before .before .before .before .before .before .before in
-    let a = s .args in
-    let inv = c .before .before .before .loop .inv in
-    ((s .pre .0, omega (arith, inv .0, c .before .before .loop-test .taken), omega (arith, inv .2)), (s .pre .1 .0, jobs-read (now (a .file)) (a .l) (a .alpha) (now (a .pillars)) (now (a .sigmas)) (now (a .times)) (now (a .factors)) (now (a .payments)) (now (a .accruals)) (now (a .owns)) (now (a .grid)) (now (a .draws)) (s .pre .1 .1 .0)))
-
-add-send : tie.Need-add-send Inv-loop μ-loop
-add-send c = search needs
+    let b = c .before .before .before in
+    let s = b .before .before .before .before .before .before .before .before .before .before .before .before .before .before in
+    let read = lists-are (now (s .args .file)) (s .args .l) _ _ _ _ _ _ _ _ _ _ (b .before .before .before .before .before .before .before .before .before .before .before .alpha .ensures) (b .before .before .before .before .before .before .before .before .before .before .list .ensures) (b .before .before .before .before .before .before .before .before .before .list2 .ensures) (b .before .before .before .before .before .before .before .before .list3 .ensures) (b .before .before .before .before .before .before .before .list4 .ensures) (b .before .before .before .before .before .before .list5 .ensures) (b .before .before .before .before .before .list6 .ensures) (b .before .before .before .before .list7 .ensures) (b .before .before .before .list8 .ensures) (b .before .before .list9 .ensures) in
+    ((s .pre .0, c .before .loop-test .taken, omega (arith, c .before .before .loop .inv .1)), (b .before .curve-faults .ensures, read))
 
 array-share-prefix-out : tie.Need-array-share-prefix-out Inv-loop μ-loop
 array-share-prefix-out c = search needs
@@ -50,23 +77,34 @@ slice-aggregate-send c = search needs
 
 send-requires : tie.Need-send-requires Inv-loop μ-loop
 send-requires c κs =
-    let s = c .before .before .before .before .before .before .before .before .before .before .before .before .before .before .before .before .before .before .before in
-    let l = c .before .before .before .before .before .before .before .loop in
-    job-due (now (s .args .file)) (s .args .l) (s .pre .0) _ (l .due) _ _ (l .inv .0) (c .before .before .before .before .before .before .loop-test .taken) (c .before .before .before .job-lines .ensures)
+    let l = c .before .before .before .before .before .before .loop in
+    let s = c .before .before .before .before .before .before .before .before .before .before .before .before .before .before .before .before .before .before .before .before .before in
+    let j = job-due (now (s .args .file)) (s .args .l) (s .pre .0) _ (l .k) (l .due) _ _ (l .inv .3) (c .before .before .before .before .before .loop-test .taken) (c .before .before .before .job-lines .ensures) in
+    (l .inv .2, j .0, j .1)
+
+failed-requires : tie.Need-failed-requires Inv-loop μ-loop
+failed-requires c κs = search needs
+
+returns : tie.Need-returns Inv-loop μ-loop
+returns c = inl (sym (c .before .failed .ensures) ∙ c .if1 .taken)
+
+add-k : tie.Need-add-k Inv-loop μ-loop
+add-k c = search needs
 
 loop-less : tie.Need-loop-less Inv-loop μ-loop
-loop-less c = fewer-due (c .before .before .before .before .before .before .before .before .loop .due) _ _ (c .before .before .before .before .before .before .before .loop-test .taken) (c .send .ensures)
+loop-less c = search needs
 
 loop-again : tie.Need-loop-again Inv-loop μ-loop
 loop-again c =
-    let l = c .before .before .before .before .before .before .before .before .loop in
-    let m = more-sent (l .due) _ _ (c .before .before .before .before .before .before .before .loop-test .taken) (c .send .ensures) in
-    (m .0, m .1, c .before .before .before .before .job-lines .kept .1 .1 .1 .1 .1 .1 .1 .1 .1 .1 .1 .1 .1 .1 .0 ∙ l .inv .2)
+    let l = c .before .before .before .before .before .before .before .before .before .loop in
+    let e = c .before .before .send .ensures in
+    (omega (arith, c .before .before .before .before .before .before .before .before .loop-test .taken), c .before .before .before .before .before .before .job-lines .kept .1 .1 .1 .1 .1 .1 .1 .1 .1 .1 .1 .1 .1 .1 .0 ∙ l .inv .1, (sym (c .before .failed .ensures) ∙ c .if1 .left, sym (e .1)), omega (arith, e .0, e .1, l .inv .2 .1, l .inv .3))
 
-returns : tie.Need-returns Inv-loop μ-loop
-returns c =
-    let s = c .before .before .before .before .before .before .before .before .before .before .before .before .before in
-    omega (arith, c .before .loop .inv .1, c .loop-test .left, count-is (now (s .args .file)) (s .args .l) (s .pre .0))
+returns-2 : tie.Need-returns-2 Inv-loop μ-loop
+returns-2 c =
+    let l = c .before .loop in
+    let s = c .before .before .before .before .before .before .before .before .before .before .before .before .before .before .before .before in
+    inr (all-sent (now (s .args .file)) (s .args .l) (s .pre .0) (l .k) _ (l .inv .2 .1 ∙ l .inv .3) (omega (arith, l .inv .0, c .loop-test .left)))
 
 pub each-job-spec : {M : Type 1} → statement M
 each-job-spec =
@@ -74,15 +112,27 @@ each-job-spec =
     (tie.spec
     Inv-loop
     μ-loop
+    alpha-requires
+    list-requires
+    list-requires-2
+    list-requires-3
+    list-requires-4
+    list-requires-5
+    list-requires-6
+    list-requires-7
+    list-requires-8
+    list-requires-9
+    curve-faults-requires
     cast-n-jobs
     loop-holds
-    sub-job-lines
     slice-aggregate-job-lines
     job-lines-requires
-    add-send
     array-share-prefix-out
     slice-aggregate-send
     send-requires
+    failed-requires
+    returns
+    add-k
     loop-less
     loop-again
-    returns)
+    returns-2)
