@@ -2,9 +2,9 @@
 ghost use mathlib.Core.Path.{_≡_};
 ghost use mathlib.Core.List.{[]};
 ghost use Rattle.lists.specs.Faults.{curveFaults};
-ghost use Rattle.kinds.specs.Told.{listsOf, optionTold, swaptionTold, fitTold, toldOf};
-use super::told;
-use super::told::Told;
+ghost use Rattle.kinds.specs.Told.{listsOf};
+ghost use Rattle.kinds.specs.Worked.{wholeOf, optionWhole, swaptionWhole, fitWhole, workOf};
+use super::told::Worked;
 use calibration::Quote;
 use layout::Job;
 use lists::Faults;
@@ -12,8 +12,8 @@ use options::BondOption;
 use pricers::SwaptionType;
 
 // Kinds 1 to 4: caplet, floorlet, bond put, bond call.
-// `told_of` hands on the curve's faults.
-fn option_told(
+// `work` hands on the curve's faults.
+fn option_work(
     curve: Faults,
     alpha: f64,
     pillars: &[f64],
@@ -24,12 +24,12 @@ fn option_told(
     accruals: &[f64],
     owns: &[f64],
     j: Job,
-) -> Told
+) -> Worked
     requires { ⌜ curve ≡ curveFaults (now times) (now factors) ⌝ }
-    ensures { λ r. ⌜ r ≡ optionTold (listsOf alpha (now (pillars .entry)) (now (sigmas .entry)) (now (times .entry)) (now (factors .entry)) (now (payments .entry)) (now (accruals .entry)) (now (owns .entry)) [] [] []) j ⌝ }
+    ensures { λ r. ⌜ wholeOf r ≡ optionWhole (listsOf alpha (now (pillars .entry)) (now (sigmas .entry)) (now (times .entry)) (now (factors .entry)) (now (payments .entry)) (now (accruals .entry)) (now (owns .entry)) [] [] []) j ⌝ }
 {
     if j.kind == 1 {
-        return told::price(options::optionlet_on(
+        return Worked::Price(options::optionlet_on(
             BondOption::Put,
             curve,
             alpha,
@@ -42,7 +42,7 @@ fn option_told(
         ));
     }
     if j.kind == 2 {
-        return told::price(options::optionlet_on(
+        return Worked::Price(options::optionlet_on(
             BondOption::Call,
             curve,
             alpha,
@@ -55,7 +55,7 @@ fn option_told(
         ));
     }
     if j.kind == 3 {
-        return told::price(options::bond_option_on(
+        return Worked::Price(options::bond_option_on(
             BondOption::Put,
             curve,
             alpha,
@@ -67,7 +67,7 @@ fn option_told(
             j.d,
         ));
     }
-    told::price(options::bond_option_on(
+    Worked::Price(options::bond_option_on(
         BondOption::Call,
         curve,
         alpha,
@@ -81,8 +81,8 @@ fn option_told(
 }
 
 // Kind 5, the model's swaption; 6 and 7, payer and receiver by the pricer.
-// `told_of` hands on the curve's faults.
-fn swaption_told(
+// `work` hands on the curve's faults.
+fn swaption_work(
     curve: Faults,
     alpha: f64,
     pillars: &[f64],
@@ -93,12 +93,12 @@ fn swaption_told(
     accruals: &[f64],
     owns: &[f64],
     j: Job,
-) -> Told
+) -> Worked
     requires { ⌜ curve ≡ curveFaults (now times) (now factors) ⌝ }
-    ensures { λ r. ⌜ r ≡ swaptionTold (listsOf alpha (now (pillars .entry)) (now (sigmas .entry)) (now (times .entry)) (now (factors .entry)) (now (payments .entry)) (now (accruals .entry)) (now (owns .entry)) [] [] []) j ⌝ }
+    ensures { λ r. ⌜ wholeOf r ≡ swaptionWhole (listsOf alpha (now (pillars .entry)) (now (sigmas .entry)) (now (times .entry)) (now (factors .entry)) (now (payments .entry)) (now (accruals .entry)) (now (owns .entry)) [] [] []) j ⌝ }
 {
     if j.kind == 5 {
-        return told::swaption(swaptions::swaption_price_on(
+        return Worked::Swaption(swaptions::swaption_price_on(
             curve,
             alpha,
             times,
@@ -111,7 +111,7 @@ fn swaption_told(
         ));
     }
     if j.kind == 6 {
-        return told::valuation(pricers::swaption_value_on(
+        return Worked::Valuation(pricers::swaption_value_on(
             SwaptionType::Payer,
             curve,
             alpha,
@@ -128,7 +128,7 @@ fn swaption_told(
             j.d,
         ));
     }
-    told::valuation(pricers::swaption_value_on(
+    Worked::Valuation(pricers::swaption_value_on(
         SwaptionType::Receiver,
         curve,
         alpha,
@@ -147,8 +147,8 @@ fn swaption_told(
 }
 
 // Kinds 8 and 9, a caplet's fit, Black and normal; 10 and 11, a swaption's.
-// `told_of` hands on the curve's faults.
-fn fit_told(
+// `work` hands on the curve's faults.
+fn fit_work(
     curve: Faults,
     alpha: f64,
     pillars: &[f64],
@@ -159,12 +159,12 @@ fn fit_told(
     accruals: &[f64],
     owns: &[f64],
     j: Job,
-) -> Told
+) -> Worked
     requires { ⌜ curve ≡ curveFaults (now times) (now factors) ⌝ }
-    ensures { λ r. ⌜ r ≡ fitTold (listsOf alpha (now (pillars .entry)) (now (sigmas .entry)) (now (times .entry)) (now (factors .entry)) (now (payments .entry)) (now (accruals .entry)) (now (owns .entry)) [] [] []) j ⌝ }
+    ensures { λ r. ⌜ wholeOf r ≡ fitWhole (listsOf alpha (now (pillars .entry)) (now (sigmas .entry)) (now (times .entry)) (now (factors .entry)) (now (payments .entry)) (now (accruals .entry)) (now (owns .entry)) [] [] []) j ⌝ }
 {
     if j.kind == 8 {
-        return told::fitted(calibration::fit_caplet_on(
+        return Worked::Fit(calibration::fit_caplet_on(
             curve,
             Quote::Black,
             alpha,
@@ -177,7 +177,7 @@ fn fit_told(
         ));
     }
     if j.kind == 9 {
-        return told::fitted(calibration::fit_caplet_on(
+        return Worked::Fit(calibration::fit_caplet_on(
             curve,
             Quote::Normal,
             alpha,
@@ -190,7 +190,7 @@ fn fit_told(
         ));
     }
     if j.kind == 10 {
-        return told::fitted(calibration::fit_swaption_on(
+        return Worked::Fit(calibration::fit_swaption_on(
             curve,
             Quote::Black,
             alpha,
@@ -203,7 +203,7 @@ fn fit_told(
             j.c,
         ));
     }
-    told::fitted(calibration::fit_swaption_on(
+    Worked::Fit(calibration::fit_swaption_on(
         curve,
         Quote::Normal,
         alpha,
@@ -217,8 +217,9 @@ fn fit_told(
     ))
 }
 
-// A job of kinds 1 to 11. `runfile::job_lines` is given the curve's faults.
-pub fn told_of(
+// A job of kinds 1 to 11, by the call that its kind is: all that the call returns. `runfile::job_lines` and `details`
+// are given the curve's faults.
+pub fn work(
     curve: Faults,
     alpha: f64,
     pillars: &[f64],
@@ -229,12 +230,12 @@ pub fn told_of(
     accruals: &[f64],
     owns: &[f64],
     j: Job,
-) -> Told
+) -> Worked
     requires { ⌜ curve ≡ curveFaults (now times) (now factors) ⌝ }
-    ensures { λ r. ⌜ r ≡ toldOf (listsOf alpha (now (pillars .entry)) (now (sigmas .entry)) (now (times .entry)) (now (factors .entry)) (now (payments .entry)) (now (accruals .entry)) (now (owns .entry)) [] [] []) j ⌝ }
+    ensures { λ r. ⌜ wholeOf r ≡ workOf (listsOf alpha (now (pillars .entry)) (now (sigmas .entry)) (now (times .entry)) (now (factors .entry)) (now (payments .entry)) (now (accruals .entry)) (now (owns .entry)) [] [] []) j ⌝ }
 {
     if j.kind < 5 {
-        return option_told(
+        return option_work(
             curve,
             alpha,
             pillars,
@@ -248,7 +249,7 @@ pub fn told_of(
         );
     }
     if j.kind < 8 {
-        return swaption_told(
+        return swaption_work(
             curve,
             alpha,
             pillars,
@@ -261,7 +262,7 @@ pub fn told_of(
             j,
         );
     }
-    fit_told(
+    fit_work(
         curve,
         alpha,
         pillars,

@@ -2,5 +2,7 @@
 mod kinds;
 mod told;
 
-pub use kinds::told_of;
+pub use kinds::work;
 pub use told::Told;
+pub use told::Worked;
+pub use told::tell;

@@ -1,16 +1,25 @@
-// What is told of a job: document 01's number, the value or +0, and the note.
+// What a job is worked to, and what is told of it: document 01's number, the value or +0, and the note.
 ghost use mathlib.Core.Path.{_≡_};
 ghost use Rattle.lists.specs.Refusals.{refused, outcomeOf};
 ghost use Rattle.jamshidian.specs.Price.{swaptionOutcome};
 ghost use Rattle.valuations.specs.Value.{valuationOutcome};
 ghost use Rattle.bisection.specs.Result.{fittedOutcome};
 ghost use Rattle.kinds.specs.Told.{toldPrice, modelValue, pricerValue, toldFit, noteOf};
+ghost use Rattle.kinds.specs.Worked.{wholeOf, toldFrom};
 use bisection::Fit;
 use bisection::Fitted;
 use jamshidian::Swaption;
 use lists::Price;
 use lists::Refusal;
 use valuations::Valuation;
+
+// The whole answer of a job's call: kinds 1 to 4; 5; 6 and 7; 8 to 11.
+pub enum Worked {
+    Price(Price),
+    Swaption(Swaption),
+    Valuation(Valuation),
+    Fit(Fitted),
+}
 
 pub struct Told {
     pub answer: u64,
@@ -38,7 +47,7 @@ fn turned_down(refusal: Refusal) -> Told
     }
 }
 
-pub fn price(p: Price) -> Told
+fn price(p: Price) -> Told
     ensures { λ r. ⌜ r ≡ toldPrice (outcomeOf p) ⌝ }
 {
     match p {
@@ -47,7 +56,7 @@ pub fn price(p: Price) -> Told
     }
 }
 
-pub fn swaption(s: Swaption) -> Told
+fn swaption(s: Swaption) -> Told
     ensures { λ r. ⌜ r ≡ toldPrice (modelValue (swaptionOutcome s)) ⌝ }
 {
     match s {
@@ -56,7 +65,7 @@ pub fn swaption(s: Swaption) -> Told
     }
 }
 
-pub fn valuation(v: Valuation) -> Told
+fn valuation(v: Valuation) -> Told
     ensures { λ r. ⌜ r ≡ toldPrice (pricerValue (valuationOutcome v)) ⌝ }
 {
     match v {
@@ -72,7 +81,7 @@ fn note_of(fit: Fit) -> u64
     if fit.converged { fit.halvings } else { 0 }
 }
 
-pub fn fitted(f: Fitted) -> Told
+fn fitted(f: Fitted) -> Told
     ensures { λ r. ⌜ r ≡ toldFit (fittedOutcome f) ⌝ }
 {
     match f {
@@ -82,5 +91,16 @@ pub fn fitted(f: Fitted) -> Told
             note: note_of(fit),
         },
         Fitted::Refused(refusal) => turned_down(refusal),
+    }
+}
+
+pub fn tell(w: Worked) -> Told
+    ensures { λ r. ⌜ r ≡ toldFrom (wholeOf w) ⌝ }
+{
+    match w {
+        Worked::Price(p) => price(p),
+        Worked::Swaption(s) => swaption(s),
+        Worked::Valuation(v) => valuation(v),
+        Worked::Fit(f) => fitted(f),
     }
 }

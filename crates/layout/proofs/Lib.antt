@@ -4,4 +4,5 @@ pub mod Conditions
 pub mod Keeping
 pub mod Kept
 pub mod Lists
+pub mod Places
 pub mod Worked

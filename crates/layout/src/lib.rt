@@ -2,6 +2,7 @@
 // a list of bytes are read here for the test programs too.
 mod bytes;
 mod parts;
+mod reading;
 mod records;
 
 pub use bytes::float_of;
@@ -11,6 +12,8 @@ pub use parts::Laid;
 pub use parts::Layout;
 pub use parts::Part;
 pub use parts::lay_out;
+pub use reading::list;
+pub use reading::read_lists;
 pub use records::Job;
 pub use records::alpha;
 pub use records::column;

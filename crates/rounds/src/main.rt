@@ -1,9 +1,131 @@
 // A program for timing: how often a run file is worked (u32, the least byte first) and then the file, from standard
 // input. The file's jobs are worked so often, and the last round's lines are written. `bench/run` calls it.
+ghost use mathlib.Core.Path.{_≡_};
+ghost use Rattle.lists.specs.Faults.{curveFaults};
+ghost use Rattle.layout.specs.declared.parts.Laid.the-variants.{Parts};
+ghost use Rattle.layout.specs.Layout.{layoutOf};
+ghost use Rattle.layout.specs.Request.{requestOf, jobsOf};
+ghost use Rattle.layout.specs.Lists.{Holds};
+ghost use Rattle.kinds.specs.Told.{listsOf};
+use layout::Laid;
+use layout::Layout;
+use lists::Faults;
+
 fn main() {
     let mut rounds = [0u8; 4];
     io::read_full(libc::STDIN_FILENO, &mut rounds);
     let mut file = [0u8; 65537];
     let n = io::read_full(libc::STDIN_FILENO, &mut file);
-    serving::serve_file(&file[..n], layout::half(&rounds, 0), false);
+    serve_file(&file[..n], layout::half(&rounds, 0));
+}
+
+fn serve_file(file: &[u8], rounds: u64) {
+    let laid = layout::lay_out(file);
+    let mut text = [0u8; 128];
+    match laid {
+        Laid::Broken => {
+            let n = lines::write_refused(&mut text);
+            io::write_all(libc::STDOUT_FILENO, &text[..n]);
+        }
+        Laid::Parts(l) => {
+            let n = lines::write_header(&mut text);
+            io::write_all(libc::STDOUT_FILENO, &text[..n]);
+            serve_jobs(file, l, rounds);
+        }
+    }
+}
+
+// `serve_file` has the layout from `lay_out`.
+fn serve_jobs(file: &[u8], l: Layout, rounds: u64)
+    requires { ⌜ layoutOf (now file) ≡ Parts l ⌝ }
+{
+    let mut floats = [0.0; 18432];
+    layout::read_lists(file, l, &mut floats);
+    each_round(file, l, &floats, rounds);
+}
+
+// `serve_jobs` hands on the layout, and the lists that it has read.
+fn each_round(file: &[u8], l: Layout, floats: &[f64], rounds: u64)
+    requires { ⌜ (layoutOf (now file) ≡ Parts l) × Holds (now file) l (now floats) ⌝ }
+{
+    let alpha = layout::alpha(file, l.model);
+    let pillars = layout::list(file, l, floats, 0);
+    let sigmas = layout::list(file, l, floats, 1);
+    let times = layout::list(file, l, floats, 2);
+    let factors = layout::list(file, l, floats, 3);
+    let payments = layout::list(file, l, floats, 4);
+    let accruals = layout::list(file, l, floats, 5);
+    let owns = layout::list(file, l, floats, 6);
+    let grid = layout::list(file, l, floats, 7);
+    let draws = layout::list(file, l, floats, 8);
+    let curve = lists::curve_faults(times, factors);
+    let mut left = rounds;
+    while left > 0 {
+        left -= 1;
+        each_job(
+            file,
+            l,
+            curve,
+            alpha,
+            pillars,
+            sigmas,
+            times,
+            factors,
+            payments,
+            accruals,
+            owns,
+            grid,
+            draws,
+            left == 0,
+        );
+    }
+}
+
+// One round. `each_round` has the lists of the file, and the curve's faults.
+fn each_job(
+    file: &[u8],
+    l: Layout,
+    curve: Faults,
+    alpha: f64,
+    pillars: &[f64],
+    sigmas: &[f64],
+    times: &[f64],
+    factors: &[f64],
+    payments: &[f64],
+    accruals: &[f64],
+    owns: &[f64],
+    grid: &[f64],
+    draws: &[f64],
+    written: bool,
+)
+    requires { ⌜ layoutOf (now file) ≡ Parts l ⌝ }
+    requires { ⌜ curve ≡ curveFaults (now times) (now factors) ⌝ }
+    requires { ⌜ listsOf alpha (now pillars) (now sigmas) (now times) (now factors) (now payments) (now accruals) (now owns) (now grid) (now draws) (jobsOf (now file) (l .jobs)) ≡ requestOf (now file) l ⌝ }
+{
+    let n_jobs = (l.jobs.length / 40) as usize;
+    let mut out = [0u8; 131072];
+    let mut k = 0;
+    while k < n_jobs {
+        let n = runfile::job_lines(
+            file,
+            l,
+            curve,
+            alpha,
+            pillars,
+            sigmas,
+            times,
+            factors,
+            payments,
+            accruals,
+            owns,
+            grid,
+            draws,
+            k,
+            &mut out,
+        );
+        if written {
+            io::write_all(libc::STDOUT_FILENO, &out[..n]);
+        }
+        k += 1;
+    }
 }

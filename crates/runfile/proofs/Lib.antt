@@ -1,3 +1,4 @@
--- What the functions' proofs cite.
+-- What the functions' proofs cite, and, in Lists, what a caller does.
+pub mod Lists
 pub mod Points
 pub mod Written

@@ -24,8 +24,8 @@ use Rattle.fields.specs.Text.{Begins}
 use Rattle.fields.specs.Fields.{bitsOf}
 use Rattle.lines.specs.Lines.{lineOf}
 use Rattle.kinds.specs.declared.told.Told.{Told}
-use Rattle.kinds.specs.Told.{listsOf, optionTold, swaptionTold, fitTold}
-use Rattle.kinds.specs.Told.{toldOf}
+use Rattle.kinds.specs.Told.{listsOf}
+use Rattle.kinds.specs.Worked.{Whole, toldFrom, optionWhole, swaptionWhole, fitWhole, workOf, told-is}
 use Rattle.runfile.specs.Output.{toldLine, pointLines, pathLines, pathOf, jobLines}
 
 -- ---- an outcome, from the answer without its values
@@ -69,20 +69,23 @@ module _ (k : ℕ) (o : Outcome (List Float)) (res : ℕ) (d out : List ℕ) whe
   point-by-point (x ∷ xs) vs e h q b = rw e (rw q at b)
 
 -- ---- the lines of a job
+pub same-told : (k kind res : ℕ) (d out : List ℕ) (t t′ : Told) → t ≡ t′ → Begins res (toldLine k kind t) d out → Begins res (toldLine k kind t′) d out
+same-told k kind res d out t t′ e b = rw (← e) b
+
 module _ (q q′ : Request) (j j′ : Job) (k res : ℕ) (d out : List ℕ) (e : q ≡ q′) (f : j ≡ j′) where
   pub path-job : j .kind ≡ 12 → Begins res (pathLines k (pathOf q)) d out → Begins res (jobLines q′ k j′) d out
   unfolding jobLines
   path-job h b = rw (← e, ← f, eq-eqb (j .kind) 12 h) b
 
-  pub told-job : (t : Told) → (j .kind ≡ 12 → ⊥) → t ≡ toldOf q j → Begins res (toldLine k (j .kind) t) d out → Begins res (jobLines q′ k j′) d out
+  pub worked-job : (w : Whole) → (j .kind ≡ 12 → ⊥) → w ≡ workOf q j → Begins res (toldLine k (j .kind) (toldFrom w)) d out → Begins res (jobLines q′ k j′) d out
   unfolding jobLines
-  told-job t h p b = rw (← e, ← f, ne-eqb (j .kind) 12 h, ← p) b
+  worked-job w h p b = rw (← e, ← f, ne-eqb (j .kind) 12 h, ← told-is q j, ← p) b
 
 -- kinds 1 to 11 look at no grid and at no other job
-pub told-lists : (alpha : Float) (pillars sigmas times factors payments accruals owns grid draws : List Float) (jobs : List Job) (j : Job)
-    → toldOf (listsOf alpha pillars sigmas times factors payments accruals owns [] [] []) j ≡ toldOf (listsOf alpha pillars sigmas times factors payments accruals owns grid draws jobs) j
-unfolding toldOf optionTold swaptionTold fitTold
-told-lists alpha pillars sigmas times factors payments accruals owns grid draws jobs j = refl
+pub work-lists : (alpha : Float) (pillars sigmas times factors payments accruals owns grid draws : List Float) (jobs : List Job) (j : Job)
+    → workOf (listsOf alpha pillars sigmas times factors payments accruals owns [] [] []) j ≡ workOf (listsOf alpha pillars sigmas times factors payments accruals owns grid draws jobs) j
+unfolding workOf optionWhole swaptionWhole fitWhole
+work-lists alpha pillars sigmas times factors payments accruals owns grid draws jobs j = refl
 
 pub grid-short : (file : List ℕ) (l : Layout) → layoutOf file ≡ Parts l → (grid : List Float) → grid ≡ requestOf file l .gridTimes → length grid ≤ 1024
 unfolding requestOf

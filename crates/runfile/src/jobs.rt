@@ -11,7 +11,9 @@ ghost use Rattle.fields.specs.Text.{Begins};
 ghost use Rattle.fields.specs.Fields.{bitsOf};
 ghost use Rattle.lines.specs.Lines.{lineOf};
 ghost use Rattle.kinds.specs.Told.{listsOf};
-ghost use Rattle.runfile.specs.Output.{pointLines, pathLines, jobLines};
+ghost use Rattle.kinds.specs.Worked.{wholeOf, toldFrom};
+ghost use Rattle.runfile.specs.Output.{toldLine, pointLines, pathLines, jobLines};
+use kinds::Worked;
 use layout::Layout;
 use lines::Line;
 use lists::Answer;
@@ -31,12 +33,30 @@ fn point_lines(k: u64, values: &[f64], out: &mut [u8]) -> usize
     at
 }
 
-// One line, for a job that is no served path. `path_lines` and `job_lines` have room for far more.
+// One line, for a job that is no served path. `path_lines` and `worked_line` have room.
 fn one_line(l: Line, out: &mut [u8]) -> usize
     requires { ⌜ 128 ≤ length (now out) ⌝ }
     ensures { λ r. ⌜ Begins r (lineOf (l .job) (l .kind) (l .answer) (bitsOf (l .value)) (l .note)) (now (out .entry)) (now (out .exit)) ⌝ }
 {
     lines::write_line(l, out, 0)
+}
+
+// The line of a job of kinds 1 to 11, from all that its call returned. `job_lines` and `details` have room for far more.
+pub fn worked_line(k: u64, kind: u64, worked: Worked, out: &mut [u8]) -> usize
+    requires { ⌜ 128 ≤ length (now out) ⌝ }
+    ensures { λ r. ⌜ Begins r (toldLine k kind (toldFrom (wholeOf worked))) (now (out .entry)) (now (out .exit)) ⌝ }
+{
+    let told = kinds::tell(worked);
+    one_line(
+        Line {
+            job: k,
+            kind,
+            answer: told.answer,
+            value: told.value,
+            note: told.note,
+        },
+        out,
+    )
 }
 
 // Kind 12. A grid without points is served with one line of zeros. `job_lines` hands on the curve's faults
@@ -97,7 +117,8 @@ fn path_lines(
 }
 
 // The lines of job k of the file, on the lists that were read from it and the curve's faults, worked once
-// for all jobs. `serving::each_job` is given them, and lends room for a path of 1,024 points.
+// for all jobs. `each_job` of `serving`, `rounds` and `details` has them from
+// `layout::list`, and lends room for a path of 1,024 points.
 pub fn job_lines(
     file: &[u8],
     l: Layout,
@@ -135,7 +156,7 @@ pub fn job_lines(
             out,
         );
     }
-    let told = kinds::told_of(
+    let worked = kinds::work(
         curve,
         alpha,
         pillars,
@@ -147,14 +168,5 @@ pub fn job_lines(
         owns,
         j,
     );
-    one_line(
-        Line {
-            job: k as u64,
-            kind: j.kind,
-            answer: told.answer,
-            value: told.value,
-            note: told.note,
-        },
-        out,
-    )
+    worked_line(k as u64, j.kind, worked, out)
 }

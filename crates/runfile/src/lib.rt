@@ -2,3 +2,4 @@
 mod jobs;
 
 pub use jobs::job_lines;
+pub use jobs::worked_line;

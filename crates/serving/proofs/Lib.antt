@@ -1,2 +1,2 @@
--- The laws that the proofs of `serving` share.
-pub mod Lists
+-- What the functions' proofs cite.
+pub mod Sending

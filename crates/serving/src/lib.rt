@@ -1,7 +1,6 @@
-// A run file served to standard output: what the programs calstwid, details and rounds have in common.
-mod answers;
-mod details;
+// A run file served to standard output.
+mod sent;
 mod serve;
-mod text;
 
+pub use sent::Sent;
 pub use serve::serve_file;

@@ -1,110 +1,138 @@
--- `serving::each_job` is safe and ends: round by round and job by job, each with all that its lines ask. Assumes nothing.
+-- `serving::serve::each_job` meets its contract: job by job, each with all that its lines ask, until none is left or a write fails. Assumes nothing.
 use borrow.Author.Needs.{needs}
-use mathlib.Core.Path.{_≡_}
-use Prim.Native.Nat.{_-_}
+use mathlib.Core.Path.{_≡_, sym, _∙_}
+use mathlib.Core.Logic.{inl, inr}
+use Prim.Native.Nat.{_+_, _-_, _≤_}
 use native.Mathlib.Omega.{arith}
 use denote.Ref.{now}
 use lib.ListN.{length}
 use Rattle.layout.proofs.Kept.{kept}
-use Rattle.serving.proofs.Lists.{jobs-read}
+use Rattle.runfile.proofs.Lists.{lists-are}
+use Rattle.serving.specs.Sending.{Due}
+use Rattle.serving.proofs.Sending.{job-due, all-sent}
 use Rattle.serving.proofs.serve.each_job.Statement.{statement}
 use Rattle.serving.proofs.serve.each_job.Tie as tie
 
-abbrev Inv-loop2 : tie.InvT-loop2
-Inv-loop2 file l rounds detailed curve alpha pillars sigmas times factors payments accruals owns grid draws out₀ n-jobs left k₀ out k = length out ≡ 131072
-
-abbrev μ-loop2 : tie.MeasureT-loop2
-μ-loop2 file l rounds detailed curve alpha pillars sigmas times factors payments accruals owns grid draws out₀ n-jobs left k₀ out k = n-jobs - k
-
 abbrev Inv-loop : tie.InvT-loop
-Inv-loop file l rounds detailed curve alpha pillars sigmas times factors payments accruals owns grid draws out₀ n-jobs left₀ out left = length out ≡ 131072
+Inv-loop file l floats due₀ alpha pillars sigmas times factors payments accruals owns grid draws curve n-jobs out₀ last₀ k₀ due out last k =
+    (k ≤ n-jobs) × (length out ≡ 131072) × Due last due × (due ≡ k + 1)
 
 abbrev μ-loop : tie.MeasureT-loop
-μ-loop file l rounds detailed curve alpha pillars sigmas times factors payments accruals owns grid draws out₀ n-jobs left₀ out left = left
+μ-loop file l floats due₀ alpha pillars sigmas times factors payments accruals owns grid draws curve n-jobs out₀ last₀ k₀ due out last k = n-jobs - k
 
-cast-n-jobs : tie.Need-cast-n-jobs Inv-loop2 μ-loop2 Inv-loop μ-loop
-cast-n-jobs c = search needs
+alpha-requires : tie.Need-alpha-requires Inv-loop μ-loop
+alpha-requires c κs = let s = c .before .before in kept (now (s .args .file)) (s .args .l) (s .pre .0) .model
 
-loop-holds : tie.Need-loop-holds Inv-loop2 μ-loop2 Inv-loop μ-loop
-loop-holds c = search needs
+list-requires : tie.Need-list-requires Inv-loop μ-loop
+list-requires c κs = let s = c .before .before .before in (s .pre .0, s .pre .1, omega arith)
 
-sub-left : tie.Need-sub-left Inv-loop2 μ-loop2 Inv-loop μ-loop
-sub-left c = search needs
+list-requires-2 : tie.Need-list-requires-2 Inv-loop μ-loop
+list-requires-2 c κs = let s = c .before .before .before .before in (s .pre .0, s .pre .1, omega arith)
 
-loop2-holds : tie.Need-loop2-holds Inv-loop2 μ-loop2 Inv-loop μ-loop
-loop2-holds c = search needs
+list-requires-3 : tie.Need-list-requires-3 Inv-loop μ-loop
+list-requires-3 c κs = let s = c .before .before .before .before .before in (s .pre .0, s .pre .1, omega arith)
 
-loop-less : tie.Need-loop-less Inv-loop2 μ-loop2 Inv-loop μ-loop
-loop-less c = search needs
+list-requires-4 : tie.Need-list-requires-4 Inv-loop μ-loop
+list-requires-4 c κs = let s = c .before .before .before .before .before .before in (s .pre .0, s .pre .1, omega arith)
 
-loop-again : tie.Need-loop-again Inv-loop2 μ-loop2 Inv-loop μ-loop
-loop-again c = search needs
+list-requires-5 : tie.Need-list-requires-5 Inv-loop μ-loop
+list-requires-5 c κs = let s = c .before .before .before .before .before .before .before in (s .pre .0, s .pre .1, omega arith)
 
-slice-aggregate-job-lines : tie.Need-slice-aggregate-job-lines Inv-loop2 μ-loop2 Inv-loop μ-loop
-slice-aggregate-job-lines c = search needs
+list-requires-6 : tie.Need-list-requires-6 Inv-loop μ-loop
+list-requires-6 c κs = let s = c .before .before .before .before .before .before .before .before in (s .pre .0, s .pre .1, omega arith)
 
-job-lines-requires : tie.Need-job-lines-requires Inv-loop2 μ-loop2 Inv-loop μ-loop
+list-requires-7 : tie.Need-list-requires-7 Inv-loop μ-loop
+list-requires-7 c κs = let s = c .before .before .before .before .before .before .before .before .before in (s .pre .0, s .pre .1, omega arith)
+
+list-requires-8 : tie.Need-list-requires-8 Inv-loop μ-loop
+list-requires-8 c κs = let s = c .before .before .before .before .before .before .before .before .before .before in (s .pre .0, s .pre .1, omega arith)
+
+list-requires-9 : tie.Need-list-requires-9 Inv-loop μ-loop
+list-requires-9 c κs = let s = c .before .before .before .before .before .before .before .before .before .before .before in (s .pre .0, s .pre .1, omega arith)
+
+curve-faults-requires : tie.Need-curve-faults-requires Inv-loop μ-loop
+curve-faults-requires c κs = search needs
+
+cast-n-jobs : tie.Need-cast-n-jobs Inv-loop μ-loop
+cast-n-jobs c = let s = c .before .before .before .before .before .before .before .before .before .before .before .before .before .before in omega (arith, kept (now (s .args .file)) (s .args .l) (s .pre .0) .jobs .few)
+
+loop-holds : tie.Need-loop-holds Inv-loop μ-loop
+loop-holds c = let s = c .before .before .before .before .before .before .before .before .before .before .before .before .before .before in (search needs, search needs, s .pre .2, s .pre .3)
+
+slice-aggregate-job-lines : tie.Need-slice-aggregate-job-lines Inv-loop μ-loop
+slice-aggregate-job-lines c = let h = c .before .before .loop .inv .1 in search (needs, h)
+
+job-lines-requires : tie.Need-job-lines-requires Inv-loop μ-loop
 job-lines-requires c κs =
-    let s = c .before .before .before .before .before .before .before .before .before .before .before .before .before .before .before .before in
-    let a = s .args in
-    ((s .pre .0, c .before .loop2-test .taken, omega (arith, c .before .before .loop2 .inv)), (s .pre .1 .0, jobs-read (now (a .file)) (a .l) (a .alpha) (now (a .pillars)) (now (a .sigmas)) (now (a .times)) (now (a .factors)) (now (a .payments)) (now (a .accruals)) (now (a .owns)) (now (a .grid)) (now (a .draws)) (s .pre .1 .1)))
+    let b = c .before .before .before in
+    let s = b .before .before .before .before .before .before .before .before .before .before .before .before .before .before in
+    let read = lists-are (now (s .args .file)) (s .args .l) _ _ _ _ _ _ _ _ _ _ (b .before .before .before .before .before .before .before .before .before .before .before .alpha .ensures) (b .before .before .before .before .before .before .before .before .before .before .list .ensures) (b .before .before .before .before .before .before .before .before .before .list2 .ensures) (b .before .before .before .before .before .before .before .before .list3 .ensures) (b .before .before .before .before .before .before .before .list4 .ensures) (b .before .before .before .before .before .before .list5 .ensures) (b .before .before .before .before .before .list6 .ensures) (b .before .before .before .before .list7 .ensures) (b .before .before .before .list8 .ensures) (b .before .before .list9 .ensures) in
+    ((s .pre .0, c .before .loop-test .taken, omega (arith, c .before .before .loop .inv .1)), (b .before .curve-faults .ensures, read))
 
-array-share-prefix-out : tie.Need-array-share-prefix-out Inv-loop2 μ-loop2 Inv-loop μ-loop
+array-share-prefix-out : tie.Need-array-share-prefix-out Inv-loop μ-loop
 array-share-prefix-out c = search needs
 
-slice-aggregate-write-all : tie.Need-slice-aggregate-write-all Inv-loop2 μ-loop2 Inv-loop μ-loop
-slice-aggregate-write-all c = search needs
+slice-aggregate-send : tie.Need-slice-aggregate-send Inv-loop μ-loop
+slice-aggregate-send c = search needs
 
-write-all-requires : tie.Need-write-all-requires Inv-loop2 μ-loop2 Inv-loop μ-loop
-write-all-requires c κs = search needs
+send-requires : tie.Need-send-requires Inv-loop μ-loop
+send-requires c κs =
+    let l = c .before .before .before .before .before .before .loop in
+    let s = c .before .before .before .before .before .before .before .before .before .before .before .before .before .before .before .before .before .before .before .before .before in
+    let j = job-due (now (s .args .file)) (s .args .l) (s .pre .0) _ (l .k) (l .due) _ _ (l .inv .3) (c .before .before .before .before .before .loop-test .taken) (c .before .before .before .job-lines .ensures) in
+    (l .inv .2, j .0, j .1)
 
-returns : tie.Need-returns Inv-loop2 μ-loop2 Inv-loop μ-loop
-returns c = search needs
+failed-requires : tie.Need-failed-requires Inv-loop μ-loop
+failed-requires c κs = search needs
 
-nth-job-requires : tie.Need-nth-job-requires Inv-loop2 μ-loop2 Inv-loop μ-loop
-nth-job-requires c κs =
-    let x = c .before .before .before .before .before .before .before in
-    let s = x .before .before .before .before .before .before .before .before .before .before .before .before .before .before .before .before in
-    (kept (now (s .args .file)) (s .args .l) (s .pre .0) .jobs .inside, x .before .loop2-test .taken)
+returns : tie.Need-returns Inv-loop μ-loop
+returns c = inl (sym (c .before .failed .ensures) ∙ c .if1 .taken)
 
-write-requires : tie.Need-write-requires Inv-loop2 μ-loop2 Inv-loop μ-loop
-write-requires c κs = search needs
-
-add-k : tie.Need-add-k Inv-loop2 μ-loop2 Inv-loop μ-loop
+add-k : tie.Need-add-k Inv-loop μ-loop
 add-k c = search needs
 
-loop2-less : tie.Need-loop2-less Inv-loop2 μ-loop2 Inv-loop μ-loop
-loop2-less c = search needs
+loop-less : tie.Need-loop-less Inv-loop μ-loop
+loop-less c = search needs
 
-loop2-again : tie.Need-loop2-again Inv-loop2 μ-loop2 Inv-loop μ-loop
-loop2-again c = search needs
+loop-again : tie.Need-loop-again Inv-loop μ-loop
+loop-again c =
+    let l = c .before .before .before .before .before .before .before .before .before .loop in
+    let e = c .before .before .send .ensures in
+    (omega (arith, c .before .before .before .before .before .before .before .before .loop-test .taken), c .before .before .before .before .before .before .job-lines .kept .1 .1 .1 .1 .1 .1 .1 .1 .1 .1 .1 .1 .1 .1 .0 ∙ l .inv .1, (sym (c .before .failed .ensures) ∙ c .if1 .left, sym (e .1)), omega (arith, e .0, e .1, l .inv .2 .1, l .inv .3))
 
-returns-2 : tie.Need-returns-2 Inv-loop2 μ-loop2 Inv-loop μ-loop
-returns-2 c = search needs
+returns-2 : tie.Need-returns-2 Inv-loop μ-loop
+returns-2 c =
+    let l = c .before .loop in
+    let s = c .before .before .before .before .before .before .before .before .before .before .before .before .before .before .before .before in
+    inr (all-sent (now (s .args .file)) (s .args .l) (s .pre .0) (l .k) _ (l .inv .2 .1 ∙ l .inv .3) (omega (arith, l .inv .0, c .loop-test .left)))
 
 pub each-job-spec : {M : Type 1} → statement M
 each-job-spec =
     tie.close
     (tie.spec
-    Inv-loop2
-    μ-loop2
     Inv-loop
     μ-loop
+    alpha-requires
+    list-requires
+    list-requires-2
+    list-requires-3
+    list-requires-4
+    list-requires-5
+    list-requires-6
+    list-requires-7
+    list-requires-8
+    list-requires-9
+    curve-faults-requires
     cast-n-jobs
     loop-holds
-    sub-left
-    loop2-holds
-    loop-less
-    loop-again
     slice-aggregate-job-lines
     job-lines-requires
     array-share-prefix-out
-    slice-aggregate-write-all
-    write-all-requires
+    slice-aggregate-send
+    send-requires
+    failed-requires
     returns
-    nth-job-requires
-    write-requires
     add-k
-    loop2-less
-    loop2-again
+    loop-less
+    loop-again
     returns-2)

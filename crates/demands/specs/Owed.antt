@@ -1,0 +1,135 @@
+-- Demand 3 of a job of kinds 1 to 11, as it is told: what an accepted call gives has the facts that its kind owes, its value and its note are the ones told, and 10 is told exactly where a search that was begun wants a bracket. "In demand 3, accepted means answer 0".
+use mathlib.Core.Path.{_≡_}
+use mathlib.Core.Logic.{_↔_}
+use mathlib.Core.Bool.{cond}
+use Prim.Native.Nat.{ℕ, _<_}
+use lib.Dec.{ltb, eqb}
+use lib.ListN.{length}
+use lib.Ieee.{Float}
+use Rattle.lists.specs.Refusals.{Outcome, served}
+use Rattle.terms.specs.Begun.{RootFound, WantsBracket}
+use Rattle.options.specs.declared.options.BondOption.the-variants.{Put, Call}
+use Rattle.options.specs.Options.{optionletOutcome, bondOptionOutcome}
+use Rattle.jamshidian.specs.Price as Model
+use Rattle.jamshidian.specs.PricedSum as ModelSum
+use Rattle.swaptions.specs.Model as Swaptions
+use Rattle.valuations.specs.Value as Pricer
+use Rattle.pricers.specs.Pricer as Pricers
+use Rattle.pricers.specs.Demand3 as PricerSum
+use Rattle.closedform.specs.declared.bond_option.SwaptionType.{SwaptionType}
+use Rattle.closedform.specs.declared.bond_option.SwaptionType.the-variants.{Payer, Receiver}
+use Rattle.objectives.specs.declared.market.Quote.{Quote}
+use Rattle.objectives.specs.declared.market.Quote.the-variants.{Black, Normal}
+use Rattle.bisection.specs.declared.result.Fit.{Fit}
+use Rattle.calibration.specs.Fits.{capletFitOutcome, swaptionFitOutcome}
+use Rattle.calibration.specs.Demand3 as Fits
+use Rattle.layout.specs.declared.records.Job.{Job}
+use Rattle.layout.specs.Request.{Request}
+use Rattle.kinds.specs.declared.told.Told.{Told}
+use Rattle.kinds.specs.Told.{noteOf}
+
+-- a job's call: its outcome; what is told as value and as note of what it gives; the facts that demand 3 owes of that; and when a search that the call began wants a bracket
+pub record Owed : Type 1 where
+  pub Given : Type 0
+  pub outcome : Outcome Given
+  pub value : Given → Float
+  pub note : Given → ℕ
+  pub Facts : Given → Type 0
+  pub Wants : Type 0
+
+-- ---- what is owed, sort by sort. "A fit's value is its sigma; its note is the halving that converged, 1 to 200, or 0."; "Other notes are 0."
+
+-- kinds 1 to 4: no root, and no search
+abbrev pub optionOwed : Outcome Float → Owed
+optionOwed o = record { Given = Float; outcome = o; value = λ v. v; note = λ v. 0; Facts = λ v. Unit {0}; Wants = ⊥ }
+
+module _ (q : Request) (j : Job) where
+  -- kind 5: with coupons, the price rests on a root that is located. "Kind 5 with no coupons is 0 and needs no time"
+  abbrev pub modelOwed : Owed
+  modelOwed =
+      let rules = Swaptions.rulesOn (q .alpha) (q .curveTimes) (q .curveFactors) (q .payments) (q .accruals) (j .a) (j .b) (j .c) in
+      let sum = ModelSum.sumOf (q .alpha) (j .b) (q .payments) (q .accruals) (j .a) (j .c) in
+      record {
+        Given = Model.Valued;
+        outcome = Swaptions.modelOutcome (q .alpha) (q .curveTimes) (q .curveFactors) (q .payments) (q .accruals) (j .a) (j .b) (j .c);
+        value = λ v. v .value;
+        note = λ v. 0;
+        Facts = λ v. 0 < length (q .payments) → RootFound rules (q .curveTimes) (q .curveFactors) (q .payments) (j .b) sum (v .root);
+        Wants = (0 < length (q .payments)) × WantsBracket rules (q .curveTimes) (q .curveFactors) (q .payments) (j .b) sum;
+      }
+
+  -- kinds 6 and 7: the root is that before the Newton step
+  abbrev pub pricerOwed : SwaptionType → Owed
+  pricerOwed option =
+      let rules = Pricers.rulesOn (q .alpha) (q .pillarTimes) (q .pillarSigmas) (q .curveTimes) (q .curveFactors) (q .payments) (q .accruals) (q .owns) (j .a) (j .b) (j .c) (j .d) in
+      let sum = PricerSum.sumOf (q .alpha) (q .pillarTimes) (q .pillarSigmas) (j .b) (q .payments) (q .accruals) (j .a) in
+      record {
+        Given = Pricer.Valued;
+        outcome = Pricers.pricerOutcome option (q .alpha) (q .pillarTimes) (q .pillarSigmas) (q .curveTimes) (q .curveFactors) (q .payments) (q .accruals) (q .owns) (j .a) (j .b) (j .c) (j .d);
+        value = λ v. v .value;
+        note = λ v. 0;
+        Facts = λ v. RootFound rules (q .curveTimes) (q .curveFactors) (q .payments) (j .b) sum (v .root);
+        Wants = WantsBracket rules (q .curveTimes) (q .curveFactors) (q .payments) (j .b) sum;
+      }
+
+  -- kinds 8 and 9: a fit without a search
+  abbrev pub capletOwed : Quote → Owed
+  capletOwed quote = record {
+    Given = Fit;
+    outcome = capletFitOutcome quote (q .alpha) (q .curveTimes) (q .curveFactors) (j .a) (j .b) (j .c) (j .d);
+    value = λ fit. fit .sigma;
+    note = noteOf;
+    Facts = Fits.CapletAssured quote (q .alpha) (q .curveTimes) (q .curveFactors) (j .a) (j .b) (j .c) (j .d);
+    Wants = ⊥;
+  }
+
+  -- kinds 10 and 11: a fit with a search at every sigma that it tries; 10 where one of those wants a bracket
+  abbrev pub swaptionOwed : Quote → Owed
+  swaptionOwed quote = record {
+    Given = Fit;
+    outcome = swaptionFitOutcome quote (q .alpha) (q .curveTimes) (q .curveFactors) (q .payments) (q .accruals) (j .a) (j .b) (j .c);
+    value = λ fit. fit .sigma;
+    note = noteOf;
+    Facts = Fits.SwaptionAssured quote (q .alpha) (q .curveTimes) (q .curveFactors) (q .payments) (q .accruals) (j .a) (j .b) (j .c);
+    Wants = Fits.WantsBracket quote (q .alpha) (q .curveTimes) (q .curveFactors) (q .payments) (q .accruals) (j .a) (j .b) (j .c);
+  }
+
+  -- ---- and kind by kind
+  -- "1 caplet, 2 floorlet (strike, start, end, sigma); 3 bond put, 4 bond call (option time, bond time, strike, sigma)"
+  unfoldable pub optionsOwed : Owed
+  optionsOwed =
+      cond (eqb (j .kind) 1) (optionOwed (optionletOutcome Put (q .alpha) (q .curveTimes) (q .curveFactors) (j .a) (j .b) (j .c) (j .d)))
+      (cond (eqb (j .kind) 2) (optionOwed (optionletOutcome Call (q .alpha) (q .curveTimes) (q .curveFactors) (j .a) (j .b) (j .c) (j .d)))
+      (cond (eqb (j .kind) 3) (optionOwed (bondOptionOutcome Put (q .alpha) (q .curveTimes) (q .curveFactors) (j .a) (j .b) (j .c) (j .d)))
+      (optionOwed (bondOptionOutcome Call (q .alpha) (q .curveTimes) (q .curveFactors) (j .a) (j .b) (j .c) (j .d)))))
+
+  -- "5 model swaption (strike, option time, sigma); 6 payer, 7 receiver by the pricer (strike, option time, notional, side)"
+  unfoldable pub swaptionsOwed : Owed
+  swaptionsOwed = cond (eqb (j .kind) 5) modelOwed (cond (eqb (j .kind) 6) (pricerOwed Payer) (pricerOwed Receiver))
+
+  -- "8 Black, 9 normal caplet fit (strike, start, end, quoted volatility); 10 Black, 11 normal swaption fit (strike, option time, quoted volatility)"
+  unfoldable pub fitsOwed : Owed
+  fitsOwed =
+      cond (eqb (j .kind) 8) (capletOwed Black)
+      (cond (eqb (j .kind) 9) (capletOwed Normal)
+      (cond (eqb (j .kind) 10) (swaptionOwed Black)
+      (swaptionOwed Normal)))
+
+  unfoldable pub owedOf : Owed
+  owedOf = cond (ltb (j .kind) 5) optionsOwed (cond (ltb (j .kind) 8) swaptionsOwed fitsOwed)
+
+-- ---- and that it is told
+
+-- what an accepted call gives: the value and the note told are its own, and its facts hold
+pub record Accepted (owed : Owed) (told : Told) : Type 0 where
+  pub given : owed .Given
+  pub is : owed .outcome ≡ served given
+  pub value-is : told .value ≡ owed .value given
+  pub note-is : told .note ≡ owed .note given
+  pub facts : owed .Facts given
+
+pub record Held (owed : Owed) (told : Told) : Type 0 where
+  -- no answer 0 without what is owed
+  pub accepted : told .answer ≡ 0 → Accepted owed told
+  -- no answer 10 on any other ground
+  pub no-bracket : (told .answer ≡ 10) ↔ owed .Wants

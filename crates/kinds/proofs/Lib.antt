@@ -1,2 +1,0 @@
--- What is proved of jobs as they are told.
-pub mod Demand3

@@ -1,0 +1,64 @@
+-- `layout::reading::list` meets its contract: the list's own part of its place. Assumes nothing.
+use borrow.Author.Needs.{needs}
+use native.Mathlib.Omega.{arith}
+use denote.Ref.{now}
+use Rattle.layout.proofs.Places.{listed-at, own-part}
+use Rattle.layout.proofs.reading.list.Statement.{statement}
+use Rattle.layout.proofs.reading.list.Tie as tie
+
+column-at-requires : tie.Need-column-at-requires
+column-at-requires c κs = search needs
+
+mul-at : tie.Need-mul-at
+mul-at c = search needs
+
+cast-end : tie.Need-cast-end
+cast-end c = search needs
+
+div-end : tie.Need-div-end
+div-end c =
+    let s = c .before .before .before .before .before in
+    let z = listed-at (now (s .args .file)) (s .args .l) (s .pre .0) (s .args .which) (s .pre .2) _ (c .before .before .column-at .ensures) in
+    omega (arith, z .within)
+
+add-end : tie.Need-add-end
+add-end c =
+    let s = c .before .before .before .before .before in
+    let z = listed-at (now (s .args .file)) (s .args .l) (s .pre .0) (s .args .which) (s .pre .2) _ (c .before .before .column-at .ensures) in
+    omega (arith, z .few, s .pre .2)
+
+mul-result : tie.Need-mul-result
+mul-result c = search needs
+
+sub-result : tie.Need-sub-result
+sub-result c = search needs
+
+part-result-start : tie.Need-part-result-start
+part-result-start c = search needs
+
+part-result-end : tie.Need-part-result-end
+part-result-end c =
+    let s = c .before .before .before .before .before in
+    let z = listed-at (now (s .args .file)) (s .args .l) (s .pre .0) (s .args .which) (s .pre .2) _ (c .before .before .column-at .ensures) in
+    omega (arith, z .few, s .pre .2, s .pre .1 .room)
+
+returns : tie.Need-returns
+returns c =
+    let s = c .before .before .before .before .before .before in
+    let z = listed-at (now (s .args .file)) (s .args .l) (s .pre .0) (s .args .which) (s .pre .2) _ (c .before .before .before .column-at .ensures) in
+    own-part (now (s .args .file)) (s .args .l) (now (s .args .floats)) (s .args .which) _ (z .count) (s .pre .1 .lists (s .args .which) (s .pre .2))
+
+pub list-spec : {M : Type 1} → statement M
+list-spec =
+    tie.close
+    (tie.spec
+    column-at-requires
+    mul-at
+    cast-end
+    div-end
+    add-end
+    mul-result
+    sub-result
+    part-result-start
+    part-result-end
+    returns)

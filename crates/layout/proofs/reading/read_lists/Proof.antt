@@ -1,0 +1,80 @@
+-- `layout::reading::read_lists` meets its contract. The loop's invariant: the lists below `which` stand at their places. Assumes nothing.
+use borrow.Author.Needs.{needs}
+use mathlib.Core.Path.{_≡_, _∙_}
+use Prim.Native.Nat.{ℕ, _*_, _-_, _<_, _≤_}
+use native.Mathlib.Omega.{arith}
+use denote.Ref.{now}
+use lib.ListN.{length}
+use Rattle.layout.specs.Lists.{Stands}
+use Rattle.layout.proofs.Places.{a-place, still-nine, one-more}
+use Rattle.layout.proofs.reading.read_lists.Statement.{statement}
+use Rattle.layout.proofs.reading.read_lists.Tie as tie
+
+abbrev Inv-loop : tie.InvT-loop
+Inv-loop file l floats₀ which₀ floats which = (which ≤ 9) × (length floats ≡ 18432) × ((w : ℕ) → w < which → Stands file l floats w)
+
+abbrev μ-loop : tie.MeasureT-loop
+μ-loop file l floats₀ which₀ floats which = 9 - which
+
+loop-holds : tie.Need-loop-holds Inv-loop μ-loop
+loop-holds c = (search needs, c .before .before .pre .1, λ w h. absurd (let z : ⊥ = omega arith in z))
+
+mul-at : tie.Need-mul-at Inv-loop μ-loop
+mul-at c = search needs
+
+mul-read-list : tie.Need-mul-read-list Inv-loop μ-loop
+mul-read-list c = search needs
+
+sub-read-list : tie.Need-sub-read-list Inv-loop μ-loop
+sub-read-list c = search needs
+
+part-read-list-start : tie.Need-part-read-list-start Inv-loop μ-loop
+part-read-list-start c = search needs
+
+part-read-list-end : tie.Need-part-read-list-end Inv-loop μ-loop
+part-read-list-end c = search needs
+
+read-list-requires : tie.Need-read-list-requires Inv-loop μ-loop
+read-list-requires c κs =
+    let s = c .before .before .before .before .before in
+    let l = c .before .before .loop in
+    (s .pre .0, c .before .loop-test .taken, a-place (l .which) (c .before .loop-test .taken) (l .floats) (l .inv .1))
+
+add-which : tie.Need-add-which Inv-loop μ-loop
+add-which c = search needs
+
+loop-less : tie.Need-loop-less Inv-loop μ-loop
+loop-less c = search needs
+
+loop-again : tie.Need-loop-again Inv-loop μ-loop
+loop-again c =
+    let s = c .before .before .before .before .before .before .before .before in
+    let l = c .before .before .before .before .before .loop in
+    let t = c .before .before .before .before .loop-test .taken in
+    let r = c .before .before .read-list in
+    (omega (arith, t), still-nine (l .which) t (l .floats) (l .inv .1) (r .last .1 .1 .1 .0) (r .kept .1 .1 .1 .0), one-more (now (s .args .file)) (s .args .l) (s .pre .0) (l .which) t (l .floats) _ _ (r .last .1 .1 .1 .0) (l .inv .1) (r .ensures .1) (l .inv .2))
+
+same-length : tie.Need-same-length Inv-loop μ-loop
+same-length c = search needs
+
+returns : tie.Need-returns Inv-loop μ-loop
+returns c = record { room = c .before .loop .inv .1; lists = λ w h. c .before .loop .inv .2 w (omega (arith, c .loop-test .left, h)) }
+
+pub read-lists-spec : {M : Type 1} → statement M
+read-lists-spec =
+    tie.close
+    (tie.spec
+    Inv-loop
+    μ-loop
+    loop-holds
+    mul-at
+    mul-read-list
+    sub-read-list
+    part-read-list-start
+    part-read-list-end
+    read-list-requires
+    add-which
+    loop-less
+    loop-again
+    same-length
+    returns)

@@ -1,0 +1,80 @@
+// The nine lists of a run file, by number, read into one array of floats: a place of 2,048 each.
+ghost use mathlib.Core.Path.{_≡_};
+ghost use mathlib.Core.List.{_++_};
+ghost use Prim.Native.Nat.{_+_, _*_, _/_, _<_, _≤_};
+ghost use lib.ListN.{length, drop};
+ghost use Rattle.layout.specs.declared.parts.Laid.the-variants.{Parts};
+ghost use Rattle.layout.specs.Layout.{layoutOf};
+ghost use Rattle.layout.specs.Request.{columnOf, requestOf};
+ghost use Rattle.layout.specs.Lists.{listOf, Holds, columnOn, columnAt};
+use crate::parts::Layout;
+use crate::parts::Part;
+use crate::records;
+
+// A list is a column of its part: of records of `width` bytes, the float number `field`.
+pub struct Column {
+    part: Part,
+    width: usize,
+    field: usize,
+}
+
+fn of_part(part: Part, width: usize, field: usize) -> Column
+    ensures { λ r. ⌜ r ≡ columnOn part width field ⌝ }
+{
+    Column { part, width, field }
+}
+
+// The column of list `which`. `read_list` and `list` have one of the nine.
+fn column_at(l: Layout, which: usize) -> Column
+    requires { ⌜ which < 9 ⌝ }
+    ensures { λ r. ⌜ r ≡ columnAt l which ⌝ }
+{
+    match which {
+        0 => of_part(l.pillars, 16, 0),
+        1 => of_part(l.pillars, 16, 1),
+        2 => of_part(l.curve, 16, 0),
+        3 => of_part(l.curve, 16, 1),
+        4 => of_part(l.coupons, 24, 0),
+        5 => of_part(l.coupons, 24, 1),
+        6 => of_part(l.coupons, 24, 2),
+        7 => of_part(l.grid, 16, 0),
+        _ => of_part(l.grid, 16, 1),
+    }
+}
+
+// List `which` of a run file, at the front of `out`, and how many floats it has. `lay_out` has seen the layout;
+// `read_lists` goes through the nine, and lends a place.
+fn read_list(file: &[u8], l: Layout, which: usize, out: &mut [f64]) -> usize
+    requires { ⌜ (layoutOf (now file) ≡ Parts l) × (which < 9) × (2048 ≤ length (now out)) ⌝ }
+    ensures { λ r. ⌜ r ≡ length (listOf (requestOf (now (file .entry)) l) which) ⌝ }
+    ensures { λ r. ⌜ now (out .exit) ≡ listOf (requestOf (now (file .entry)) l) which ++ drop r (now (out .entry)) ⌝ }
+{
+    let c = column_at(l, which);
+    let n = c.part.length as usize / c.width;
+    records::column(file, c.part, c.width, c.field, &mut out[..n]);
+    n
+}
+
+// All nine, each at its place. `lay_out` has seen the layout; the programs lend nine places.
+pub fn read_lists(file: &[u8], l: Layout, floats: &mut [f64])
+    requires { ⌜ (layoutOf (now file) ≡ Parts l) × (length (now floats) ≡ 18432) ⌝ }
+    ensures { λ _. ⌜ Holds (now (file .entry)) l (now (floats .exit)) ⌝ }
+{
+    let mut which = 0;
+    while which < 9 {
+        let at = 2048 * which;
+        read_list(file, l, which, &mut floats[at..]);
+        which += 1;
+    }
+}
+
+// List `which` of a run file, where `read_lists` has put it.
+pub fn list<'a>(file: &[u8], l: Layout, floats: &'a [f64], which: usize) -> &'a [f64]
+    requires { ⌜ (layoutOf (now file) ≡ Parts l) × Holds (now file) l (now floats) × (which < 9) ⌝ }
+    ensures { λ r. ⌜ now r ≡ listOf (requestOf (now (file .entry)) l) which ⌝ }
+{
+    let c = column_at(l, which);
+    let at = 2048 * which;
+    let end = at + c.part.length as usize / c.width;
+    &floats[at..end]
+}

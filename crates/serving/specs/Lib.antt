@@ -1,0 +1,2 @@
+-- When the output of a file is sent.
+pub mod Sending
