@@ -360,6 +360,9 @@ impl Tally {
         println!("fits: {converged} converged, {unconverged} unconverged");
         println!("bumped fits: {bumped} converged, {unconverged_bumped} unconverged");
         println!("refused by a bumped fit: {}", self.bumping);
+        let served: u64 = self.served.iter().sum();
+        println!("served and put to the Rust {served}");
+        println!("refused and not put to it {}", self.baskets - served);
         let rate = self.baskets as f64 / seconds.max(1e-9);
         println!("baskets {}, {rate:.0} per second", self.baskets);
         println!("differences {}", self.differences);

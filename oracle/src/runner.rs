@@ -266,6 +266,9 @@ fn print_tally(tally: &Tally, seconds: f64) {
     println!("files {}, layout refused {}", tally.files, tally.refused);
     println!("jobs {}", tally.jobs.values().sum::<u64>());
     println!("unconverged fits {}", tally.unconverged);
+    let served: u64 = tally.jobs.iter().filter(|((_, answer), _)| *answer == 0).map(|(_, n)| n).sum();
+    println!("served and put to the Rust {served}");
+    println!("refused and not put to it {}", tally.jobs.values().sum::<u64>() - served);
     println!("files per second {:.0}", tally.files as f64 / seconds.max(1e-9));
     println!("differences {}", tally.differences);
 }
