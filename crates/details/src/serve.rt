@@ -1,11 +1,17 @@
 // A run file served with details: each job is worked once, and both its line and its details are told of that.
 ghost use mathlib.Core.Path.{_≡_};
+ghost use Prim.Native.Nat.{_/_, _≤_, _<_};
+ghost use lib.ListN.{length};
+ghost use Rattle.lists.specs.Faults.{curveFaults};
 ghost use Rattle.layout.specs.declared.parts.Laid.the-variants.{Parts};
 ghost use Rattle.layout.specs.Layout.{layoutOf};
+ghost use Rattle.layout.specs.Request.{requestOf, jobsOf};
 ghost use Rattle.layout.specs.Lists.{Holds};
+ghost use Rattle.kinds.specs.Told.{listsOf};
 use super::answers;
 use layout::Laid;
 use layout::Layout;
+use lists::Faults;
 
 pub fn serve_file(file: &[u8]) {
     let laid = layout::lay_out(file);
@@ -51,43 +57,84 @@ fn each_job(file: &[u8], l: Layout, floats: &[f64])
     let mut out = [0u8; 131072];
     let mut k = 0;
     while k < n_jobs {
-        let j = layout::nth_job(file, l.jobs, k);
-        if j.kind == 12 {
-            let n = runfile::job_lines(
-                file,
-                l,
-                curve,
-                alpha,
-                pillars,
-                sigmas,
-                times,
-                factors,
-                payments,
-                accruals,
-                owns,
-                grid,
-                draws,
-                k,
-                &mut out,
-            );
-            io::write_all(libc::STDOUT_FILENO, &out[..n]);
-        } else {
-            let w = kinds::work(
-                curve,
-                alpha,
-                pillars,
-                sigmas,
-                times,
-                factors,
-                payments,
-                accruals,
-                owns,
-                j,
-            );
-            let n = runfile::worked_line(k as u64, j.kind, w, &mut out);
-            io::write_all(libc::STDOUT_FILENO, &out[..n]);
-            answers::worked(w);
-        }
+        one_job(
+            file,
+            l,
+            curve,
+            alpha,
+            pillars,
+            sigmas,
+            times,
+            factors,
+            payments,
+            accruals,
+            owns,
+            grid,
+            draws,
+            k,
+            &mut out,
+        );
         k += 1;
     }
+}
+
+// The lines of job k and, of kinds 5 to 11, the details. `each_job` has what `runfile::job_lines` asks.
+fn one_job(
+    file: &[u8],
+    l: Layout,
+    curve: Faults,
+    alpha: f64,
+    pillars: &[f64],
+    sigmas: &[f64],
+    times: &[f64],
+    factors: &[f64],
+    payments: &[f64],
+    accruals: &[f64],
+    owns: &[f64],
+    grid: &[f64],
+    draws: &[f64],
+    k: usize,
+    out: &mut [u8],
+)
+    requires { ⌜ (layoutOf (now file) ≡ Parts l) × (k < l .jobs .length / 40) × (131072 ≤ length (now out)) ⌝ }
+    requires { ⌜ curve ≡ curveFaults (now times) (now factors) ⌝ }
+    requires { ⌜ listsOf alpha (now pillars) (now sigmas) (now times) (now factors) (now payments) (now accruals) (now owns) (now grid) (now draws) (jobsOf (now file) (l .jobs)) ≡ requestOf (now file) l ⌝ }
+{
+    let j = layout::nth_job(file, l.jobs, k);
+    if j.kind == 12 {
+        let n = runfile::job_lines(
+            file,
+            l,
+            curve,
+            alpha,
+            pillars,
+            sigmas,
+            times,
+            factors,
+            payments,
+            accruals,
+            owns,
+            grid,
+            draws,
+            k,
+            out,
+        );
+        io::write_all(libc::STDOUT_FILENO, &out[..n]);
+        return;
+    }
+    let w = kinds::work(
+        curve,
+        alpha,
+        pillars,
+        sigmas,
+        times,
+        factors,
+        payments,
+        accruals,
+        owns,
+        j,
+    );
+    let n = runfile::worked_line(k as u64, j.kind, w, out);
+    io::write_all(libc::STDOUT_FILENO, &out[..n]);
+    answers::worked(w);
 }

@@ -1,11 +1,11 @@
 // The nine lists of a run file, by number, read into one array of floats: a place of 2,048 each.
 ghost use mathlib.Core.Path.{_≡_};
 ghost use mathlib.Core.List.{_++_};
-ghost use Prim.Native.Nat.{_+_, _*_, _/_, _<_, _≤_};
+ghost use Prim.Native.Nat.{_<_, _≤_};
 ghost use lib.ListN.{length, drop};
 ghost use Rattle.layout.specs.declared.parts.Laid.the-variants.{Parts};
 ghost use Rattle.layout.specs.Layout.{layoutOf};
-ghost use Rattle.layout.specs.Request.{columnOf, requestOf};
+ghost use Rattle.layout.specs.Request.{requestOf};
 ghost use Rattle.layout.specs.Lists.{listOf, Holds, columnOn, columnAt};
 use crate::parts::Layout;
 use crate::parts::Part;
@@ -55,7 +55,8 @@ fn read_list(file: &[u8], l: Layout, which: usize, out: &mut [f64]) -> usize
     n
 }
 
-// All nine, each at its place. `lay_out` has seen the layout; the programs lend nine places.
+// All nine, each at its place. `lay_out` has seen the layout; `serve_jobs` of `serving`, `rounds` and `details` lends
+// nine places.
 pub fn read_lists(file: &[u8], l: Layout, floats: &mut [f64])
     requires { ⌜ (layoutOf (now file) ≡ Parts l) × (length (now floats) ≡ 18432) ⌝ }
     ensures { λ _. ⌜ Holds (now (file .entry)) l (now (floats .exit)) ⌝ }
@@ -68,7 +69,7 @@ pub fn read_lists(file: &[u8], l: Layout, floats: &mut [f64])
     }
 }
 
-// List `which` of a run file, where `read_lists` has put it.
+// List `which` of a run file, where `read_lists` has put it: `serving`, `rounds` and `details` hand on its floats.
 pub fn list<'a>(file: &[u8], l: Layout, floats: &'a [f64], which: usize) -> &'a [f64]
     requires { ⌜ (layoutOf (now file) ≡ Parts l) × Holds (now file) l (now floats) × (which < 9) ⌝ }
     ensures { λ r. ⌜ now r ≡ listOf (requestOf (now (file .entry)) l) which ⌝ }

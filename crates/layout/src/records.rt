@@ -17,8 +17,8 @@ pub struct Job {
     pub d: f64,
 }
 
-// Alpha, the one float of its part. Of the run file that `serving::serve_jobs` is given, `lay_out` has seen
-// that the part lies within it; `basket_vectors::next` lends 16 bytes, of which it is the last eight.
+// Alpha, the one float of its part. Of a run file `lay_out` has seen that the part lies within it;
+// `basket_vectors::next` lends 16 bytes, of which it is the last eight.
 pub fn alpha(file: &[u8], model: Part) -> f64
     requires { ⌜ model .offset + 8 ≤ length (now file) ⌝ }
     ensures { λ r. ⌜ r ≡ floatAt (now (file .entry)) (model .offset) ⌝ }
@@ -27,8 +27,8 @@ pub fn alpha(file: &[u8], model: Part) -> f64
 }
 
 // Of every record of a part, `width` bytes each, the float number `field`, counted from 0. Of a run
-// file `lay_out` has seen that the part lies within it. A place for each record is lent by `serve_jobs`,
-// `with_pillars`, `with_coupons` and `with_grid` of `serving`, and by `basket_vectors::input::column`.
+// file `lay_out` has seen that the part lies within it. A place for each record is lent by `read_list` and by
+// `basket_vectors::input::column`.
 pub fn column(file: &[u8], part: Part, width: usize, field: usize, out: &mut [f64])
     requires { ⌜ endOf part ≤ length (now file) ⌝ }
     requires { ⌜ 8 * field + 8 ≤ width ⌝ }
@@ -45,7 +45,7 @@ pub fn column(file: &[u8], part: Part, width: usize, field: usize, out: &mut [f6
 }
 
 // Job i of the part, counted from 0. `lay_out` has seen that the part lies within the file, and
-// `runfile::job_lines` and `serving::each_job` have a job that is in it.
+// `runfile::job_lines` and `details` have a job that is in it.
 pub fn nth_job(file: &[u8], jobs: Part, i: usize) -> Job
     requires { ⌜ endOf jobs ≤ length (now file) ⌝ }
     requires { ⌜ i < jobs .length / 40 ⌝ }
