@@ -1,14 +1,19 @@
 -- `find_critical_rate` as a call, on terms given by their coefficients, A and B: rules 1 and 2, the search of the priced coupon sum, rule 13.
 use mathlib.Core.Path.{_≡_, refl}
-use mathlib.Core.Bool.{Bool, not, _&&_, _||_, cond}
+use mathlib.Core.Bool.{Bool, true, false, not, _&&_, _||_, cond}
 use mathlib.Core.List.{List, [], _∷_}
+use Prim.Native.Nat.{ℕ}
+use native.Mathlib.Omega.{arith}
 use lib.Dec.{ltb, eqb}
 use lib.ListN.{length}
 use lib.Ieee.{Float, le, isNan, ofBits}
 use lib.Ieee.Scale.{finite}
 use Rattle.lists.specs.declared.checks.Test.the-variants.{Finite}
+use Rattle.lists.specs.declared.refusals.Refusal.{Refusal}
 use Rattle.lists.specs.declared.refusals.Refusal.the-variants as R
-use Rattle.lists.specs.Refusals.{Outcome, served, refused, Rule, rule, firstOf, unless, following}
+use Rattle.lists.specs.declared.refusals.Answer.{Answer}
+use Rattle.lists.specs.declared.refusals.Answer.the-variants as A
+use Rattle.lists.specs.Refusals.{Outcome, served, refused, Rule, rule, firstOf, after, unless, following}
 use Rattle.lists.specs.Checks.{allOf}
 use Rattle.coupons.specs.Sum.{couponsOnto, couponSum}
 use Rattle.search.specs.Rate.{rungOf, orRung, ladderOf, joined, criticalOf}
@@ -43,3 +48,25 @@ findOutcome cs affs bs = unless (searchRules cs affs bs) (following (criticalOut
 pub no-terms : findOutcome [] [] [] ≡ refused R.NoBracket
 unfolding findOutcome firstOf allOf criticalOf joined ladderOf orRung rungOf couponSum couponsOnto le isNan ofBits
 no-terms = refl
+
+-- What is served is what the search found.
+not-served : {B : Type 0} {v : B} {r : Refusal} → refused r ≡ served v → ⊥
+not-served e = let z : _≡_ {A = ℕ} 0 1 = cc in omega arith
+
+let-through : {B : Type 0} (a : Answer) (rest : Outcome B) {v : B} → after a rest ≡ served v → rest ≡ served v
+let-through A.Served rest e = e
+let-through (A.Refused r) rest e = absurd (not-served e)
+
+all-finite : (b : Bool) (w : Values) {v : Values} → cond b (served w) (refused R.Overflow) ≡ served v → served w ≡ served v
+all-finite true w e = e
+all-finite false w e = absurd (not-served e)
+
+finished : (o : Outcome Values) {v : Values} → following o finishingRate ≡ served v → o ≡ served v
+finished (served w) e = all-finite (finiteRoot w) w e
+finished (refused r) e = absurd (not-served e)
+
+pub found : (cs affs bs : List Float) {v : Values} → findOutcome cs affs bs ≡ served v → criticalOutcome (criticalOf (couponSum cs affs bs)) ≡ served v
+unfolding findOutcome
+found cs affs bs e =
+    let o = criticalOutcome (criticalOf (couponSum cs affs bs)) in
+    finished o (let-through (firstOf (searchRules cs affs bs)) (following o finishingRate) e)
