@@ -47,7 +47,7 @@ sizeWrong ns ks ts ends vs = ltb 64 (length ns) || not (eqb (length ns) (length 
 abbrev pub numbersWrong : List Float → List Float → List Float → List Float → Bool
 numbersWrong ks ts ends vs = not (allOf Finite ks && allOf Finite ts && allOf Finite ends && allOf Finite vs)
 
--- 5: "an end .. time is not above the option time, or a fit's option time is 0", or below it, in some entry
+-- 5: an "end .. time is not above the option time, or a fit's option time is 0", or below it, in some entry
 unfoldable pub timesWrong : List Float → List Float → Bool
 timesWrong [] ends = false
 timesWrong (t ∷ ts) [] = false

@@ -25,7 +25,7 @@ kOf x = nearestWhole (x ⊗ log2e)
 abbrev pub reducedOf : Float → ℤ → Float
 reducedOf x k = (x ⊖ ofInt binary64 k ⊗ ln2hi) ⊖ ofInt binary64 k ⊗ ln2lo
 
--- p "becomes 1 + (x × p)/n" for n = last + k - 1 down to last, in k turns
+-- p becomes 1 + (x × p)/n for n = last + k - 1 down to last, in k turns
 unfoldable pub seriesOf : Float → ℕ → ℕ → Float → Float
 seriesOf x last zero p = p
 seriesOf x last (suc k) p = seriesOf x last k (one ⊕ (x ⊗ p) ⊘ ofInt binary64 (pos (last + k)))
@@ -55,7 +55,7 @@ unfoldable pub expM1Of : Float → Float
 unfolding expOf
 expM1Of y = cond (le (absOf y) half) (y ⊗ seriesOf y 2 16 one) (expOf y ⊖ one)
 
--- ---- for contracts below the public surface
+-- ---- for contracts of the parts of exp
 -- none of the cases that come before the series of exp
 abbrev pub withinLimits : Float → Bool
 withinLimits x = not (isNan x) && not (lt expTop x) && not (lt x expBottom)

@@ -1,3 +1,3 @@
--- What the contracts of Hart's polynomials say; Sized is for contracts below the public surface only.
+-- What the contracts of Hart's polynomials say; Sized is for contracts of parts below the calls only.
 pub mod Polynomials
 pub mod Sized

@@ -1,4 +1,4 @@
--- The arguments at which Hart's polynomials are worked in integers. For contracts below the public surface only.
+-- The arguments at which Hart's polynomials are worked in integers. For contracts of parts below the calls only.
 use mathlib.Core.Bool.{not}
 use Prim.Native.Nat.{ℕ, _≤_}
 use lib.Dec.{T}

@@ -1,4 +1,4 @@
--- Document 01, "Near a limit": "37.0 takes the tail, just above is exactly 0 or 1; 7.071067811865475 takes the tail." Laws of the definition, for either step.
+-- Document 01, "Near a limit": "37.0 takes the tail, just above is exactly 0 or 1; 7.071067811865475 takes the tail". Laws of the definition, for either step.
 use mathlib.Core.Path.{_≡_, refl}
 use mathlib.Core.Bool.{Bool, true, false, cond}
 use lib.Ieee.{Float, binary64, lt, neg, sub, ofBits}

@@ -1,4 +1,4 @@
-// utils.rs: the market's formulas for a quoted volatility, and the annuity.
+// utils.rs: the market's formulas for a quoted volatility, and the annuity. Nothing is refused here.
 ghost use mathlib.Core.Path.{_≡_};
 ghost use Rattle.quotes.specs.Formulas.{d1Of, d2Of, blackCallOf, blackPutOf, bachelierCallOf, annuityStep};
 

@@ -1,4 +1,5 @@
-// parameters.rs: the variance of the state over an interval, sigma changing at the pillars.
+// parameters.rs: the variance of the state over an interval, sigma changing at the pillars. Nothing is
+// refused here.
 ghost use mathlib.Core.Path.{_≡_};
 ghost use lib.ListN.{drop};
 ghost use Rattle.schedules.specs.Variance.{weightOf, pieceOf, upperOf, lowerOf, varianceOf};

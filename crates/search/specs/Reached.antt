@@ -64,7 +64,7 @@ someGood sum below (r ∷ rs) = good below (sum r) || someGood sum below rs
 abbrev pub hasGood : (Float → Float) → Bool → Bool
 hasGood sum below = someGood sum below (ladderRates below)
 
--- "no sum that it reaches is NaN and a ladder of 61 has no good rate"
+-- "no sum that it reaches is NaN and at least one of its two ladders of 61 has no good rate"
 abbrev pub Unbracketed : (Float → Float) → Type 0
 Unbracketed sum = T (not (someNan sum (reached sum))) × (T (not (hasGood sum true)) ⊎ T (not (hasGood sum false)))
 

@@ -1,4 +1,4 @@
--- Numbers in fixed point, between the steps of a chain of fused sums. For contracts below the public surface only.
+-- Numbers in fixed point, between the steps of a chain of fused sums. For contracts of parts below the calls only.
 use Prim.Native.Nat.{ℕ, _+_, _-_, _*_, _^_, _≤_}
 use mathlib.Core.Path.{_≡_}
 use mathlib.Core.Bool.{false}

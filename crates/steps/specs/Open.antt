@@ -1,4 +1,4 @@
--- A positive f64 taken apart, between the steps of a chain of fused sums. For contracts below the public surface only.
+-- A positive f64 taken apart, between the steps of a chain of fused sums. For contracts of parts below the calls only.
 use Prim.Native.Nat.{ℕ, _/_, _^_, _≤_}
 use mathlib.Core.Bool.{false}
 use lib.Ieee.{Float, binary64, units, toBits}

@@ -1,4 +1,4 @@
--- The rounding of a whole number of 54 to 62 digits, with a sticky digit below it, to 53 digits. For contracts below the public surface only.
+-- The rounding of a whole number of 54 to 62 digits, with a sticky digit below it, to 53 digits. For contracts of parts below the calls only.
 use Prim.Native.Nat.{ℕ, _+_, _-_, _*_, _/_, _%_, _^_}
 use lib.Count.{leadingZeros}
 

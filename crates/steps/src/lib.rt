@@ -1,5 +1,5 @@
 // A chain of fused steps on positive numbers that packs no f64 in between: on numbers that stay taken apart,
-// or in fixed point. All of it is below the public surface: each function has a caller that shows what it requires.
+// or in fixed point. None of it is a call: each function has a caller that shows what it requires.
 mod fixed;
 mod open;
 mod rounding;

@@ -33,7 +33,7 @@ module _ (rules : List Rule) (ts fs payments : List Float) (t : Float) where
       pub begun : Begun
       pub located : Located (begunSum begun) root
 
-    -- "A search once begun is refused for want of a bracket exactly when no sum that it reaches is NaN and a ladder of 61 has no good rate"
+    -- "A search once begun is refused for want of a bracket exactly when no sum that it reaches is NaN and at least one of its two ladders of 61 has no good rate"
     pub record WantsBracket : Type 0 where
       pub begun : Begun
       pub unbracketed : Unbracketed (begunSum begun)
