@@ -28,6 +28,7 @@ use Rattle.terms.specs.Terms.{coefficientsOf, bsOf, factorsAt}
 use Rattle.coupons.specs.Sum.{couponsOnto, couponSum}
 use Rattle.search.specs.Rate.{rungOf, orRung, ladderOf, movedTo, halveOf, thenHalve, halvingsOf, finish, joined, criticalOf}
 use Rattle.search.specs.Values.{Values, criticalOutcome}
+use Rattle.critical.specs.Find.{findOutcome, found}
 use Rattle.closedform.specs.declared.bond_option.SwaptionType.the-variants as Swaption
 use Rattle.closedform.specs.Affine.{deviationOf, affineOf, affinesOf}
 use Rattle.closedform.specs.Newton.{bondAt, sumsAfter, sumsFrom, sumsOf, stepped}
@@ -61,7 +62,7 @@ pub data Call : Type 0 where
   critical : List Float → List Float → List Float → Call
   newton : Float → List Float → List Float → List Float → Call
 
--- What the definitions answer; each public function is proved equal to its definition. A search is given weights, coefficient × A: `weights-ahead` of specs/Sum.antt of `coupons` makes their sum this one. The Newton step is part of `swaption_value`.
+-- What the definitions answer; each public function is proved equal to its definition. A search is the call `find_critical_rate` of `critical`. The Newton step is part of `swaption_value`.
 abbrev pub answer : Call → Outcome Float
 answer (N x) = served (normCdfOf x)
 answer (N-dual x) = served (normCdfDualOf x)
@@ -70,7 +71,7 @@ answer (ln x) = served (lnOf x)
 answer (sqrt x) = served (sqrtOf x)
 answer (signum x) = served (signumOf x)
 answer (fused a b c) = served (fusedOf a b c)
-answer (critical cs affs bs) = following (criticalOutcome (criticalOf (couponSum cs affs bs))) (λ v. served (v .rate))
+answer (critical cs affs bs) = following (findOutcome cs affs bs) (λ v. served (v .rate))
 answer (newton rate cs affs bs) = stepped rate (sumsOf rate cs affs bs)
 
 -- a row: document 01's number and the value
@@ -114,7 +115,7 @@ all [] = true
 all (c ∷ cs) = right c && all cs
 
 pub table-holds : T (all table)
-unfolding expOf nearestWhole seriesOf lnOf places significandOf exponentOf oddSeriesOf fusedOf sqrtOf normBy upperOf criticalOf joined finish halvingsOf thenHalve halveOf movedTo ladderOf orRung rungOf couponSum couponsOnto stepped sumsOf sumsFrom sumsAfter bondAt decimal add sub mul div neg lt le eq isNan ofInt ofBits size
+unfolding expOf nearestWhole seriesOf lnOf places significandOf exponentOf oddSeriesOf fusedOf sqrtOf normBy upperOf findOutcome firstOf allOf criticalOf joined finish halvingsOf thenHalve halveOf movedTo ladderOf orRung rungOf couponSum couponsOnto stepped sumsOf sumsFrom sumsAfter bondAt decimal add sub mul div neg lt le eq isNan ofInt ofBits size
 table-holds = tt
 
 abbrev pub Holds : Case → Type 0
@@ -149,11 +150,13 @@ rated : (o : Outcome Values) → valueOr zero (following o (λ v. served (v .rat
 rated (served v) e = record { values = v; is = refl; rate-is = e }
 rated (refused r) e = absurd (zero-apart e)
 
+searched : (cs affs bs : List Float) → Rated (findOutcome cs affs bs) → Rated (criticalOutcome (criticalOf (couponSum cs affs bs)))
+searched cs affs bs r = record { values = r .values; is = found cs affs bs (r .is); rate-is = r .rate-is }
+
 rate-row : Rated (criticalOutcome (criticalOf (couponSum (one ∷ []) (one ∷ []) (zero ∷ []))))
-rate-row =
-    rated (criticalOutcome (criticalOf (couponSum (one ∷ []) (one ∷ []) (zero ∷ []))))
+rate-row = searched (one ∷ []) (one ∷ []) (zero ∷ []) (rated (findOutcome (one ∷ []) (one ∷ []) (zero ∷ []))
     (row (record { asked = critical (one ∷ []) (one ∷ []) (zero ∷ []); number = 0; value = minusHalf })
-    (List·Memᴰ·tail (List·Memᴰ·tail (List·Memᴰ·tail (List·Memᴰ·tail (List·Memᴰ·tail (List·Memᴰ·tail (List·Memᴰ·tail (List·Memᴰ·tail (List·Memᴰ·tail (List·Memᴰ·tail (List·Memᴰ·tail (List·Memᴰ·head refl)))))))))))) .1)
+    (List·Memᴰ·tail (List·Memᴰ·tail (List·Memᴰ·tail (List·Memᴰ·tail (List·Memᴰ·tail (List·Memᴰ·tail (List·Memᴰ·tail (List·Memᴰ·tail (List·Memᴰ·tail (List·Memᴰ·tail (List·Memᴰ·tail (List·Memᴰ·head refl)))))))))))) .1))
 
 flat-is : (o : Outcome Float) → answerNumber (answerOf o) ≡ 11 → o ≡ refused R.FlatDerivative
 flat-is (served v) e = absurd (omega arith)

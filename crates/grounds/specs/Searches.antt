@@ -168,7 +168,7 @@ implicit-rate-met cs affs bs =
     (λ ps. following-only (criticalOutcome (criticalOf (couponSum cs affs bs))) _ (search-only (criticalOf (couponSum cs affs bs))) (λ root. following-only (stepped (root .rate) _) _ (step-only (root .rate) _) (λ s. never _)))
     implicit-only _
     (ap (λ (o : Outcome Implicit). unless (searchRules cs affs bs) o)
-      (two-steps (criticalOutcome (criticalOf (couponSum cs affs bs))) (λ root. stepped (root .rate) (sumsOf (root .rate) cs affs bs)) (λ root s. record { after-step = s; root = root }) finishingImplicit))
+    (two-steps (criticalOutcome (criticalOf (couponSum cs affs bs))) (λ root. stepped (root .rate) (sumsOf (root .rate) cs affs bs)) (λ root s. record { after-step = s; root = root }) finishingImplicit))
 
 -- ---- kinds 8 and 9
 fit-only : (fit : Fit) → Only finished (finishingFit fit)
