@@ -1,0 +1,93 @@
+-- `rounds::each_round` is safe: each round has the lists of the file. Assumes nothing.
+use borrow.Author.Needs.{needs}
+use Prim.Native.Nat.{_≤_}
+use native.Mathlib.Omega.{arith}
+use denote.Ref.{now}
+use Rattle.layout.proofs.Kept.{kept}
+use Rattle.runfile.proofs.Lists.{lists-are}
+use Rattle.rounds.proofs.each_round.Statement.{statement}
+use Rattle.rounds.proofs.each_round.Tie as tie
+
+abbrev Inv-loop : tie.InvT-loop
+Inv-loop file l floats rounds alpha pillars sigmas times factors payments accruals owns grid draws curve left₀ left = left ≤ rounds
+
+abbrev μ-loop : tie.MeasureT-loop
+μ-loop file l floats rounds alpha pillars sigmas times factors payments accruals owns grid draws curve left₀ left = left
+
+alpha-requires : tie.Need-alpha-requires Inv-loop μ-loop
+alpha-requires c κs = let s = c .before .before in kept (now (s .args .file)) (s .args .l) (s .pre .0) .model
+
+list-requires : tie.Need-list-requires Inv-loop μ-loop
+list-requires c κs = let s = c .before .before .before in (s .pre .0, s .pre .1, omega arith)
+
+list-requires-2 : tie.Need-list-requires-2 Inv-loop μ-loop
+list-requires-2 c κs = let s = c .before .before .before .before in (s .pre .0, s .pre .1, omega arith)
+
+list-requires-3 : tie.Need-list-requires-3 Inv-loop μ-loop
+list-requires-3 c κs = let s = c .before .before .before .before .before in (s .pre .0, s .pre .1, omega arith)
+
+list-requires-4 : tie.Need-list-requires-4 Inv-loop μ-loop
+list-requires-4 c κs = let s = c .before .before .before .before .before .before in (s .pre .0, s .pre .1, omega arith)
+
+list-requires-5 : tie.Need-list-requires-5 Inv-loop μ-loop
+list-requires-5 c κs = let s = c .before .before .before .before .before .before .before in (s .pre .0, s .pre .1, omega arith)
+
+list-requires-6 : tie.Need-list-requires-6 Inv-loop μ-loop
+list-requires-6 c κs = let s = c .before .before .before .before .before .before .before .before in (s .pre .0, s .pre .1, omega arith)
+
+list-requires-7 : tie.Need-list-requires-7 Inv-loop μ-loop
+list-requires-7 c κs = let s = c .before .before .before .before .before .before .before .before .before in (s .pre .0, s .pre .1, omega arith)
+
+list-requires-8 : tie.Need-list-requires-8 Inv-loop μ-loop
+list-requires-8 c κs = let s = c .before .before .before .before .before .before .before .before .before .before in (s .pre .0, s .pre .1, omega arith)
+
+list-requires-9 : tie.Need-list-requires-9 Inv-loop μ-loop
+list-requires-9 c κs = let s = c .before .before .before .before .before .before .before .before .before .before .before in (s .pre .0, s .pre .1, omega arith)
+
+curve-faults-requires : tie.Need-curve-faults-requires Inv-loop μ-loop
+curve-faults-requires c κs = search needs
+
+loop-holds : tie.Need-loop-holds Inv-loop μ-loop
+loop-holds c = search needs
+
+sub-left : tie.Need-sub-left Inv-loop μ-loop
+sub-left c = search needs
+
+each-job-requires : tie.Need-each-job-requires Inv-loop μ-loop
+each-job-requires c κs =
+    let b = c .before .before in
+    let s = b .before .before .before .before .before .before .before .before .before .before .before .before .before in
+    (s .pre .0, (b .curve-faults .ensures, lists-are (now (s .args .file)) (s .args .l) _ _ _ _ _ _ _ _ _ _ (b .before .before .before .before .before .before .before .before .before .before .alpha .ensures) (b .before .before .before .before .before .before .before .before .before .list .ensures) (b .before .before .before .before .before .before .before .before .list2 .ensures) (b .before .before .before .before .before .before .before .list3 .ensures) (b .before .before .before .before .before .before .list4 .ensures) (b .before .before .before .before .before .list5 .ensures) (b .before .before .before .before .list6 .ensures) (b .before .before .before .list7 .ensures) (b .before .before .list8 .ensures) (b .before .list9 .ensures)))
+
+loop-less : tie.Need-loop-less Inv-loop μ-loop
+loop-less c = search needs
+
+loop-again : tie.Need-loop-again Inv-loop μ-loop
+loop-again c = search needs
+
+returns : tie.Need-returns Inv-loop μ-loop
+returns c = search needs
+
+pub each-round-spec : {M : Type 1} → statement M
+each-round-spec =
+    tie.close
+    (tie.spec
+    Inv-loop
+    μ-loop
+    alpha-requires
+    list-requires
+    list-requires-2
+    list-requires-3
+    list-requires-4
+    list-requires-5
+    list-requires-6
+    list-requires-7
+    list-requires-8
+    list-requires-9
+    curve-faults-requires
+    loop-holds
+    sub-left
+    each-job-requires
+    loop-less
+    loop-again
+    returns)
