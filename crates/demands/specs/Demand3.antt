@@ -18,7 +18,7 @@ use Rattle.layout.specs.Layout.{layoutOf}
 use Rattle.layout.specs.Request.{Request, requestOf, jobAt}
 use Rattle.layout.proofs.Kept.{kind-known}
 use Rattle.fields.specs.Fields.{bitsOf}
-use Rattle.lines.specs.Lines.{refusedLine, lineOf}
+use Rattle.lines.specs.Lines.{header, refusedLine, lineOf}
 use Rattle.lines.specs.Says.{Says}
 use Rattle.lines.proofs.Says.{says-one}
 use Rattle.kinds.specs.declared.told.Told.{Told}
@@ -26,7 +26,7 @@ use Rattle.kinds.specs.Told.{toldOf}
 use Rattle.demands.specs.Owed.{Owed, owedOf, Held}
 use Rattle.demands.specs.Told.{numbered, told-held, told-small}
 use Rattle.runfile.specs.Output.{toldLine, pointLines, pathLines, pathOf, jobLines, outputOf}
-use Rattle.runfile.specs.Pieces.{piecesOf, pieceOf, joined, output-is, broken-is, job-is}
+use Rattle.runfile.specs.Pieces.{piecesOf, pieceOf, joined, output-is, broken-is, job-is, count-is, header-is}
 
 -- ---- what is stated
 
@@ -69,6 +69,9 @@ pub record JobHeld (q : Request) (k : ℕ) (j : Job) (text : List ℕ) : Type 0 
 pub record Demand3 (file : List ℕ) : Type 0 where
   pub whole : joined (piecesOf file) ≡ outputOf file
   pub broken : layoutOf file ≡ Broken → outputOf file ≡ refusedLine
+  -- the header first, then a piece a job, and none behind them
+  pub first : (l : Layout) → layoutOf file ≡ Parts l → pieceOf file 0 ≡ header
+  pub count : (l : Layout) → layoutOf file ≡ Parts l → length (piecesOf file) ≡ suc (l .jobs .length / 40)
   pub jobs : (l : Layout) → layoutOf file ≡ Parts l → (k : ℕ) → k < l .jobs .length / 40 → JobHeld (requestOf file l) k (jobAt file (l .jobs .offset + 40 * k)) (pieceOf file (suc k))
 
 -- ---- kinds 1 to 11
@@ -151,6 +154,8 @@ pub demand3 : (file : List ℕ) → Demand3 file
 demand3 file = record {
   whole = output-is file;
   broken = broken-is file;
+  first = header-is file;
+  count = count-is file;
   jobs = λ l e k h. subst (JobHeld (requestOf file l) k (jobAt file (l .jobs .offset + 40 * k))) (sym (job-is file l e k h))
       (job-held (requestOf file l) k (jobAt file (l .jobs .offset + 40 * k)) (kind-known file l e k h));
 }
