@@ -8,10 +8,9 @@ use kinds::Worked;
 use search::Bracket;
 use valuations::Valuation;
 
-// Of all that a job's call returned. A price has no more than its line says.
+// Of all that a job's call returned.
 pub fn worked(w: Worked) {
     match w {
-        Worked::Price(_) => {}
         Worked::Swaption(s) => swaption(s),
         Worked::Valuation(v) => valuation(v),
         Worked::Fit(f) => fitted(f),

@@ -1,11 +1,8 @@
--- What a job of kinds 1 to 11 is worked to, whole, with all that its call returns; and that what is told of it is told of the job.
+-- What a job of kinds 5 to 11 is worked to, whole, with all that its call returns; and that what is told of it is told of the job.
 use mathlib.Core.Path.{_≡_, refl}
 use mathlib.Core.Bool.{Bool, true, false, cond}
 use lib.Dec.{ltb, eqb}
-use lib.Ieee.{Float}
-use Rattle.lists.specs.Refusals.{Outcome, outcomeOf}
-use Rattle.options.specs.declared.options.BondOption.the-variants.{Put, Call}
-use Rattle.options.specs.Options.{optionletOutcome, bondOptionOutcome}
+use Rattle.lists.specs.Refusals.{Outcome}
 use Rattle.jamshidian.specs.Price as Model
 use Rattle.swaptions.specs.Model.{modelOutcome}
 use Rattle.closedform.specs.declared.bond_option.SwaptionType.the-variants.{Payer, Receiver}
@@ -20,43 +17,28 @@ use Rattle.layout.specs.Request.{Request}
 use Rattle.kinds.specs.declared.told.Told.{Told}
 use Rattle.kinds.specs.declared.told.Worked.{Worked}
 use Rattle.kinds.specs.declared.told.Worked.the-variants as W
-use Rattle.kinds.specs.Told.{toldPrice, toldFit, modelValue, pricerValue, optionTold, swaptionTold, fitTold, toldOf}
+use Rattle.kinds.specs.Told.{toldPrice, toldFit, modelValue, pricerValue, swaptionTold, fitTold, toldOf}
 
--- a price, the model's swaption with its root, a valuation, a fit: each served or refused
+-- the model's swaption with its root, a valuation, a fit: each served or refused
 pub data Whole : Type 0 where
-  priced : Outcome Float → Whole
   modelled : Outcome Model.Valued → Whole
   valued : Outcome Pricer.Valued → Whole
   fitted : Outcome Fit → Whole
 
 -- the code's answer as one
 abbrev pub wholeOf : Worked → Whole
-wholeOf (W.Price p) = priced (outcomeOf p)
 wholeOf (W.Swaption s) = modelled (Model.swaptionOutcome s)
 wholeOf (W.Valuation v) = valued (Pricer.valuationOutcome v)
 wholeOf (W.Fit f) = fitted (fittedOutcome f)
 
 -- number, value and note of each sort
 unfoldable pub toldFrom : Whole → Told
-toldFrom (priced o) = toldPrice o
 toldFrom (modelled o) = toldPrice (modelValue o)
 toldFrom (valued o) = toldPrice (pricerValue o)
 toldFrom (fitted o) = toldFit o
 
 -- ---- "Kinds": the calls of `toldOf`, on the same fields
 module _ (q : Request) (j : Job) where
-  abbrev caplet : Outcome Float
-  caplet = optionletOutcome Put (q .alpha) (q .curveTimes) (q .curveFactors) (j .a) (j .b) (j .c) (j .d)
-
-  abbrev floorlet : Outcome Float
-  floorlet = optionletOutcome Call (q .alpha) (q .curveTimes) (q .curveFactors) (j .a) (j .b) (j .c) (j .d)
-
-  abbrev put : Outcome Float
-  put = bondOptionOutcome Put (q .alpha) (q .curveTimes) (q .curveFactors) (j .a) (j .b) (j .c) (j .d)
-
-  abbrev call : Outcome Float
-  call = bondOptionOutcome Call (q .alpha) (q .curveTimes) (q .curveFactors) (j .a) (j .b) (j .c) (j .d)
-
   abbrev model : Outcome Model.Valued
   model = modelOutcome (q .alpha) (q .curveTimes) (q .curveFactors) (q .payments) (q .accruals) (j .a) (j .b) (j .c)
 
@@ -78,9 +60,6 @@ module _ (q : Request) (j : Job) where
   abbrev normal-swaption : Outcome Fit
   normal-swaption = swaptionFitOutcome Normal (q .alpha) (q .curveTimes) (q .curveFactors) (q .payments) (q .accruals) (j .a) (j .b) (j .c)
 
-  unfoldable pub optionWhole : Whole
-  optionWhole = cond (eqb (j .kind) 1) (priced caplet) (cond (eqb (j .kind) 2) (priced floorlet) (cond (eqb (j .kind) 3) (priced put) (priced call)))
-
   unfoldable pub swaptionWhole : Whole
   swaptionWhole = cond (eqb (j .kind) 5) (modelled model) (cond (eqb (j .kind) 6) (valued payer) (valued receiver))
 
@@ -88,16 +67,9 @@ module _ (q : Request) (j : Job) where
   fitWhole = cond (eqb (j .kind) 8) (fitted black-caplet) (cond (eqb (j .kind) 9) (fitted normal-caplet) (cond (eqb (j .kind) 10) (fitted black-swaption) (fitted normal-swaption)))
 
 unfoldable pub workOf : Request → Job → Whole
-workOf q j = cond (ltb (j .kind) 5) (optionWhole q j) (cond (ltb (j .kind) 8) (swaptionWhole q j) (fitWhole q j))
+workOf q j = cond (ltb (j .kind) 8) (swaptionWhole q j) (fitWhole q j)
 
 -- ---- what is told of the whole is what is told of the job
-options-told : (a b c : Bool) (w x y z : Outcome Float) → toldFrom (cond a (priced w) (cond b (priced x) (cond c (priced y) (priced z)))) ≡ cond a (toldPrice w) (cond b (toldPrice x) (cond c (toldPrice y) (toldPrice z)))
-unfolding toldFrom
-options-told true b c w x y z = refl
-options-told false true c w x y z = refl
-options-told false false true w x y z = refl
-options-told false false false w x y z = refl
-
 swaptions-told : (a b : Bool) (w : Outcome Model.Valued) (x y : Outcome Pricer.Valued) → toldFrom (cond a (modelled w) (cond b (valued x) (valued y))) ≡ cond a (toldPrice (modelValue w)) (cond b (toldPrice (pricerValue x)) (toldPrice (pricerValue y)))
 unfolding toldFrom
 swaptions-told true b w x y = refl
@@ -111,16 +83,11 @@ fits-told false true c w x y z = refl
 fits-told false false true w x y z = refl
 fits-told false false false w x y z = refl
 
-sorts-told : (a b : Bool) (x y z : Whole) (t u v : Told) → toldFrom x ≡ t → toldFrom y ≡ u → toldFrom z ≡ v → toldFrom (cond a x (cond b y z)) ≡ cond a t (cond b u v)
-sorts-told true b x y z t u v e f g = e
-sorts-told false true x y z t u v e f g = f
-sorts-told false false x y z t u v e f g = g
+sorts-told : (a : Bool) (x y : Whole) (t u : Told) → toldFrom x ≡ t → toldFrom y ≡ u → toldFrom (cond a x y) ≡ cond a t u
+sorts-told true x y t u e f = e
+sorts-told false x y t u e f = f
 
 module _ (q : Request) (j : Job) where
-  option-is : toldFrom (optionWhole q j) ≡ optionTold q j
-  unfolding optionWhole optionTold
-  option-is = options-told (eqb (j .kind) 1) (eqb (j .kind) 2) (eqb (j .kind) 3) (caplet q j) (floorlet q j) (put q j) (call q j)
-
   swaption-is : toldFrom (swaptionWhole q j) ≡ swaptionTold q j
   unfolding swaptionWhole swaptionTold
   swaption-is = swaptions-told (eqb (j .kind) 5) (eqb (j .kind) 6) (model q j) (payer q j) (receiver q j)
@@ -129,6 +96,6 @@ module _ (q : Request) (j : Job) where
   unfolding fitWhole fitTold
   fit-is = fits-told (eqb (j .kind) 8) (eqb (j .kind) 9) (eqb (j .kind) 10) (black-caplet q j) (normal-caplet q j) (black-swaption q j) (normal-swaption q j)
 
-  pub told-is : toldFrom (workOf q j) ≡ toldOf q j
+  pub told-is : ltb (j .kind) 5 ≡ false → toldFrom (workOf q j) ≡ toldOf q j
   unfolding workOf toldOf
-  told-is = sorts-told (ltb (j .kind) 5) (ltb (j .kind) 8) (optionWhole q j) (swaptionWhole q j) (fitWhole q j) (optionTold q j) (swaptionTold q j) (fitTold q j) option-is swaption-is fit-is
+  told-is e = rw e (sorts-told (ltb (j .kind) 8) (swaptionWhole q j) (fitWhole q j) (swaptionTold q j) (fitTold q j) swaption-is fit-is)

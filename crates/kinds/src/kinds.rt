@@ -2,8 +2,10 @@
 ghost use mathlib.Core.Path.{_≡_};
 ghost use mathlib.Core.List.{[]};
 ghost use Rattle.lists.specs.Faults.{curveFaults};
-ghost use Rattle.kinds.specs.Told.{listsOf};
-ghost use Rattle.kinds.specs.Worked.{wholeOf, optionWhole, swaptionWhole, fitWhole, workOf};
+ghost use Rattle.kinds.specs.Told.{listsOf, optionTold};
+ghost use Rattle.kinds.specs.Worked.{wholeOf, swaptionWhole, fitWhole, workOf};
+use super::told;
+use super::told::Told;
 use super::told::Worked;
 use calibration::Quote;
 use layout::Job;
@@ -11,25 +13,14 @@ use lists::Faults;
 use options::BondOption;
 use pricers::SwaptionType;
 
-// Kinds 1 to 4: caplet, floorlet, bond put, bond call.
-// `work` hands on the curve's faults.
-fn option_work(
-    curve: Faults,
-    alpha: f64,
-    pillars: &[f64],
-    sigmas: &[f64],
-    times: &[f64],
-    factors: &[f64],
-    payments: &[f64],
-    accruals: &[f64],
-    owns: &[f64],
-    j: Job,
-) -> Worked
+// Kinds 1 to 4: caplet, floorlet, bond put, bond call. What is told is all that their calls return.
+// `runfile::job_lines` is given the curve's faults.
+pub fn option_told(curve: Faults, alpha: f64, times: &[f64], factors: &[f64], j: Job) -> Told
     requires { ⌜ curve ≡ curveFaults (now times) (now factors) ⌝ }
-    ensures { λ r. ⌜ wholeOf r ≡ optionWhole (listsOf alpha (now (pillars .entry)) (now (sigmas .entry)) (now (times .entry)) (now (factors .entry)) (now (payments .entry)) (now (accruals .entry)) (now (owns .entry)) [] [] []) j ⌝ }
+    ensures { λ r. ⌜ r ≡ optionTold (listsOf alpha [] [] (now (times .entry)) (now (factors .entry)) [] [] [] [] [] []) j ⌝ }
 {
     if j.kind == 1 {
-        return Worked::Price(options::optionlet_on(
+        return told::price(options::optionlet_on(
             BondOption::Put,
             curve,
             alpha,
@@ -42,7 +33,7 @@ fn option_work(
         ));
     }
     if j.kind == 2 {
-        return Worked::Price(options::optionlet_on(
+        return told::price(options::optionlet_on(
             BondOption::Call,
             curve,
             alpha,
@@ -55,7 +46,7 @@ fn option_work(
         ));
     }
     if j.kind == 3 {
-        return Worked::Price(options::bond_option_on(
+        return told::price(options::bond_option_on(
             BondOption::Put,
             curve,
             alpha,
@@ -67,7 +58,7 @@ fn option_work(
             j.d,
         ));
     }
-    Worked::Price(options::bond_option_on(
+    told::price(options::bond_option_on(
         BondOption::Call,
         curve,
         alpha,
@@ -217,7 +208,7 @@ fn fit_work(
     ))
 }
 
-// A job of kinds 1 to 11, by the call that its kind is: all that the call returns. `runfile::job_lines` and `details`
+// A job of kinds 5 to 11, by the call that its kind is: all that the call returns. `runfile::job_lines` and `details`
 // are given the curve's faults.
 pub fn work(
     curve: Faults,
@@ -234,20 +225,6 @@ pub fn work(
     requires { ⌜ curve ≡ curveFaults (now times) (now factors) ⌝ }
     ensures { λ r. ⌜ wholeOf r ≡ workOf (listsOf alpha (now (pillars .entry)) (now (sigmas .entry)) (now (times .entry)) (now (factors .entry)) (now (payments .entry)) (now (accruals .entry)) (now (owns .entry)) [] [] []) j ⌝ }
 {
-    if j.kind < 5 {
-        return option_work(
-            curve,
-            alpha,
-            pillars,
-            sigmas,
-            times,
-            factors,
-            payments,
-            accruals,
-            owns,
-            j,
-        );
-    }
     if j.kind < 8 {
         return swaption_work(
             curve,

@@ -2,6 +2,7 @@
 mod kinds;
 mod told;
 
+pub use kinds::option_told;
 pub use kinds::work;
 pub use told::Told;
 pub use told::Worked;

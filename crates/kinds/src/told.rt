@@ -13,9 +13,8 @@ use lists::Price;
 use lists::Refusal;
 use valuations::Valuation;
 
-// The whole answer of a job's call: kinds 1 to 4; 5; 6 and 7; 8 to 11.
+// All that a job's call returns, of kind 5, 6 and 7, and 8 to 11.
 pub enum Worked {
-    Price(Price),
     Swaption(Swaption),
     Valuation(Valuation),
     Fit(Fitted),
@@ -47,7 +46,7 @@ fn turned_down(refusal: Refusal) -> Told
     }
 }
 
-fn price(p: Price) -> Told
+pub fn price(p: Price) -> Told
     ensures { λ r. ⌜ r ≡ toldPrice (outcomeOf p) ⌝ }
 {
     match p {
@@ -98,7 +97,6 @@ pub fn tell(w: Worked) -> Told
     ensures { λ r. ⌜ r ≡ toldFrom (wholeOf w) ⌝ }
 {
     match w {
-        Worked::Price(p) => price(p),
         Worked::Swaption(s) => swaption(s),
         Worked::Valuation(v) => valuation(v),
         Worked::Fit(f) => fitted(f),

@@ -1,9 +1,9 @@
 -- From what the path's call answered and left in its list to the lines of the path, and from a job's answer to the lines of the job. Assumes nothing.
 use mathlib.Core.Path.{_≡_, refl, sym, _∙_}
 use mathlib.Core.List.{List, [], _∷_, append-nil}
-use Prim.Native.Nat.{ℕ, _≤_}
+use Prim.Native.Nat.{ℕ, _≤_, _<_}
 use native.Mathlib.Omega.{arith}
-use borrow.Author.Tests.{eq-eqb, ne-eqb}
+use borrow.Author.Tests.{eq-eqb, ne-eqb, lt-ltb, le-ltb}
 use lib.ListN.{length, take, drop-of-length-le}
 use lib.Ieee.{Float}
 use Rattle.ieee.specs.Numbers as Numbers
@@ -24,8 +24,8 @@ use Rattle.fields.specs.Text.{Begins}
 use Rattle.fields.specs.Fields.{bitsOf}
 use Rattle.lines.specs.Lines.{lineOf}
 use Rattle.kinds.specs.declared.told.Told.{Told}
-use Rattle.kinds.specs.Told.{listsOf}
-use Rattle.kinds.specs.Worked.{Whole, toldFrom, optionWhole, swaptionWhole, fitWhole, workOf, told-is}
+use Rattle.kinds.specs.Told.{listsOf, optionTold, toldOf}
+use Rattle.kinds.specs.Worked.{Whole, toldFrom, swaptionWhole, fitWhole, workOf, told-is}
 use Rattle.runfile.specs.Output.{toldLine, pointLines, pathLines, pathOf, jobLines}
 
 -- ---- an outcome, from the answer without its values
@@ -77,15 +77,23 @@ module _ (q q′ : Request) (j j′ : Job) (k res : ℕ) (d out : List ℕ) (e :
   unfolding jobLines
   path-job h b = rw (← e, ← f, eq-eqb (j .kind) 12 h) b
 
-  pub worked-job : (w : Whole) → (j .kind ≡ 12 → ⊥) → w ≡ workOf q j → Begins res (toldLine k (j .kind) (toldFrom w)) d out → Begins res (jobLines q′ k j′) d out
-  unfolding jobLines
-  worked-job w h p b = rw (← e, ← f, ne-eqb (j .kind) 12 h, ← told-is q j, ← p) b
+  pub option-job : (t : Told) → j .kind < 5 → t ≡ optionTold q j → Begins res (toldLine k (j .kind) t) d out → Begins res (jobLines q′ k j′) d out
+  unfolding jobLines toldOf
+  option-job t h p b = rw (← e, ← f, ne-eqb (j .kind) 12 (λ z. let y : ⊥ = omega arith in y), lt-ltb (j .kind) 5 h, ← p) b
 
--- kinds 1 to 11 look at no grid and at no other job
-pub work-lists : (alpha : Float) (pillars sigmas times factors payments accruals owns grid draws : List Float) (jobs : List Job) (j : Job)
-    → workOf (listsOf alpha pillars sigmas times factors payments accruals owns [] [] []) j ≡ workOf (listsOf alpha pillars sigmas times factors payments accruals owns grid draws jobs) j
-unfolding workOf optionWhole swaptionWhole fitWhole
-work-lists alpha pillars sigmas times factors payments accruals owns grid draws jobs j = refl
+  pub worked-job : (w : Whole) → (j .kind ≡ 12 → ⊥) → 5 ≤ j .kind → w ≡ workOf q j → Begins res (toldLine k (j .kind) (toldFrom w)) d out → Begins res (jobLines q′ k j′) d out
+  unfolding jobLines
+  worked-job w h i p b = rw (← e, ← f, ne-eqb (j .kind) 12 h, ← told-is q j (le-ltb (j .kind) 5 i), ← p) b
+
+-- kinds 1 to 4 look at alpha and the curve alone, kinds 5 to 11 at no grid and at no other job
+module _ (alpha : Float) (pillars sigmas times factors payments accruals owns grid draws : List Float) (jobs : List Job) (j : Job) where
+  pub option-lists : optionTold (listsOf alpha [] [] times factors [] [] [] [] [] []) j ≡ optionTold (listsOf alpha pillars sigmas times factors payments accruals owns grid draws jobs) j
+  unfolding optionTold
+  option-lists = refl
+
+  pub work-lists : workOf (listsOf alpha pillars sigmas times factors payments accruals owns [] [] []) j ≡ workOf (listsOf alpha pillars sigmas times factors payments accruals owns grid draws jobs) j
+  unfolding workOf swaptionWhole fitWhole
+  work-lists = refl
 
 pub grid-short : (file : List ℕ) (l : Layout) → layoutOf file ≡ Parts l → (grid : List Float) → grid ≡ requestOf file l .gridTimes → length grid ≤ 1024
 unfolding requestOf

@@ -13,6 +13,7 @@ ghost use Rattle.lines.specs.Lines.{lineOf};
 ghost use Rattle.kinds.specs.Told.{listsOf};
 ghost use Rattle.kinds.specs.Worked.{wholeOf, toldFrom};
 ghost use Rattle.runfile.specs.Output.{toldLine, pointLines, pathLines, jobLines};
+use kinds::Told;
 use kinds::Worked;
 use layout::Layout;
 use lines::Line;
@@ -33,7 +34,7 @@ fn point_lines(k: u64, values: &[f64], out: &mut [u8]) -> usize
     at
 }
 
-// One line, for a job that is no served path. `path_lines` and `worked_line` have room.
+// One line, for a job that is no served path. `path_lines` and `told_line` have room.
 fn one_line(l: Line, out: &mut [u8]) -> usize
     requires { ⌜ 128 ≤ length (now out) ⌝ }
     ensures { λ r. ⌜ Begins r (lineOf (l .job) (l .kind) (l .answer) (bitsOf (l .value)) (l .note)) (now (out .entry)) (now (out .exit)) ⌝ }
@@ -41,12 +42,11 @@ fn one_line(l: Line, out: &mut [u8]) -> usize
     lines::write_line(l, out, 0)
 }
 
-// The line of a job of kinds 1 to 11, from all that its call returned. `job_lines` and `details` have room for far more.
-pub fn worked_line(k: u64, kind: u64, worked: Worked, out: &mut [u8]) -> usize
+// The line of a job of kinds 1 to 11, of which `told` is told. `job_lines` and `worked_line` have room for far more.
+fn told_line(k: u64, kind: u64, told: Told, out: &mut [u8]) -> usize
     requires { ⌜ 128 ≤ length (now out) ⌝ }
-    ensures { λ r. ⌜ Begins r (toldLine k kind (toldFrom (wholeOf worked))) (now (out .entry)) (now (out .exit)) ⌝ }
+    ensures { λ r. ⌜ Begins r (toldLine k kind told) (now (out .entry)) (now (out .exit)) ⌝ }
 {
-    let told = kinds::tell(worked);
     one_line(
         Line {
             job: k,
@@ -57,6 +57,14 @@ pub fn worked_line(k: u64, kind: u64, worked: Worked, out: &mut [u8]) -> usize
         },
         out,
     )
+}
+
+// The line of a job of kinds 5 to 11, from all that its call returned. `job_lines` and `details` have room for far more.
+pub fn worked_line(k: u64, kind: u64, worked: Worked, out: &mut [u8]) -> usize
+    requires { ⌜ 128 ≤ length (now out) ⌝ }
+    ensures { λ r. ⌜ Begins r (toldLine k kind (toldFrom (wholeOf worked))) (now (out .entry)) (now (out .exit)) ⌝ }
+{
+    told_line(k, kind, kinds::tell(worked), out)
 }
 
 // Kind 12. A grid without points is served with one line of zeros. `job_lines` hands on the curve's faults
@@ -155,6 +163,10 @@ pub fn job_lines(
             k as u64,
             out,
         );
+    }
+    if j.kind < 5 {
+        let told = kinds::option_told(curve, alpha, times, factors, j);
+        return told_line(k as u64, j.kind, told, out);
     }
     let worked = kinds::work(
         curve,

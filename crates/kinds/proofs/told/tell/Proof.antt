@@ -7,56 +7,43 @@ use Rattle.kinds.proofs.told.tell.Tie as tie
 enum-known-w : tie.Need-enum-known-w
 enum-known-w c = search needs
 
-price-requires : tie.Need-price-requires
-price-requires c κs = search needs
+swaption-requires : tie.Need-swaption-requires
+swaption-requires c κs = search needs
 
 enum-known-w-2 : tie.Need-enum-known-w-2
 enum-known-w-2 c = search needs
 
-swaption-requires : tie.Need-swaption-requires
-swaption-requires c κs = search needs
-
-enum-known-w-3 : tie.Need-enum-known-w-3
-enum-known-w-3 c = search needs
-
 valuation-requires : tie.Need-valuation-requires
 valuation-requires c κs = search needs
 
-enum-known-w-4 : tie.Need-enum-known-w-4
-enum-known-w-4 c = search needs
+enum-known-w-3 : tie.Need-enum-known-w-3
+enum-known-w-3 c = search needs
 
 fitted-requires : tie.Need-fitted-requires
 fitted-requires c κs = search needs
 
 returns : tie.Need-returns
 unfolding toldFrom
-returns c = rw (c .before .before .w .given .1) (c .price .ensures)
+returns c = rw (c .before .before .w .given .1) (c .swaption .ensures)
 
 returns-2 : tie.Need-returns-2
 unfolding toldFrom
-returns-2 c = rw (c .before .before .w2 .given .1) (c .swaption .ensures)
+returns-2 c = rw (c .before .before .w2 .given .1) (c .valuation .ensures)
 
 returns-3 : tie.Need-returns-3
 unfolding toldFrom
-returns-3 c = rw (c .before .before .w3 .given .1) (c .valuation .ensures)
-
-returns-4 : tie.Need-returns-4
-unfolding toldFrom
-returns-4 c = rw (c .before .before .w4 .given .1) (c .fitted .ensures)
+returns-3 c = rw (c .before .before .w3 .given .1) (c .fitted .ensures)
 
 pub tell-spec : {M : Type 1} → statement M
 tell-spec =
     tie.close
     (tie.spec
     enum-known-w
-    price-requires
-    enum-known-w-2
     swaption-requires
-    enum-known-w-3
+    enum-known-w-2
     valuation-requires
-    enum-known-w-4
+    enum-known-w-3
     fitted-requires
     returns
     returns-2
-    returns-3
-    returns-4)
+    returns-3)

@@ -8,7 +8,7 @@ use Rattle.layout.specs.declared.records.Job.{Job}
 use Rattle.layout.specs.Request.{Request, requestOf, jobAt, jobsOf}
 use Rattle.layout.proofs.Kept.{kept}
 use Rattle.kinds.specs.Told.{listsOf}
-use Rattle.runfile.proofs.Written.{path-job, worked-job, work-lists, grid-short}
+use Rattle.runfile.proofs.Written.{path-job, option-job, worked-job, option-lists, work-lists, grid-short}
 use Rattle.runfile.proofs.jobs.job_lines.Statement.{statement}
 use Rattle.runfile.proofs.jobs.job_lines.Tie as tie
 
@@ -50,22 +50,37 @@ returns c =
     let s = entry n in
     path-job (request s) (asked s) (n .nth-job .result) (nth s) (s .args .k) _ _ _ (s .pre .1 .1) (n .nth-job .ensures) (c .before .before .before .before .if1 .taken) (c .before .before .path-lines .ensures)
 
-work-requires : tie.Need-work-requires
-work-requires c κs = search needs
+option-told-requires : tie.Need-option-told-requires
+option-told-requires c κs = search needs
 
-worked-line-requires : tie.Need-worked-line-requires
-worked-line-requires c κs = search needs
+told-line-requires : tie.Need-told-line-requires
+told-line-requires c κs = search needs
 
 same-length-2 : tie.Need-same-length-2
 same-length-2 c = search needs
 
 returns-2 : tie.Need-returns-2
 returns-2 c =
-    let n = c .before .before .before .before .before .before .before in
+    let n = c .before .before .before .before .before .before .before .before .before in
     let s = entry n in
     let a = s .args in
-    let t = c .before .before .before .before .work in
-    worked-job (request s) (asked s) (n .nth-job .result) (nth s) (a .k) _ _ _ (s .pre .1 .1) (n .nth-job .ensures) _ (c .before .before .before .before .before .if1 .left) (t .ensures ∙ work-lists (a .alpha) (now (a .pillars)) (now (a .sigmas)) (now (a .times)) (now (a .factors)) (now (a .payments)) (now (a .accruals)) (now (a .owns)) (now (a .grid)) (now (a .draws)) (jobs s) (n .nth-job .result)) (c .before .before .worked-line .ensures)
+    option-job (request s) (asked s) (n .nth-job .result) (nth s) (a .k) _ _ _ (s .pre .1 .1) (n .nth-job .ensures) _ (c .before .before .before .before .before .if2 .taken) (c .before .before .before .before .option-told .ensures ∙ option-lists (a .alpha) (now (a .pillars)) (now (a .sigmas)) (now (a .times)) (now (a .factors)) (now (a .payments)) (now (a .accruals)) (now (a .owns)) (now (a .grid)) (now (a .draws)) (jobs s) (n .nth-job .result)) (c .before .before .told-line .ensures)
+
+work-requires : tie.Need-work-requires
+work-requires c κs = search needs
+
+worked-line-requires : tie.Need-worked-line-requires
+worked-line-requires c κs = search needs
+
+same-length-3 : tie.Need-same-length-3
+same-length-3 c = search needs
+
+returns-3 : tie.Need-returns-3
+returns-3 c =
+    let n = c .before .before .before .before .before .before .before .before .before in
+    let s = entry n in
+    let a = s .args in
+    worked-job (request s) (asked s) (n .nth-job .result) (nth s) (a .k) _ _ _ (s .pre .1 .1) (n .nth-job .ensures) _ (c .before .before .before .before .before .before .before .if1 .left) (c .before .before .before .before .before .if2 .left) (c .before .before .before .before .work .ensures ∙ work-lists (a .alpha) (now (a .pillars)) (now (a .sigmas)) (now (a .times)) (now (a .factors)) (now (a .payments)) (now (a .accruals)) (now (a .owns)) (now (a .grid)) (now (a .draws)) (jobs s) (n .nth-job .result)) (c .before .before .worked-line .ensures)
 
 pub job-lines-spec : {M : Type 1} → statement M
 job-lines-spec =
@@ -75,7 +90,11 @@ job-lines-spec =
     path-lines-requires
     same-length
     returns
+    option-told-requires
+    told-line-requires
+    same-length-2
+    returns-2
     work-requires
     worked-line-requires
-    same-length-2
-    returns-2)
+    same-length-3
+    returns-3)

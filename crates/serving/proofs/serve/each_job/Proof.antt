@@ -67,7 +67,7 @@ job-lines-requires c κs =
     let b = c .before .before .before in
     let s = b .before .before .before .before .before .before .before .before .before .before .before .before .before .before in
     let read = lists-are (now (s .args .file)) (s .args .l) _ _ _ _ _ _ _ _ _ _ (b .before .before .before .before .before .before .before .before .before .before .before .alpha .ensures) (b .before .before .before .before .before .before .before .before .before .before .list .ensures) (b .before .before .before .before .before .before .before .before .before .list2 .ensures) (b .before .before .before .before .before .before .before .before .list3 .ensures) (b .before .before .before .before .before .before .before .list4 .ensures) (b .before .before .before .before .before .before .list5 .ensures) (b .before .before .before .before .before .list6 .ensures) (b .before .before .before .before .list7 .ensures) (b .before .before .before .list8 .ensures) (b .before .before .list9 .ensures) in
-    ((s .pre .0, c .before .loop-test .taken, omega (arith, c .before .before .loop .inv .1)), (b .before .curve-faults .ensures, read))
+    ((s .pre .0, omega (arith, c .before .loop-test .taken), omega (arith, c .before .before .loop .inv .1)), (b .before .curve-faults .ensures, read))
 
 array-share-prefix-out : tie.Need-array-share-prefix-out Inv-loop μ-loop
 array-share-prefix-out c = search needs
