@@ -7,8 +7,10 @@
 //! prints `NAME arguments -> results`, every float as 16 hexadecimal digits of
 //! its bits; a list stands in brackets. `refused` in place of results means
 //! that the Rust returns an error. An argument may also be given as a decimal.
-//! `search` and `basket` are the judge's own answers, document 01's refusal
-//! number first; the basket's are compared with `calibrate_to_instruments`.
+//! `root`, `search` and `basket` are the judge's own answers, document 01's
+//! refusal number first; the basket's are compared with
+//! `calibrate_to_instruments`. `root` and `search` have the same random
+//! arguments for the same seed.
 
 use crate::cut::norm_cdf::NormCDF;
 use crate::cut::{
@@ -63,6 +65,7 @@ const CALLS: &[(&str, &str, &str)] = &[
     ("newton_rate", "rate [coefficient A B ..]", "implicit_critical_rate"),
     ("calibrate", "alpha [time factor ..] [normal(1)/black(0) strike start end volatility ..]",
      "calibrate_to_instruments: the sigmas, then the diagonal"),
+    ("root", "[coefficient A B ..]", "the judge's: answer, two rungs, two ends, two sums, rate"),
     ("search", "[coefficient A B ..]", "the judge's: answer, two rungs, two ends, two sums, rate, rate after the Newton step"),
     ("basket", "alpha [time factor ..] [normal(1)/black(0) strike start end volatility ..]",
      "the judge's: answer; for each caplet sigma, status, halvings, residual; then for each the diagonal and the bumped status"),
@@ -177,7 +180,10 @@ fn line(name: &str, arguments: &[Arg]) -> Result<String, String> {
         })
         .collect();
     match name {
-        "search" => return Ok(text + &search(lists.first().ok_or("one list is needed")?)),
+        "search" | "root" => {
+            let terms = lists.first().ok_or("one list is needed")?;
+            return Ok(text + &search(terms, name == "search"));
+        }
         "basket" => {
             let ([alpha], [curve, quotes]) = (ones.as_slice(), lists.as_slice()) else {
                 return Err("alpha and two lists are needed".into());
@@ -280,8 +286,20 @@ fn results(name: &str, ones: &[f64], lists: &[&[f64]]) -> Result<shim::Result<Ve
     })
 }
 
-/// The judge's search over given terms, compared with the Rust where served.
-fn search(terms: &[f64]) -> String {
+/// Rules 1 and 2 on terms; there are at most 64, as there are coupons.
+fn admitted(terms: &[f64]) -> Result<(), u32> {
+    if terms.len() > 3 * 64 {
+        return Err(1);
+    }
+    if terms.iter().any(|float| !float.is_finite()) {
+        return Err(2);
+    }
+    Ok(())
+}
+
+/// The judge's search over given terms, with the Newton step or without, compared
+/// with the Rust where served.
+fn search(terms: &[f64], step: bool) -> String {
     let rows = triples(terms);
     let listed: Vec<Term> = rows
         .iter()
@@ -298,21 +316,36 @@ fn search(terms: &[f64]) -> String {
             slip: Slip::Nothing,
         },
     };
-    match case.search_and_step(&listed) {
+    let searched = |_| {
+        if step {
+            case.search_and_step(&listed)
+        } else {
+            case.search_alone(&listed)
+        }
+    };
+    match admitted(terms).and_then(searched) {
         Ok(found) => {
+            let same = crate::confront::same;
             let rate = pricer::critical_rate(&rows).expect("the Rust finds a bracket too");
             assert!(
-                crate::confront::same(rate, found.rate),
+                same(rate, found.rate),
                 "search: the judge and the Rust disagree"
             );
-            let floats = [
+            let mut floats = vec![
                 found.ends[0],
                 found.ends[1],
                 found.sums[0],
                 found.sums[1],
                 found.rate,
-                found.newton,
             ];
+            if step {
+                let newton = pricer::newton_rate(&rows, rate).expect("the Rust steps too");
+                assert!(
+                    same(newton, found.newton),
+                    "the step: the judge and the Rust disagree"
+                );
+                floats.push(found.newton);
+            }
             let words: String = floats
                 .iter()
                 .map(|float| format!(" {:016x}", float.to_bits()))
@@ -476,6 +509,37 @@ impl Dice {
         Arg::List(list)
     }
 
+    /// Half of the time terms of a swaption; else of sizes and signs that none
+    /// has, so that every refusal of a search occurs and far rungs are reached.
+    fn any_terms(&mut self) -> Arg {
+        if self.below(2) == 0 {
+            return self.terms();
+        }
+        let count = match self.below(32) {
+            0 => 0,
+            1 => 63 + self.below(3),
+            _ => 1 + self.below(5),
+        };
+        if self.below(8) == 0 {
+            // As good as flat, steep, or so steep that a sum is infinite.
+            return Arg::List(vec![1.0, 1.0, self.log_between(1e-20, 1e100)]);
+        }
+        let (signs, spread) = (self.below(4) == 0, self.between(1.0, 30.0));
+        let mut list = Vec::new();
+        for _ in 0..count {
+            for size in [2.0, spread, 3.0] {
+                let negative = signs && self.below(4) == 0;
+                let float = match self.below(if signs { 64 } else { 512 }) {
+                    0 => self.float(),
+                    1 => 0.0,
+                    _ => elementary::exp(self.between(-size, size)),
+                };
+                list.push(if negative { -float } else { float });
+            }
+        }
+        Arg::List(list)
+    }
+
     fn arguments(&mut self, name: &str) -> Vec<Arg> {
         let alpha = if self.below(8) == 0 {
             1e-12
@@ -593,7 +657,8 @@ impl Dice {
                     self.between(0.5, 1.2),
                 ])
             }
-            "critical_rate" | "search" => vec![self.terms()],
+            "critical_rate" => vec![self.terms()],
+            "search" | "root" => vec![self.any_terms()],
             "newton_rate" => vec![Arg::One(rate), self.terms()],
             "basket" | "calibrate" => {
                 let count = 1 + self.below(6);

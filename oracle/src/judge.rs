@@ -635,6 +635,16 @@ impl Case<'_> {
         Ok(rate - objective / derivative)
     }
 
+    /// The search over given terms, without the Newton step.
+    pub fn search_alone(&self, terms: &[Term]) -> Result<Search, Refusal> {
+        let found = self.search(terms, true, &mut Vec::new())?;
+        let floats = [found.ends, found.sums, [found.rate; 2]];
+        if floats.iter().flatten().any(|float| !float.is_finite()) {
+            return Err(13);
+        }
+        Ok(found)
+    }
+
     /// Search and Newton step over given terms.
     pub fn search_and_step(&self, terms: &[Term]) -> Result<Search, Refusal> {
         let mut found = self.search(terms, true, &mut Vec::new())?;

@@ -1,0 +1,3 @@
+-- What the two calls tell of terms, and a vector.
+pub mod Told
+pub mod Vector
