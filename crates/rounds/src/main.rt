@@ -41,7 +41,7 @@ fn serve_file(file: &[u8], rounds: u64) {
 fn serve_jobs(file: &[u8], l: Layout, rounds: u64)
     requires { ⌜ layoutOf (now file) ≡ Parts l ⌝ }
 {
-    let mut floats = [0.0; 18432];
+    let mut floats = [0.0; 6464];
     layout::read_lists(file, l, &mut floats);
     each_round(file, l, &floats, rounds);
 }
