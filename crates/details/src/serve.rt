@@ -33,7 +33,7 @@ pub fn serve_file(file: &[u8]) {
 fn serve_jobs(file: &[u8], l: Layout)
     requires { ⌜ layoutOf (now file) ≡ Parts l ⌝ }
 {
-    let mut floats = [0.0; 18432];
+    let mut floats = [0.0; 6464];
     layout::read_lists(file, l, &mut floats);
     each_job(file, l, &floats);
 }

@@ -5,7 +5,7 @@ use mathlib.Core.Logic.{_⊎_, inl, inr}
 use Prim.Native.Nat.{ℕ, zero, suc, _+_, _*_, _-_, _/_, _<_, _≤_}
 use native.Mathlib.Nat.{eq-or-lt-of-le}
 use native.Mathlib.Omega.{arith}
-use lib.ListN.{length, take, drop, take-append-drop, length-take, length-drop, length-append, drop-of-length-le}
+use lib.ListN.{length, take, drop, take-append-drop, length-take, length-drop, length-append}
 use lib.Seq.{length-take-le, take-at, drop-at, take-append-le, drop-append-le}
 use lib.Ieee.{Float}
 use Rattle.layout.specs.declared.parts.Part.{Part}
@@ -14,43 +14,66 @@ use Rattle.layout.specs.declared.parts.Laid.the-variants.{Parts}
 use Rattle.layout.specs.declared.reading.Column.{Column}
 use Rattle.layout.specs.Layout.{endOf, layoutOf}
 use Rattle.layout.specs.Request.{columnOf, requestOf}
-use Rattle.layout.specs.Lists.{listOf, Stands, Holds, columnOn, columnAt}
+use Rattle.layout.specs.Lists.{listOf, Stands, columnOn, columnAt}
 use Rattle.layout.proofs.Kept.{Whole, kept}
 use Rattle.layout.proofs.Lists.{column-length}
 
 -- ---- the column of a list
-pub record Listed (file : List ℕ) (c : Column) (list : List Float) : Type 0 where
+pub record Listed (file : List ℕ) (c : Column) (next : ℕ) (list : List Float) : Type 0 where
   pub inside : endOf (c .part) ≤ length file
   pub within : 8 * c .field + 8 ≤ c .width
-  pub few : c .part .length / c .width ≤ 2048
+  pub room : c .place + c .part .length / c .width ≤ next
   pub is : columnOf file (c .part) (c .width) (c .field) ≡ list
   pub count : length list ≡ c .part .length / c .width
 
-listed-in : (file : List ℕ) (p : Part) (width limit field : ℕ) → Whole file p width limit → limit ≤ 2048 → 8 * field + 8 ≤ width → Listed file (columnOn p width field) (columnOf file p width field)
-listed-in file p width limit field w few within = record {
+listed-in : (file : List ℕ) (p : Part) (width limit field place next : ℕ) → Whole file p width limit → place + limit ≤ next → 8 * field + 8 ≤ width → Listed file (columnOn p width field place) next (columnOf file p width field)
+listed-in file p width limit field place next w room within = record {
   inside = w .inside;
   within = within;
-  few = omega (arith, w .few, few);
+  room = omega (arith, w .few, room);
   is = refl;
   count = column-length file p width field;
 }
 
+abbrev placeAt : Layout → ℕ → ℕ
+placeAt l which = columnAt l which .place
+
 module _ (file : List ℕ) (l : Layout) (e : layoutOf file ≡ Parts l) where
-  listed : (which : ℕ) → which < 9 → Listed file (columnAt l which) (listOf (requestOf file l) which)
+  -- each list ends before the next one's place
+  listed : (which : ℕ) → which < 9 → Listed file (columnAt l which) (placeAt l (suc which)) (listOf (requestOf file l) which)
   unfolding requestOf
-  listed zero h = listed-in file (l .pillars) 16 64 0 (kept file l e .pillars) (omega arith) (omega arith)
-  listed (suc zero) h = listed-in file (l .pillars) 16 64 1 (kept file l e .pillars) (omega arith) (omega arith)
-  listed (suc (suc zero)) h = listed-in file (l .curve) 16 2048 0 (kept file l e .curve) (omega arith) (omega arith)
-  listed (suc (suc (suc zero))) h = listed-in file (l .curve) 16 2048 1 (kept file l e .curve) (omega arith) (omega arith)
-  listed (suc (suc (suc (suc zero)))) h = listed-in file (l .coupons) 24 64 0 (kept file l e .coupons) (omega arith) (omega arith)
-  listed (suc (suc (suc (suc (suc zero))))) h = listed-in file (l .coupons) 24 64 1 (kept file l e .coupons) (omega arith) (omega arith)
-  listed (suc (suc (suc (suc (suc (suc zero)))))) h = listed-in file (l .coupons) 24 64 2 (kept file l e .coupons) (omega arith) (omega arith)
-  listed (suc (suc (suc (suc (suc (suc (suc zero))))))) h = listed-in file (l .grid) 16 1024 0 (kept file l e .grid) (omega arith) (omega arith)
-  listed (suc (suc (suc (suc (suc (suc (suc (suc zero)))))))) h = listed-in file (l .grid) 16 1024 1 (kept file l e .grid) (omega arith) (omega arith)
+  listed zero h = listed-in file (l .pillars) 16 64 0 0 64 (kept file l e .pillars) (omega arith) (omega arith)
+  listed (suc zero) h = listed-in file (l .pillars) 16 64 1 64 128 (kept file l e .pillars) (omega arith) (omega arith)
+  listed (suc (suc zero)) h = listed-in file (l .curve) 16 2048 0 128 2176 (kept file l e .curve) (omega arith) (omega arith)
+  listed (suc (suc (suc zero))) h = listed-in file (l .curve) 16 2048 1 2176 4224 (kept file l e .curve) (omega arith) (omega arith)
+  listed (suc (suc (suc (suc zero)))) h = listed-in file (l .coupons) 24 64 0 4224 4288 (kept file l e .coupons) (omega arith) (omega arith)
+  listed (suc (suc (suc (suc (suc zero))))) h = listed-in file (l .coupons) 24 64 1 4288 4352 (kept file l e .coupons) (omega arith) (omega arith)
+  listed (suc (suc (suc (suc (suc (suc zero)))))) h = listed-in file (l .coupons) 24 64 2 4352 4416 (kept file l e .coupons) (omega arith) (omega arith)
+  listed (suc (suc (suc (suc (suc (suc (suc zero))))))) h = listed-in file (l .grid) 16 1024 0 4416 5440 (kept file l e .grid) (omega arith) (omega arith)
+  listed (suc (suc (suc (suc (suc (suc (suc (suc zero)))))))) h = listed-in file (l .grid) 16 1024 1 5440 6464 (kept file l e .grid) (omega arith) (omega arith)
   listed (suc (suc (suc (suc (suc (suc (suc (suc (suc n))))))))) h = absurd (let z : ⊥ = omega arith in z)
 
-  pub listed-at : (which : ℕ) → which < 9 → (c : Column) → c ≡ columnAt l which → Listed file c (listOf (requestOf file l) which)
-  listed-at which h c q = rw q (listed which h)
+  climb : (n w : ℕ) → w + n ≤ 9 → placeAt l w ≤ placeAt l (w + n)
+  climb zero w h = let z : w + 0 ≡ w = omega arith in rw z (omega arith)
+  climb (suc n) w h =
+      let z : w + suc n ≡ suc (w + n) = omega arith in
+      let up = listed (w + n) (omega arith) in
+      rw z (omega (arith, climb n w (omega arith), up .room))
+
+  pub listed-at : (which : ℕ) → which < 9 → (c : Column) → c ≡ columnAt l which → Listed file c 6464 (listOf (requestOf file l) which)
+  listed-at which h c q =
+      let z = listed which h in
+      let y : suc which + (8 - which) ≡ 9 = omega arith in
+      let top : placeAt l (suc which) ≤ 6464 = rw y at (climb (8 - which) (suc which) (omega arith)) in
+      rw q (record { inside = z .inside; within = z .within; room = omega (arith, z .room, top); is = z .is; count = z .count })
+
+  -- a list stands before the places behind it
+  pub apart : (w which : ℕ) → w < which → which < 9 → placeAt l w + length (listOf (requestOf file l) w) ≤ placeAt l which
+  apart w which i h =
+      let z = listed w (omega arith) in
+      let y : suc w + (which - suc w) ≡ which = omega arith in
+      let up : placeAt l (suc w) ≤ placeAt l which = rw y at (climb (which - suc w) (suc w) (omega arith)) in
+      omega (arith, z .room, z .count, up)
 
 -- ---- a place is filled: what stands before `at` is as it was, and from there on a list
 module _ (xs : List Float) (at : ℕ) (fits : at ≤ length xs) where
@@ -70,36 +93,33 @@ module _ (xs : List Float) (at : ℕ) (fits : at ≤ length xs) where
 pub same-front : (vs list rest : List Float) → vs ≡ list → vs ++ rest ≡ list ++ rest
 same-front vs list rest e = rw e
 
--- the list's own part of its place, from its start to its end
-pub own-part : (file : List ℕ) (l : Layout) (floats : List Float) (which n : ℕ) → length (listOf (requestOf file l) which) ≡ n → Stands file l floats which → take (2048 * which + n - 2048 * which) (drop (2048 * which) floats) ≡ listOf (requestOf file l) which
-own-part file l floats which n e h =
-    let z : 2048 * which + n - 2048 * which ≡ length (listOf (requestOf file l) which) = omega arith in
-    rw z h
+-- the list's own part, from its place to its end
+pub own-part : (file : List ℕ) (l : Layout) (floats : List Float) (which at n : ℕ) → at ≡ placeAt l which → length (listOf (requestOf file l) which) ≡ n → Stands file l floats which → take (at + n - at) (drop at floats) ≡ listOf (requestOf file l) which
+own-part file l floats which at n p e h =
+    let z : at + n - at ≡ length (listOf (requestOf file l) which) = omega arith in
+    rw (z, p) h
 
--- the places from `which` on
-module _ (which : ℕ) (h : which < 9) (xs : List Float) (fits : length xs ≡ 18432) where
-  abbrev at : ℕ
-  at = 2048 * which
-
+-- what is lent from a place on, and comes back
+module _ (xs : List Float) (at : ℕ) (fits : at ≤ length xs) where
   from : length (take (length xs - at) (drop at xs)) ≡ length xs - at
   from = length-take-le (length xs - at) (drop at xs) (rw length-drop (omega arith))
 
-  pub a-place : 2048 ≤ length (take (length xs - at) (drop at xs))
-  a-place = rw from (omega arith)
+  pub lent-room : (n : ℕ) → at + n ≤ length xs → n ≤ length (take (length xs - at) (drop at xs))
+  lent-room n h = rw from (omega arith)
 
-  pub still-nine : (ys : List Float) → length ys ≡ length (take (length xs - at) (drop at xs)) → length (take at xs ++ (ys ++ drop (length xs - at) (drop at xs))) ≡ 18432
-  still-nine ys e =
-      let z : length (take at xs) ≡ at = length-take-le at xs (omega arith) in
+  pub same-room : (ys : List Float) → length ys ≡ length (take (length xs - at) (drop at xs)) → length (take at xs ++ (ys ++ drop (length xs - at) (drop at xs))) ≡ length xs
+  same-room ys e =
+      let z : length (take at xs) ≡ at = length-take-le at xs fits in
       let y : length ys ≡ length xs - at = e ∙ from in
       rw (length-append, z, length-append, y, length-drop, length-drop) (omega arith)
 
-module _ (file : List ℕ) (l : Layout) (e : layoutOf file ≡ Parts l) (which : ℕ) (h : which < 9) (xs rest zs ys : List Float) (fits : length xs ≡ 18432) (got : ys ≡ listOf (requestOf file l) which ++ rest) where
+module _ (file : List ℕ) (l : Layout) (e : layoutOf file ≡ Parts l) (which : ℕ) (h : which < 9) (at : ℕ) (p : at ≡ placeAt l which) (xs rest zs ys : List Float) (fits : at ≤ length xs) (got : ys ≡ listOf (requestOf file l) which ++ rest) where
   abbrev now-is : List Float
-  now-is = take (2048 * which) xs ++ (ys ++ zs)
+  now-is = take at xs ++ (ys ++ zs)
 
   pub one-more : ((w : ℕ) → w < which → Stands file l xs w) → (w : ℕ) → w < which + 1 → Stands file l now-is w
   one-more all w k = goes (eq-or-lt-of-le (let z : w ≤ which = omega arith in z))
     where
       goes : (w ≡ which) ⊎ (w < which) → Stands file l now-is w
-      goes (inl q) = rw q (behind xs (2048 * which) (omega arith) (listOf (requestOf file l) which) rest zs ys got)
-      goes (inr i) = before xs (2048 * which) (omega arith) (2048 * w) (length (listOf (requestOf file l) w)) (let z = listed file l e w (omega arith) in omega (arith, z .few, z .count)) (ys ++ zs) ∙ all w i
+      goes (inl q) = rw (q, ← p) (behind xs at fits (listOf (requestOf file l) which) rest zs ys got)
+      goes (inr i) = before xs at fits (placeAt l w) (length (listOf (requestOf file l) w)) (rw p (apart file l e w which i h)) (ys ++ zs) ∙ all w i

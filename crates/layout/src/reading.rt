@@ -1,4 +1,4 @@
-// The nine lists of a run file, by number, read into one array of floats: a place of 2,048 each.
+// The nine lists of a run file, by number, read into one array of floats, in which each has its place.
 ghost use mathlib.Core.Path.{_≡_};
 ghost use mathlib.Core.List.{_++_};
 ghost use Prim.Native.Nat.{_<_, _≤_};
@@ -11,41 +11,47 @@ use crate::parts::Layout;
 use crate::parts::Part;
 use crate::records;
 
-// A list is a column of its part: of records of `width` bytes, the float number `field`.
+// A list is a column of its part: of records of `width` bytes, the float number `field`. It is put at `place`.
 pub struct Column {
     part: Part,
     width: usize,
     field: usize,
+    place: usize,
 }
 
-fn of_part(part: Part, width: usize, field: usize) -> Column
-    ensures { λ r. ⌜ r ≡ columnOn part width field ⌝ }
+fn of_part(part: Part, width: usize, field: usize, place: usize) -> Column
+    ensures { λ r. ⌜ r ≡ columnOn part width field place ⌝ }
 {
-    Column { part, width, field }
+    Column {
+        part,
+        width,
+        field,
+        place,
+    }
 }
 
-// The column of list `which`. `read_list` and `list` have one of the nine.
+// The column of list `which`. `read_list`, `read_lists` and `list` have one of the nine.
 fn column_at(l: Layout, which: usize) -> Column
     requires { ⌜ which < 9 ⌝ }
     ensures { λ r. ⌜ r ≡ columnAt l which ⌝ }
 {
     match which {
-        0 => of_part(l.pillars, 16, 0),
-        1 => of_part(l.pillars, 16, 1),
-        2 => of_part(l.curve, 16, 0),
-        3 => of_part(l.curve, 16, 1),
-        4 => of_part(l.coupons, 24, 0),
-        5 => of_part(l.coupons, 24, 1),
-        6 => of_part(l.coupons, 24, 2),
-        7 => of_part(l.grid, 16, 0),
-        _ => of_part(l.grid, 16, 1),
+        0 => of_part(l.pillars, 16, 0, 0),
+        1 => of_part(l.pillars, 16, 1, 64),
+        2 => of_part(l.curve, 16, 0, 128),
+        3 => of_part(l.curve, 16, 1, 2176),
+        4 => of_part(l.coupons, 24, 0, 4224),
+        5 => of_part(l.coupons, 24, 1, 4288),
+        6 => of_part(l.coupons, 24, 2, 4352),
+        7 => of_part(l.grid, 16, 0, 4416),
+        _ => of_part(l.grid, 16, 1, 5440),
     }
 }
 
 // List `which` of a run file, at the front of `out`, and how many floats it has. `lay_out` has seen the layout;
-// `read_lists` goes through the nine, and lends a place.
+// `read_lists` goes through the nine, and lends the list's place.
 fn read_list(file: &[u8], l: Layout, which: usize, out: &mut [f64]) -> usize
-    requires { ⌜ (layoutOf (now file) ≡ Parts l) × (which < 9) × (2048 ≤ length (now out)) ⌝ }
+    requires { ⌜ (layoutOf (now file) ≡ Parts l) × (which < 9) × (length (listOf (requestOf (now file) l) which) ≤ length (now out)) ⌝ }
     ensures { λ r. ⌜ r ≡ length (listOf (requestOf (now (file .entry)) l) which) ⌝ }
     ensures { λ r. ⌜ now (out .exit) ≡ listOf (requestOf (now (file .entry)) l) which ++ drop r (now (out .entry)) ⌝ }
 {
@@ -56,14 +62,15 @@ fn read_list(file: &[u8], l: Layout, which: usize, out: &mut [f64]) -> usize
 }
 
 // All nine, each at its place. `lay_out` has seen the layout; `serve_jobs` of `serving`, `rounds` and `details` lends
-// nine places.
+// room for all of them.
 pub fn read_lists(file: &[u8], l: Layout, floats: &mut [f64])
-    requires { ⌜ (layoutOf (now file) ≡ Parts l) × (length (now floats) ≡ 18432) ⌝ }
+    requires { ⌜ (layoutOf (now file) ≡ Parts l) × (length (now floats) ≡ 6464) ⌝ }
     ensures { λ _. ⌜ Holds (now (file .entry)) l (now (floats .exit)) ⌝ }
 {
     let mut which = 0;
     while which < 9 {
-        let at = 2048 * which;
+        let c = column_at(l, which);
+        let at = c.place;
         read_list(file, l, which, &mut floats[at..]);
         which += 1;
     }
@@ -75,7 +82,7 @@ pub fn list<'a>(file: &[u8], l: Layout, floats: &'a [f64], which: usize) -> &'a 
     ensures { λ r. ⌜ now r ≡ listOf (requestOf (now (file .entry)) l) which ⌝ }
 {
     let c = column_at(l, which);
-    let at = 2048 * which;
+    let at = c.place;
     let end = at + c.part.length as usize / c.width;
     &floats[at..end]
 }

@@ -1,6 +1,8 @@
 // A program for timing: how often a run file is worked (u32, the least byte first) and then the file, from standard
 // input. The file's jobs are worked so often, and the last round's lines are written. `bench/run` calls it.
 ghost use mathlib.Core.Path.{_≡_};
+ghost use Prim.Native.Nat.{_≤_};
+ghost use lib.ListN.{length};
 ghost use Rattle.lists.specs.Faults.{curveFaults};
 ghost use Rattle.layout.specs.declared.parts.Laid.the-variants.{Parts};
 ghost use Rattle.layout.specs.Layout.{layoutOf};
@@ -39,7 +41,7 @@ fn serve_file(file: &[u8], rounds: u64) {
 fn serve_jobs(file: &[u8], l: Layout, rounds: u64)
     requires { ⌜ layoutOf (now file) ≡ Parts l ⌝ }
 {
-    let mut floats = [0.0; 18432];
+    let mut floats = [0.0; 6464];
     layout::read_lists(file, l, &mut floats);
     each_round(file, l, &floats, rounds);
 }
@@ -59,6 +61,7 @@ fn each_round(file: &[u8], l: Layout, floats: &[f64], rounds: u64)
     let grid = layout::list(file, l, floats, 7);
     let draws = layout::list(file, l, floats, 8);
     let curve = lists::curve_faults(times, factors);
+    let mut out = [0u8; 131072];
     let mut left = rounds;
     while left > 0 {
         left -= 1;
@@ -77,11 +80,12 @@ fn each_round(file: &[u8], l: Layout, floats: &[f64], rounds: u64)
             grid,
             draws,
             left == 0,
+            &mut out,
         );
     }
 }
 
-// One round. `each_round` has the lists of the file, and the curve's faults.
+// One round. `each_round` has the lists of the file, the curve's faults, and room for a path of 1,024 points.
 fn each_job(
     file: &[u8],
     l: Layout,
@@ -97,13 +101,13 @@ fn each_job(
     grid: &[f64],
     draws: &[f64],
     written: bool,
+    out: &mut [u8],
 )
-    requires { ⌜ layoutOf (now file) ≡ Parts l ⌝ }
+    requires { ⌜ (layoutOf (now file) ≡ Parts l) × (131072 ≤ length (now out)) ⌝ }
     requires { ⌜ curve ≡ curveFaults (now times) (now factors) ⌝ }
     requires { ⌜ listsOf alpha (now pillars) (now sigmas) (now times) (now factors) (now payments) (now accruals) (now owns) (now grid) (now draws) (jobsOf (now file) (l .jobs)) ≡ requestOf (now file) l ⌝ }
 {
     let n_jobs = (l.jobs.length / 40) as usize;
-    let mut out = [0u8; 131072];
     let mut k = 0;
     while k < n_jobs {
         let n = runfile::job_lines(
@@ -121,7 +125,7 @@ fn each_job(
             grid,
             draws,
             k,
-            &mut out,
+            out,
         );
         if written {
             io::write_all(libc::STDOUT_FILENO, &out[..n]);

@@ -14,7 +14,7 @@ use Rattle.layout.proofs.Kept.{kept}
 use Rattle.fields.specs.Text.{Begins}
 use Rattle.lines.specs.Lines.{header, refusedLine}
 use Rattle.runfile.specs.Output.{jobLines}
-use Rattle.runfile.specs.Pieces.{piecesIn, piecesOf, pieceOf, job-is, count-is, header-is, refused-is}
+use Rattle.runfile.specs.Pieces.{piecesOf, pieceOf, job-is, count-is, header-is, refused-is}
 
 -- ---- at most 128 jobs, and the header
 few-in : (file : List ℕ) (laid : Laid) → layoutOf file ≡ laid → length (piecesOf file) ≤ 129

@@ -50,7 +50,7 @@ fn serve_jobs(file: &[u8], l: Layout, sent: Sent, due: &mut usize) -> Sent
     requires { ⌜ (layoutOf (now file) ≡ Parts l) × Due sent (now due) × (now due ≡ 1) ⌝ }
     ensures { λ r. ⌜ Done (now (file .entry)) r ⌝ }
 {
-    let mut floats = [0.0; 18432];
+    let mut floats = [0.0; 6464];
     layout::read_lists(file, l, &mut floats);
     each_job(file, l, &floats, sent, due)
 }

@@ -1,18 +1,20 @@
 -- `rounds::each_round` is safe: each round has the lists of the file. Assumes nothing.
 use borrow.Author.Needs.{needs}
+use mathlib.Core.Path.{_≡_, _∙_}
 use Prim.Native.Nat.{_≤_}
 use native.Mathlib.Omega.{arith}
 use denote.Ref.{now}
+use lib.ListN.{length}
 use Rattle.layout.proofs.Kept.{kept}
 use Rattle.runfile.proofs.Lists.{lists-are}
 use Rattle.rounds.proofs.each_round.Statement.{statement}
 use Rattle.rounds.proofs.each_round.Tie as tie
 
 abbrev Inv-loop : tie.InvT-loop
-Inv-loop file l floats rounds alpha pillars sigmas times factors payments accruals owns grid draws curve left₀ left = left ≤ rounds
+Inv-loop file l floats rounds alpha pillars sigmas times factors payments accruals owns grid draws curve out₀ left₀ out left = (left ≤ rounds) × (length out ≡ 131072)
 
 abbrev μ-loop : tie.MeasureT-loop
-μ-loop file l floats rounds alpha pillars sigmas times factors payments accruals owns grid draws curve left₀ left = left
+μ-loop file l floats rounds alpha pillars sigmas times factors payments accruals owns grid draws curve out₀ left₀ out left = left
 
 alpha-requires : tie.Need-alpha-requires Inv-loop μ-loop
 alpha-requires c κs = let s = c .before .before in kept (now (s .args .file)) (s .args .l) (s .pre .0) .model
@@ -48,22 +50,25 @@ curve-faults-requires : tie.Need-curve-faults-requires Inv-loop μ-loop
 curve-faults-requires c κs = search needs
 
 loop-holds : tie.Need-loop-holds Inv-loop μ-loop
-loop-holds c = search needs
+loop-holds c = (search needs, search needs)
 
 sub-left : tie.Need-sub-left Inv-loop μ-loop
 sub-left c = search needs
 
+slice-aggregate-each-job : tie.Need-slice-aggregate-each-job Inv-loop μ-loop
+slice-aggregate-each-job c = let h = c .before .before .loop .inv .1 in search (needs, h)
+
 each-job-requires : tie.Need-each-job-requires Inv-loop μ-loop
 each-job-requires c κs =
-    let b = c .before .before in
+    let b = c .before .before .before in
     let s = b .before .before .before .before .before .before .before .before .before .before .before .before .before in
-    (s .pre .0, (b .curve-faults .ensures, lists-are (now (s .args .file)) (s .args .l) _ _ _ _ _ _ _ _ _ _ (b .before .before .before .before .before .before .before .before .before .before .alpha .ensures) (b .before .before .before .before .before .before .before .before .before .list .ensures) (b .before .before .before .before .before .before .before .before .list2 .ensures) (b .before .before .before .before .before .before .before .list3 .ensures) (b .before .before .before .before .before .before .list4 .ensures) (b .before .before .before .before .before .list5 .ensures) (b .before .before .before .before .list6 .ensures) (b .before .before .before .list7 .ensures) (b .before .before .list8 .ensures) (b .before .list9 .ensures)))
+    ((s .pre .0, omega (arith, c .before .before .loop .inv .1)), (b .curve-faults .ensures, lists-are (now (s .args .file)) (s .args .l) _ _ _ _ _ _ _ _ _ _ (b .before .before .before .before .before .before .before .before .before .before .alpha .ensures) (b .before .before .before .before .before .before .before .before .before .list .ensures) (b .before .before .before .before .before .before .before .before .list2 .ensures) (b .before .before .before .before .before .before .before .list3 .ensures) (b .before .before .before .before .before .before .list4 .ensures) (b .before .before .before .before .before .list5 .ensures) (b .before .before .before .before .list6 .ensures) (b .before .before .before .list7 .ensures) (b .before .before .list8 .ensures) (b .before .list9 .ensures)))
 
 loop-less : tie.Need-loop-less Inv-loop μ-loop
 loop-less c = search needs
 
 loop-again : tie.Need-loop-again Inv-loop μ-loop
-loop-again c = search needs
+loop-again c = (omega (arith, c .before .before .before .before .loop .inv .0), c .before .each-job .kept .1 .1 .1 .1 .1 .1 .1 .1 .1 .1 .1 .1 .1 .1 .0 ∙ c .before .before .before .before .loop .inv .1)
 
 returns : tie.Need-returns Inv-loop μ-loop
 returns c = search needs
@@ -87,6 +92,7 @@ each-round-spec =
     curve-faults-requires
     loop-holds
     sub-left
+    slice-aggregate-each-job
     each-job-requires
     loop-less
     loop-again

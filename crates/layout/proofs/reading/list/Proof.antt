@@ -1,16 +1,15 @@
 -- `layout::reading::list` meets its contract: the list's own part of its place. Assumes nothing.
 use borrow.Author.Needs.{needs}
+use mathlib.Core.Path.{ap}
 use native.Mathlib.Omega.{arith}
 use denote.Ref.{now}
+use Rattle.layout.specs.declared.reading.Column.{Column}
 use Rattle.layout.proofs.Places.{listed-at, own-part}
 use Rattle.layout.proofs.reading.list.Statement.{statement}
 use Rattle.layout.proofs.reading.list.Tie as tie
 
 column-at-requires : tie.Need-column-at-requires
 column-at-requires c κs = search needs
-
-mul-at : tie.Need-mul-at
-mul-at c = search needs
 
 cast-end : tie.Need-cast-end
 cast-end c = search needs
@@ -25,10 +24,13 @@ add-end : tie.Need-add-end
 add-end c =
     let s = c .before .before .before .before .before in
     let z = listed-at (now (s .args .file)) (s .args .l) (s .pre .0) (s .args .which) (s .pre .2) _ (c .before .before .column-at .ensures) in
-    omega (arith, z .few, s .pre .2)
+    omega (arith, z .room)
 
 mul-result : tie.Need-mul-result
-mul-result c = search needs
+mul-result c =
+    let s = c .before .before .before .before .before in
+    let z = listed-at (now (s .args .file)) (s .args .l) (s .pre .0) (s .args .which) (s .pre .2) _ (c .before .before .column-at .ensures) in
+    omega (arith, z .room)
 
 sub-result : tie.Need-sub-result
 sub-result c = search needs
@@ -40,20 +42,19 @@ part-result-end : tie.Need-part-result-end
 part-result-end c =
     let s = c .before .before .before .before .before in
     let z = listed-at (now (s .args .file)) (s .args .l) (s .pre .0) (s .args .which) (s .pre .2) _ (c .before .before .column-at .ensures) in
-    omega (arith, z .few, s .pre .2, s .pre .1 .room)
+    omega (arith, z .room, s .pre .1 .room)
 
 returns : tie.Need-returns
 returns c =
     let s = c .before .before .before .before .before .before in
     let z = listed-at (now (s .args .file)) (s .args .l) (s .pre .0) (s .args .which) (s .pre .2) _ (c .before .before .before .column-at .ensures) in
-    own-part (now (s .args .file)) (s .args .l) (now (s .args .floats)) (s .args .which) _ (z .count) (s .pre .1 .lists (s .args .which) (s .pre .2))
+    own-part (now (s .args .file)) (s .args .l) (now (s .args .floats)) (s .args .which) _ _ (ap (λ (k : Column). k .place) (c .before .before .before .column-at .ensures)) (z .count) (s .pre .1 .lists (s .args .which) (s .pre .2))
 
 pub list-spec : {M : Type 1} → statement M
 list-spec =
     tie.close
     (tie.spec
     column-at-requires
-    mul-at
     cast-end
     div-end
     add-end

@@ -24,19 +24,19 @@ slice-relend-prefix-column : tie.Need-slice-relend-prefix-column
 slice-relend-prefix-column c =
     let s = c .before .before .before .before .before in
     let z = listed-at (now (s .args .file)) (s .args .l) (s .pre .0) (s .args .which) (s .pre .1) _ (c .before .before .column-at .ensures) in
-    omega (arith, z .few, s .pre .2)
+    omega (arith, z .count, s .pre .2)
 
 slice-aggregate-column : tie.Need-slice-aggregate-column
 slice-aggregate-column c =
     let s = c .before .before .before .before .before .before in
     let z = listed-at (now (s .args .file)) (s .args .l) (s .pre .0) (s .args .which) (s .pre .1) _ (c .before .before .before .column-at .ensures) in
-    sym (length-take-le _ (now (s .args .out)) (omega (arith, z .few, s .pre .2)))
+    sym (length-take-le _ (now (s .args .out)) (omega (arith, z .count, s .pre .2)))
 
 column-requires : tie.Need-column-requires
 column-requires c κs =
     let s = c .before .before .before .before .before .before in
     let z = listed-at (now (s .args .file)) (s .args .l) (s .pre .0) (s .args .which) (s .pre .1) _ (c .before .before .before .column-at .ensures) in
-    (z .inside, (z .within, length-take-le _ (now (s .args .out)) (omega (arith, z .few, s .pre .2))))
+    (z .inside, (z .within, length-take-le _ (now (s .args .out)) (omega (arith, z .count, s .pre .2))))
 
 same-length : tie.Need-same-length
 same-length c = search needs

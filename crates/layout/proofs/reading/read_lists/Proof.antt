@@ -1,17 +1,18 @@
 -- `layout::reading::read_lists` meets its contract. The loop's invariant: the lists below `which` stand at their places. Assumes nothing.
 use borrow.Author.Needs.{needs}
-use mathlib.Core.Path.{_≡_, _∙_}
-use Prim.Native.Nat.{ℕ, _*_, _-_, _<_, _≤_}
+use mathlib.Core.Path.{_≡_, _∙_, ap}
+use Prim.Native.Nat.{ℕ, _-_, _<_, _≤_}
 use native.Mathlib.Omega.{arith}
 use denote.Ref.{now}
 use lib.ListN.{length}
+use Rattle.layout.specs.declared.reading.Column.{Column}
 use Rattle.layout.specs.Lists.{Stands}
-use Rattle.layout.proofs.Places.{a-place, still-nine, one-more}
+use Rattle.layout.proofs.Places.{listed-at, lent-room, same-room, one-more}
 use Rattle.layout.proofs.reading.read_lists.Statement.{statement}
 use Rattle.layout.proofs.reading.read_lists.Tie as tie
 
 abbrev Inv-loop : tie.InvT-loop
-Inv-loop file l floats₀ which₀ floats which = (which ≤ 9) × (length floats ≡ 18432) × ((w : ℕ) → w < which → Stands file l floats w)
+Inv-loop file l floats₀ which₀ floats which = (which ≤ 9) × (length floats ≡ 6464) × ((w : ℕ) → w < which → Stands file l floats w)
 
 abbrev μ-loop : tie.MeasureT-loop
 μ-loop file l floats₀ which₀ floats which = 9 - which
@@ -19,26 +20,43 @@ abbrev μ-loop : tie.MeasureT-loop
 loop-holds : tie.Need-loop-holds Inv-loop μ-loop
 loop-holds c = (search needs, c .before .before .pre .1, λ w h. absurd (let z : ⊥ = omega arith in z))
 
-mul-at : tie.Need-mul-at Inv-loop μ-loop
-mul-at c = search needs
+column-at-requires : tie.Need-column-at-requires Inv-loop μ-loop
+column-at-requires c κs = search needs
 
 mul-read-list : tie.Need-mul-read-list Inv-loop μ-loop
-mul-read-list c = search needs
+mul-read-list c =
+    let s = c .before .before .before .before .before in
+    let l = c .before .before .loop in
+    let z = listed-at (now (s .args .file)) (s .args .l) (s .pre .0) (l .which) (c .before .loop-test .taken) _ (c .column-at .ensures) in
+    omega (arith, z .room, l .inv .1)
 
 sub-read-list : tie.Need-sub-read-list Inv-loop μ-loop
-sub-read-list c = search needs
+sub-read-list c =
+    let s = c .before .before .before .before .before in
+    let l = c .before .before .loop in
+    let z = listed-at (now (s .args .file)) (s .args .l) (s .pre .0) (l .which) (c .before .loop-test .taken) _ (c .column-at .ensures) in
+    omega (arith, z .room, l .inv .1)
 
 part-read-list-start : tie.Need-part-read-list-start Inv-loop μ-loop
-part-read-list-start c = search needs
+part-read-list-start c =
+    let s = c .before .before .before .before .before in
+    let l = c .before .before .loop in
+    let z = listed-at (now (s .args .file)) (s .args .l) (s .pre .0) (l .which) (c .before .loop-test .taken) _ (c .column-at .ensures) in
+    omega (arith, z .room, l .inv .1)
 
 part-read-list-end : tie.Need-part-read-list-end Inv-loop μ-loop
-part-read-list-end c = search needs
+part-read-list-end c =
+    let s = c .before .before .before .before .before in
+    let l = c .before .before .loop in
+    let z = listed-at (now (s .args .file)) (s .args .l) (s .pre .0) (l .which) (c .before .loop-test .taken) _ (c .column-at .ensures) in
+    omega (arith, z .room, l .inv .1)
 
 read-list-requires : tie.Need-read-list-requires Inv-loop μ-loop
 read-list-requires c κs =
-    let s = c .before .before .before .before .before in
-    let l = c .before .before .loop in
-    (s .pre .0, c .before .loop-test .taken, a-place (l .which) (c .before .loop-test .taken) (l .floats) (l .inv .1))
+    let s = c .before .before .before .before .before .before in
+    let l = c .before .before .before .loop in
+    let z = listed-at (now (s .args .file)) (s .args .l) (s .pre .0) (l .which) (c .before .before .loop-test .taken) _ (c .before .column-at .ensures) in
+    (s .pre .0, c .before .before .loop-test .taken, lent-room (l .floats) _ (omega (arith, z .room, l .inv .1)) _ (omega (arith, z .room, z .count, l .inv .1)))
 
 add-which : tie.Need-add-which Inv-loop μ-loop
 add-which c = search needs
@@ -48,11 +66,12 @@ loop-less c = search needs
 
 loop-again : tie.Need-loop-again Inv-loop μ-loop
 loop-again c =
-    let s = c .before .before .before .before .before .before .before .before in
-    let l = c .before .before .before .before .before .loop in
-    let t = c .before .before .before .before .loop-test .taken in
+    let s = c .before .before .before .before .before .before .before .before .before in
+    let l = c .before .before .before .before .before .before .loop in
+    let z = listed-at (now (s .args .file)) (s .args .l) (s .pre .0) (l .which) (c .before .before .before .before .before .loop-test .taken) _ (c .before .before .before .before .column-at .ensures) in
     let r = c .before .before .read-list in
-    (omega (arith, t), still-nine (l .which) t (l .floats) (l .inv .1) (r .last .1 .1 .1 .0) (r .kept .1 .1 .1 .0), one-more (now (s .args .file)) (s .args .l) (s .pre .0) (l .which) t (l .floats) _ _ (r .last .1 .1 .1 .0) (l .inv .1) (r .ensures .1) (l .inv .2))
+    let t = c .before .before .before .before .before .loop-test .taken in
+    (omega (arith, t), same-room (l .floats) _ (omega (arith, z .room, l .inv .1)) (r .last .1 .1 .1 .0) (r .kept .1 .1 .1 .0) ∙ l .inv .1, one-more (now (s .args .file)) (s .args .l) (s .pre .0) (l .which) t _ (ap (λ (k : Column). k .place) (c .before .before .before .before .column-at .ensures)) (l .floats) _ _ (r .last .1 .1 .1 .0) (omega (arith, z .room, l .inv .1)) (r .ensures .1) (l .inv .2))
 
 same-length : tie.Need-same-length Inv-loop μ-loop
 same-length c = search needs
@@ -67,7 +86,7 @@ read-lists-spec =
     Inv-loop
     μ-loop
     loop-holds
-    mul-at
+    column-at-requires
     mul-read-list
     sub-read-list
     part-read-list-start
