@@ -36,17 +36,14 @@ pub fn counted(t: Tally, v: Verdict) -> Tally {
     next
 }
 
-// A vector that is cut off differs.
-pub fn cut_off(t: Tally) -> Tally {
-    let mut next = t;
-    next.vectors = std::num::wrapping_add_u64(next.vectors, 1);
-    next.differ = std::num::wrapping_add_u64(next.differ, 1);
-    next
-}
-
-pub fn ended(t: Tally) -> Tally {
+// No vector follows, and that many bytes are left of one: it is cut off, and differs.
+pub fn ended(t: Tally, left: usize) -> Tally {
     let mut next = t;
     next.more = false;
+    if left > 0 {
+        next.vectors = std::num::wrapping_add_u64(next.vectors, 1);
+        next.differ = std::num::wrapping_add_u64(next.differ, 1);
+    }
     next
 }
 
