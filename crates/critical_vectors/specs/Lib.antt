@@ -1,3 +1,4 @@
--- What the two calls tell of terms, and a vector.
+-- What the two calls tell of terms, a vector, and the count of those that differ.
 pub mod Told
 pub mod Vector
+pub mod Count

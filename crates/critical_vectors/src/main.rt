@@ -7,15 +7,12 @@ mod vector;
 
 use report::Tally;
 
-// The tally after the next vector. One that is cut off differs.
+// The tally after the next vector.
 fn after(t: Tally) -> Tally {
     let mut s = [0u8; 1720];
     let n = io::read_full(libc::STDIN_FILENO, &mut s);
-    if n == 0 {
-        return report::ended(t);
-    }
     if n < 1720 {
-        return report::ended(report::cut_off(t));
+        return report::ended(t, n);
     }
     report::counted(t, vector::compared(&s))
 }

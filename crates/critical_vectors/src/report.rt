@@ -1,5 +1,8 @@
 // How often each number was answered, and the lines that say so.
+ghost use mathlib.Core.Path.{_≡_};
 ghost use Prim.Native.Nat.{_<_};
+ghost use lib.Dec.{eqb};
+ghost use Rattle.critical_vectors.specs.Count.{countedIf};
 use crate::vector::Verdict;
 
 pub struct Tally {
@@ -12,7 +15,9 @@ pub struct Tally {
     pub more: bool,
 }
 
-pub fn nothing() -> Tally {
+pub fn nothing() -> Tally
+    ensures { λ r. ⌜ (r .vectors ≡ 0) × (r .differ ≡ 0) ⌝ }
+{
     Tally {
         found: [0; 14],
         stepped: [0; 14],
@@ -22,7 +27,9 @@ pub fn nothing() -> Tally {
     }
 }
 
-pub fn counted(t: Tally, v: Verdict) -> Tally {
+pub fn counted(t: Tally, v: Verdict) -> Tally
+    ensures { λ r. ⌜ r .differ ≡ countedIf (v .agrees) (t .differ) ⌝ }
+{
     let mut next = t;
     let i = place(v.found);
     let j = place(v.stepped);
@@ -36,17 +43,16 @@ pub fn counted(t: Tally, v: Verdict) -> Tally {
     next
 }
 
-// A vector that is cut off differs.
-pub fn cut_off(t: Tally) -> Tally {
-    let mut next = t;
-    next.vectors = std::num::wrapping_add_u64(next.vectors, 1);
-    next.differ = std::num::wrapping_add_u64(next.differ, 1);
-    next
-}
-
-pub fn ended(t: Tally) -> Tally {
+// No vector follows, and that many bytes are left of one: it is cut off, and differs.
+pub fn ended(t: Tally, left: usize) -> Tally
+    ensures { λ r. ⌜ r .differ ≡ countedIf (eqb left 0) (t .differ) ⌝ }
+{
     let mut next = t;
     next.more = false;
+    if left > 0 {
+        next.vectors = std::num::wrapping_add_u64(next.vectors, 1);
+        next.differ = std::num::wrapping_add_u64(next.differ, 1);
+    }
     next
 }
 
