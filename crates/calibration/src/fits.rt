@@ -40,7 +40,7 @@ pub fn fit_caplet(
     fit_caplet_on(curve, quote, alpha, times, factors, strike, t, end, vol)
 }
 
-// The same on a curve whose faults are known: `fit_caplet` has worked them, and `kinds::fit_told`
+// The same on a curve whose faults are known: `fit_caplet` has worked them, and `kinds::fit_work`
 // hands on those that were worked once for all jobs.
 pub fn fit_caplet_on(
     curve: Faults,
@@ -187,7 +187,7 @@ pub fn fit_swaption(
     )
 }
 
-// The same on a curve whose faults are known: `fit_swaption` has worked them, and `kinds::fit_told`
+// The same on a curve whose faults are known: `fit_swaption` has worked them, and `kinds::fit_work`
 // hands on those that were worked once for all jobs.
 pub fn fit_swaption_on(
     curve: Faults,

@@ -54,7 +54,7 @@ pub fn swaption_value(
 }
 
 // The same on a curve whose faults are known: `swaption_value` has worked them, and
-// `kinds::swaption_told` hands on those that were worked once for all jobs.
+// `kinds::swaption_work` hands on those that were worked once for all jobs.
 pub fn swaption_value_on(
     option: SwaptionType,
     curve: Faults,

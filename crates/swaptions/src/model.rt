@@ -49,7 +49,7 @@ pub fn swaption_price(
 }
 
 // The same on a curve whose faults are known: `swaption_price` has worked them, and
-// `kinds::swaption_told` hands on those that were worked once for all jobs.
+// `kinds::swaption_work` hands on those that were worked once for all jobs.
 pub fn swaption_price_on(
     curve: Faults,
     alpha: f64,
