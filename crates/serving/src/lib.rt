@@ -1,6 +1,6 @@
-// A run file served to standard output.
+// A run file served: from standard input to standard output.
 mod sent;
 mod serve;
 
 pub use sent::Sent;
-pub use serve::serve_file;
+pub use serve::serve_input;

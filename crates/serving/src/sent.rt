@@ -1,25 +1,45 @@
-// How much of a file's output has been sent. Its fields are this module's own: outside of it nothing is sent, and
-// nothing is said to be, but by `send`.
+// A run file as it was read, and how much of its output has been sent. The fields are this module's own: a file comes
+// from `receive` alone, and nothing is sent, or said to be, but by `send`, which has the file from the state it is given.
 ghost use mathlib.Core.Path.{_≡_};
 ghost use Prim.Native.Nat.{_+_, _<_};
 ghost use lib.ListN.{length};
 ghost use Rattle.runfile.specs.Pieces.{piecesOf, pieceOf};
-ghost use Rattle.serving.specs.Sending.{begun, Due};
+ghost use Rattle.serving.specs.Sending.{fileOf, Due, Kept};
 
-// The piece that is next, from 0: those before it have been handed to the call that writes. Whether the last such
-// call failed.
 pub struct Sent {
+    // One byte more than a run file may have, so that a longer one is seen to be longer.
+    bytes: [u8; 65537],
+    length: usize,
+    // The piece of the output that is next, from 0: those before it have been handed to the call that writes.
     next: usize,
+    // Whether the last such call failed.
     failed: bool,
 }
 
-pub fn start() -> Sent
-    ensures { λ r. ⌜ r ≡ begun ⌝ }
+// All of standard input, of whose output nothing is sent yet.
+pub fn receive() -> Sent
+    ensures { λ r. ⌜ Due (fileOf r) r 0 ⌝ }
 {
+    let mut bytes = [0u8; 65537];
+    let length = io::read_full(libc::STDIN_FILENO, &mut bytes);
     Sent {
+        bytes,
+        length,
         next: 0,
         failed: false,
     }
+}
+
+pub fn bytes(sent: Sent) -> [u8; 65537]
+    ensures { λ r. ⌜ r ≡ sent .bytes ⌝ }
+{
+    sent.bytes
+}
+
+pub fn length(sent: Sent) -> usize
+    ensures { λ r. ⌜ r ≡ sent .length ⌝ }
+{
+    sent.length
 }
 
 pub fn failed(sent: Sent) -> bool
@@ -29,16 +49,16 @@ pub fn failed(sent: Sent) -> bool
 }
 
 // The one call that writes: the piece of the file's output that is due, behind no write that failed. A state may be
-// copied, `due` may not: once a piece is sent, an older state is not due any more. `serve_file` and `each_job` have
-// the piece from what they have worked.
-pub fn send(file: &[u8], sent: Sent, due: &mut usize, text: &[u8]) -> Sent
-    requires { ⌜ Due sent (now due) × (now due < length (piecesOf (now file))) × (now text ≡ pieceOf (now file) (now due)) ⌝ }
-    ensures { λ r. ⌜ (r .next ≡ sent .next + 1) × (now (due .exit) ≡ r .next) ⌝ }
+// copied, `due` may not: once a piece is sent, an older state is not due any more. Whoever sends has the piece from
+// what was worked on the same file.
+pub fn send(sent: Sent, due: &mut usize, text: &[u8]) -> Sent
+    requires { ⌜ Due (fileOf sent) sent (now due) × (now due < length (piecesOf (fileOf sent))) × (now text ≡ pieceOf (fileOf sent) (now due)) ⌝ }
+    ensures { λ r. ⌜ Kept sent r × (r .next ≡ sent .next + 1) × (now (due .exit) ≡ r .next) ⌝ }
 {
     let written = io::write_all(libc::STDOUT_FILENO, text);
     *due += 1;
-    Sent {
-        next: sent.next + 1,
-        failed: !written,
-    }
+    let mut after = sent;
+    after.next = sent.next + 1;
+    after.failed = !written;
+    after
 }

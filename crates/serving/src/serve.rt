@@ -6,14 +6,26 @@ ghost use Rattle.layout.specs.Layout.{layoutOf};
 ghost use Rattle.layout.specs.Lists.{Holds};
 ghost use Rattle.fields.specs.Text.{Begins};
 ghost use Rattle.lines.specs.Lines.{header, refusedLine};
-ghost use Rattle.serving.specs.Sending.{Done, Due};
+ghost use Rattle.serving.specs.Sending.{fileOf, Due, Done};
 use super::sent;
 use super::sent::Sent;
 use layout::Laid;
 use layout::Layout;
 
-// From piece 0 on, until all of the file's output is sent, or a write has failed.
-pub fn serve_file(file: &[u8]) -> Sent
+// What standard input holds, served: all of its output is sent, or a write has failed.
+pub fn serve_input() -> Sent
+    ensures { λ r. ⌜ Done (fileOf r) r ⌝ }
+{
+    let sent = sent::receive();
+    let bytes = sent::bytes(sent);
+    let n = sent::length(sent);
+    serve_file(&bytes[..n], sent)
+}
+
+// From piece 0 on, until all of the file's output is sent, or a write has failed. The state is of the file, and nothing
+// is sent yet.
+fn serve_file(file: &[u8], sent: Sent) -> Sent
+    requires { ⌜ Due (now file) sent 0 ⌝ }
     ensures { λ r. ⌜ Done (now (file .entry)) r ⌝ }
 {
     let laid = layout::lay_out(file);
@@ -22,11 +34,11 @@ pub fn serve_file(file: &[u8]) -> Sent
     match laid {
         Laid::Broken => {
             let n = first_line(true, &mut text);
-            sent::send(file, sent::start(), &mut due, &text[..n])
+            sent::send(sent, &mut due, &text[..n])
         }
         Laid::Parts(l) => {
             let n = first_line(false, &mut text);
-            let first = sent::send(file, sent::start(), &mut due, &text[..n]);
+            let first = sent::send(sent, &mut due, &text[..n]);
             if sent::failed(first) {
                 return first;
             }
@@ -45,9 +57,9 @@ fn first_line(broken: bool, text: &mut [u8; 128]) -> usize
     lines::write_header(text)
 }
 
-// The jobs, on the lists that are read here, once. `serve_file` has the layout from `lay_out`, and has sent the header.
+// The jobs, on the lists that are read here, once. The layout is that of the file, whose header is sent.
 fn serve_jobs(file: &[u8], l: Layout, sent: Sent, due: &mut usize) -> Sent
-    requires { ⌜ (layoutOf (now file) ≡ Parts l) × Due sent (now due) × (now due ≡ 1) ⌝ }
+    requires { ⌜ (layoutOf (now file) ≡ Parts l) × Due (now file) sent (now due) × (now due ≡ 1) ⌝ }
     ensures { λ r. ⌜ Done (now (file .entry)) r ⌝ }
 {
     let mut floats = [0.0; 6464];
@@ -55,10 +67,10 @@ fn serve_jobs(file: &[u8], l: Layout, sent: Sent, due: &mut usize) -> Sent
     each_job(file, l, &floats, sent, due)
 }
 
-// The jobs in order: the lines of job k are piece k + 1. The curve's faults are worked once for all. `serve_jobs` hands
-// on what it was given, and the lists that it has read.
+// The jobs in order: the lines of job k are piece k + 1. The curve's faults are worked once for all. The lists
+// are those of the file, whose header is sent.
 fn each_job(file: &[u8], l: Layout, floats: &[f64], sent: Sent, due: &mut usize) -> Sent
-    requires { ⌜ (layoutOf (now file) ≡ Parts l) × Holds (now file) l (now floats) × Due sent (now due) × (now due ≡ 1) ⌝ }
+    requires { ⌜ (layoutOf (now file) ≡ Parts l) × Holds (now file) l (now floats) × Due (now file) sent (now due) × (now due ≡ 1) ⌝ }
     ensures { λ r. ⌜ Done (now (file .entry)) r ⌝ }
 {
     let alpha = layout::alpha(file, l.model);
@@ -94,7 +106,7 @@ fn each_job(file: &[u8], l: Layout, floats: &[f64], sent: Sent, due: &mut usize)
             k,
             &mut out,
         );
-        last = sent::send(file, last, due, &out[..n]);
+        last = sent::send(last, due, &out[..n]);
         if sent::failed(last) {
             return last;
         }

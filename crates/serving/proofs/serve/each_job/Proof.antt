@@ -9,13 +9,13 @@ use lib.ListN.{length}
 use Rattle.layout.proofs.Kept.{kept}
 use Rattle.runfile.proofs.Lists.{lists-are}
 use Rattle.serving.specs.Sending.{Due}
-use Rattle.serving.proofs.Sending.{job-due, all-sent}
+use Rattle.serving.proofs.Sending.{job-due, all-sent, same-file, due-of, next-due}
 use Rattle.serving.proofs.serve.each_job.Statement.{statement}
 use Rattle.serving.proofs.serve.each_job.Tie as tie
 
 abbrev Inv-loop : tie.InvT-loop
 Inv-loop file l floats due₀ alpha pillars sigmas times factors payments accruals owns grid draws curve n-jobs out₀ last₀ k₀ due out last k =
-    (k ≤ n-jobs) × (length out ≡ 131072) × Due last due × (due ≡ k + 1)
+    (k ≤ n-jobs) × (length out ≡ 131072) × Due file last due × (due ≡ k + 1)
 
 abbrev μ-loop : tie.MeasureT-loop
 μ-loop file l floats due₀ alpha pillars sigmas times factors payments accruals owns grid draws curve n-jobs out₀ last₀ k₀ due out last k = n-jobs - k
@@ -80,13 +80,15 @@ send-requires c κs =
     let l = c .before .before .before .before .before .before .loop in
     let s = c .before .before .before .before .before .before .before .before .before .before .before .before .before .before .before .before .before .before .before .before .before in
     let j = job-due (now (s .args .file)) (s .args .l) (s .pre .0) _ (l .k) (l .due) _ _ (l .inv .3) (c .before .before .before .before .before .loop-test .taken) (c .before .before .before .job-lines .ensures) in
-    (l .inv .2, j .0, j .1)
+    due-of (now (s .args .file)) (l .last) (l .due) _ (l .inv .2) (j .0) (j .1)
 
 failed-requires : tie.Need-failed-requires Inv-loop μ-loop
 failed-requires c κs = search needs
 
 returns : tie.Need-returns Inv-loop μ-loop
-returns c = inl (sym (c .before .failed .ensures) ∙ c .if1 .taken)
+returns c =
+    let l = c .before .before .before .before .before .before .before .before .before .loop in
+    (same-file (l .last) (c .before .before .send .result) (c .before .before .send .ensures .0) ∙ l .inv .2 .0, inl (sym (c .before .failed .ensures) ∙ c .if1 .taken))
 
 add-k : tie.Need-add-k Inv-loop μ-loop
 add-k c = search needs
@@ -97,14 +99,15 @@ loop-less c = search needs
 loop-again : tie.Need-loop-again Inv-loop μ-loop
 loop-again c =
     let l = c .before .before .before .before .before .before .before .before .before .loop in
+    let s = c .before .before .before .before .before .before .before .before .before .before .before .before .before .before .before .before .before .before .before .before .before .before .before .before in
     let e = c .before .before .send .ensures in
-    (omega (arith, c .before .before .before .before .before .before .before .before .loop-test .taken), c .before .before .before .before .before .before .job-lines .kept .1 .1 .1 .1 .1 .1 .1 .1 .1 .1 .1 .1 .1 .1 .0 ∙ l .inv .1, (sym (c .before .failed .ensures) ∙ c .if1 .left, sym (e .1)), omega (arith, e .0, e .1, l .inv .2 .1, l .inv .3))
+    (omega (arith, c .before .before .before .before .before .before .before .before .loop-test .taken), c .before .before .before .before .before .before .job-lines .kept .1 .1 .1 .1 .1 .1 .1 .1 .1 .1 .1 .1 .1 .1 .0 ∙ l .inv .1, next-due (now (s .args .file)) (l .last) _ (l .due) _ (l .inv .2) e (sym (c .before .failed .ensures) ∙ c .if1 .left), omega (arith, e .1, e .2, l .inv .2 .2, l .inv .3))
 
 returns-2 : tie.Need-returns-2 Inv-loop μ-loop
 returns-2 c =
     let l = c .before .loop in
     let s = c .before .before .before .before .before .before .before .before .before .before .before .before .before .before .before .before in
-    inr (all-sent (now (s .args .file)) (s .args .l) (s .pre .0) (l .k) _ (l .inv .2 .1 ∙ l .inv .3) (omega (arith, l .inv .0, c .loop-test .left)))
+    (l .inv .2 .0, inr (all-sent (now (s .args .file)) (s .args .l) (s .pre .0) (l .k) _ (l .inv .2 .2 ∙ l .inv .3) (omega (arith, l .inv .0, c .loop-test .left))))
 
 pub each-job-spec : {M : Type 1} → statement M
 each-job-spec =
