@@ -6,16 +6,17 @@ ghost use Rattle.layout.specs.Request.{floatsFrom};
 ghost use Rattle.basket_vectors.specs.Marks.{marksOf};
 use layout::Part;
 
-// Reads n bytes to the front of out. False where the input has fewer. `next` has tested how many points
-// and caplets there are, and lends a list with room for the most.
+// Reads n bytes to the front of out. False where the input has fewer. A caller has tested how many records
+// there are, and lends a list with room for the most.
 pub fn fill(out: &mut [u8], n: usize) -> bool
     requires { ⌜ n ≤ length (now out) ⌝ }
 {
     io::read_full(libc::STDIN_FILENO, &mut out[..n]) == n
 }
 
-// Of n records at the front of s, `width` bytes each, the float number `field`, counted from 0. `answer`
-// is given at most 2,049 points of 16 bytes and 65 caplets of 40, and each of its lists has 2,049 places.
+// Of n records at the front of s, `width` bytes each, the float number `field`, counted from 0. A caller has
+// tested how many there are, so that s has them whole, and lends a place for each; the field is one that a
+// record has.
 pub fn column(s: &[u8; 32784], n: usize, width: usize, field: usize, out: &mut [f64])
     requires { ⌜ (n ≤ length (now out)) × (n * width ≤ 32784) × (8 * field + 8 ≤ width) ⌝ }
     ensures { λ _. ⌜ take n (now (out .exit)) ≡ floatsFrom (now (s .entry)) width field 0 n ⌝ }
@@ -27,7 +28,7 @@ pub fn column(s: &[u8; 32784], n: usize, width: usize, field: usize, out: &mut [
     layout::column(s, records, width, field, &mut out[..n]);
 }
 
-// Whether each number is 1. `answer` lends two lists of one length.
+// Whether each number is 1. A caller lends a mark for each.
 pub fn mark(numbers: &[f64], marks: &mut [bool])
     requires { ⌜ length (now marks) ≡ length (now numbers) ⌝ }
     ensures { λ _. ⌜ now (marks .exit) ≡ marksOf (now (numbers .entry)) ⌝ }

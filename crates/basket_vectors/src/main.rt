@@ -10,8 +10,8 @@ mod output;
 
 use layout::Part;
 
-// A basket of n caplets on a curve of m points, from the fronts of longer lists: those of `answer` have
-// 2,049 places.
+// A basket of n caplets on a curve of m points, from the fronts of longer lists: a caller lends lists with room
+// for the most that are read.
 fn fit(
     alpha: f64,
     m: usize,
@@ -39,9 +39,9 @@ fn fit(
     ));
 }
 
-// The same as it stands in the input: a point is a time and a factor; a caplet is 1 for a normal quote or 0 for a
-// Black one, strike, start, end, quoted volatility. All lists have the room of the longest; `next` has tested
-// how many points and caplets there are.
+// The same as it stands in the input: a point is a time and a factor; a caplet is 1 for a normal quote or 0 for
+// a Black one, strike, start, end, quoted volatility. All lists have the room of the longest; a caller has
+// tested how many points and caplets there are.
 fn answer(alpha: f64, m: usize, n: usize, points: &[u8; 32784], caplets: &[u8; 32784])
     requires { ⌜ (m ≤ 2049) × (n ≤ 65) ⌝ }
 {

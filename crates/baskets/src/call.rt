@@ -85,8 +85,8 @@ pub fn fit_basket(
     fitted_basket(alpha, times, factors, normals, strikes, starts, ends, vols)
 }
 
-// `fit_basket` has asked the rules: all lists are of one length of at most 64, and the curve's times
-// strictly rise.
+// A basket behind its rules: a caller that has asked them has all lists of one length of at most 64, and a
+// curve whose times strictly rise.
 fn fitted_basket(
     alpha: f64,
     times: &[f64],

@@ -23,8 +23,8 @@ fn diagonal_of(bumped: f64, sigma: f64) -> f64
     (bumped - sigma) / 1e-6
 }
 
-// Every entry's fit, into the lists that `fitted_basket` lends for them. It hands on what `fit_basket` has
-// asked: all lists are of one length, and the curve's times strictly rise.
+// Every entry's fit, into lists that are lent for them. A caller that has asked the rules has the entries'
+// lists of one length, and a curve whose times strictly rise; it lends a place for each entry.
 pub fn first_fits(
     alpha: f64,
     times: &[f64],
@@ -70,7 +70,8 @@ pub fn first_fits(
     Answer::Served
 }
 
-// One entry's bumped fit; the diagonal's float must be finite too. `bumped_fits` hands its own bound on.
+// One entry's bumped fit; the diagonal's float must be finite too. A caller that has asked the rules has a
+// curve whose times strictly rise.
 fn bumped(
     normal: bool,
     alpha: f64,
@@ -106,8 +107,8 @@ fn bumped(
     }
 }
 
-// Every entry's bumped fit beside the sigma fitted first. `fitted_basket` shows the same as above, and the
-// sigmas are as many as the entries.
+// Every entry's bumped fit beside the sigma fitted first. A caller behind the rules shows the same as above; it
+// has a sigma and lends a place for each entry.
 pub fn bumped_fits(
     alpha: f64,
     times: &[f64],

@@ -1,5 +1,5 @@
-// bisection.rs: the parts of a volatility fit that know no instrument. The loop itself is in `solver`, and
-// the objective it asks in `objectives`.
+// bisection.rs: the parts of a volatility fit that know no instrument. The loop, which asks an instrument's
+// objective, stands above them.
 mod halving;
 mod result;
 

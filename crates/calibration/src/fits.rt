@@ -40,8 +40,8 @@ pub fn fit_caplet(
     fit_caplet_on(curve, quote, alpha, times, factors, strike, t, end, vol)
 }
 
-// The same on a curve whose faults are known: `fit_caplet` has worked them, and `kinds::fit_work`
-// hands on those that were worked once for all jobs.
+// The same on a curve whose faults are known: a caller has worked them on these very lists, for this call or
+// once for many.
 pub fn fit_caplet_on(
     curve: Faults,
     quote: Quote,
@@ -101,8 +101,8 @@ fn caplet_rules(
     lists::and_rule(answer, Refusal::Domain, (vol <= 0.0) | wrong | curve.domain)
 }
 
-// The factors, then the bisection. `fit_caplet_on` has asked the rules, and `baskets::first_fits` and
-// `baskets::bumped` hand on, for all entries of a basket, that the curve's times strictly rise.
+// The factors, then the bisection. A caller that has asked the rules, of this caplet or of several at once, has
+// a curve whose times strictly rise.
 pub fn caplet_fitted(
     quote: Quote,
     alpha: f64,
@@ -187,8 +187,8 @@ pub fn fit_swaption(
     )
 }
 
-// The same on a curve whose faults are known: `fit_swaption` has worked them, and `kinds::fit_work`
-// hands on those that were worked once for all jobs.
+// The same on a curve whose faults are known: a caller has worked them on these very lists, for this call or
+// once for many.
 pub fn fit_swaption_on(
     curve: Faults,
     quote: Quote,
@@ -258,8 +258,8 @@ fn swaption_rules(
     lists::and_rule(answer, Refusal::Empty, empty)
 }
 
-// The factors, then the bisection. `fit_swaption_on` has asked the rules: the coupons' lists are of one
-// length, from 1 to 64, and the curve's times strictly rise.
+// The factors, then the bisection. A caller that has asked the rules has the coupons' lists of one length, from
+// 1 to 64, and a curve whose times strictly rise.
 fn swaption_fitted(
     quote: Quote,
     alpha: f64,
@@ -300,8 +300,8 @@ fn swaption_fitted(
     )
 }
 
-// What does not depend on sigma, once a coupon; then the bisection. `swaption_fitted` has the lists of one
-// length, from 1 to 64.
+// What does not depend on sigma, once a coupon; then the bisection. A caller behind the rules has the lists of
+// one length, from 1 to 64, and a factor for each payment time.
 fn swaption_worked(
     quote: Quote,
     alpha: f64,

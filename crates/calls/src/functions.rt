@@ -77,8 +77,8 @@ fn on_lists(function: u64, r: Record, s: &[f64]) -> Price
     }
 }
 
-// The functions with two values, with a part handed back, and with an output; `agrees` has turned down a
-// record with more room than there is.
+// The functions with two values, with a part handed back, and with an output; a caller has turned down a record
+// with more room than there is.
 fn others(function: u64, r: Record, s: &[f64]) -> bool
     requires { ⌜ r .room ≤ 1026 ⌝ }
     ensures { λ ok. ⌜ ok ≡ othersOf function r (now (s .entry)) ⌝ }

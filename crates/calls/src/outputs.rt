@@ -49,8 +49,8 @@ pub fn holds(out: &[f64], expected: &[f64]) -> bool
     expected.len() <= out.len()
 }
 
-// Whether the call answers and writes as the record says. `functions::others` hands on that `agrees` has
-// turned down a record with more room.
+// Whether the call answers and writes as the record says. A caller has turned down a record with more room than
+// the output here.
 pub fn transition_variances(r: Record, s: &[f64]) -> bool
     requires { ⌜ r .room ≤ 1026 ⌝ }
     ensures { λ ok. ⌜ ok ≡ writesOf (transitionCall r (now (s .entry)) (r .room)) r (now (s .entry)) output ⌝ }
@@ -59,7 +59,7 @@ pub fn transition_variances(r: Record, s: &[f64]) -> bool
     transitions(r, s, &mut out)
 }
 
-// The same with a path, kind 12, for `functions::others` too.
+// The same with a path, kind 12, of a record whose room a caller has tested too.
 pub fn generate(r: Record, s: &[f64]) -> bool
     requires { ⌜ r .room ≤ 1026 ⌝ }
     ensures { λ ok. ⌜ ok ≡ writesOf (generateCall r (now (s .entry)) (r .room)) r (now (s .entry)) output ⌝ }
@@ -68,7 +68,7 @@ pub fn generate(r: Record, s: &[f64]) -> bool
     path(r, s, &mut out)
 }
 
-// The transition variances into the front of the output: `transition_variances` lends 1,026 places.
+// The transition variances into the front of the output: a caller lends one with the room that the record asks.
 fn transitions(r: Record, s: &[f64], out: &mut [f64]) -> bool
     requires { ⌜ r .room ≤ length (now out) ⌝ }
     ensures { λ ok. ⌜ ok ≡ writesOf (transitionCall r (now (s .entry)) (r .room)) r (now (s .entry)) (now (out .entry)) ⌝ }
@@ -85,7 +85,7 @@ fn transitions(r: Record, s: &[f64], out: &mut [f64]) -> bool
     (number(answer) == r.answer) & store::has(s, r.first) & holds(out, store::part(s, r.first))
 }
 
-// A path into the front of the output: `generate` lends 1,026 places.
+// A path into the front of the output, which a caller lends in the same way.
 fn path(r: Record, s: &[f64], out: &mut [f64]) -> bool
     requires { ⌜ r .room ≤ length (now out) ⌝ }
     ensures { λ ok. ⌜ ok ≡ writesOf (generateCall r (now (s .entry)) (r .room)) r (now (s .entry)) (now (out .entry)) ⌝ }

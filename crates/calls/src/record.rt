@@ -48,7 +48,7 @@ struct Lists {
     draws: u64,
 }
 
-// The record that starts at index `at` of s. `tallied` asks for no more records than s has whole.
+// The record that starts at index `at` of s. A caller that counts them asks for those alone that s has whole.
 pub fn parsed(s: &[u8], at: usize) -> Record
     requires { ⌜ at + 96 ≤ length (now s) ⌝ }
     ensures { λ r. ⌜ r ≡ recordOf (now (s .entry)) at ⌝ }
@@ -75,7 +75,7 @@ pub fn parsed(s: &[u8], at: usize) -> Record
     }
 }
 
-// Its numbers; `parsed` has it whole in s.
+// Its numbers; a caller has the record whole in s.
 fn read_numbers(s: &[u8], at: usize) -> Numbers
     requires { ⌜ at + 96 ≤ length (now s) ⌝ }
     ensures { λ r. ⌜ r ≡ numbersOf (now (s .entry)) at ⌝ }
@@ -89,7 +89,7 @@ fn read_numbers(s: &[u8], at: usize) -> Numbers
     }
 }
 
-// Its lists; `parsed` has it whole in s.
+// Its lists; a caller has the record whole in s.
 fn read_lists(s: &[u8], at: usize) -> Lists
     requires { ⌜ at + 96 ≤ length (now s) ⌝ }
     ensures { λ r. ⌜ r ≡ listsOf (now (s .entry)) at ⌝ }

@@ -27,8 +27,8 @@ pub fn part(store: &[f64], list: u64) -> &[f64]
     }
 }
 
-// Puts the numbers whose bits stand in s into the store. `read_store` has eight bytes for each of its
-// places.
+// Puts the numbers whose bits stand in s into the store. A caller that has read the store has eight bytes for
+// each of its places.
 pub fn load(s: &[u8], store: &mut [f64])
     requires { ⌜ 8 * length (now store) ≤ length (now s) ⌝ }
     ensures { λ _. ⌜ now (store .exit) ≡ numbersOf (length (now (store .entry))) 0 (now (s .entry)) ⌝ }

@@ -74,7 +74,7 @@ fn after(t: Tally, r: Record, store: &[f64]) -> Tally
     }
 }
 
-// One record more that the place counts, which `after` has from `slot_of`, within the lists.
+// One record more that the place counts. A caller has the place from `slot_of`, within the lists.
 fn seen(t: Tally, slot: usize) -> Tally
     requires { ⌜ slot < 22 ⌝ }
     ensures { λ next. ⌜ next .differing ≡ t .differing ⌝ }
@@ -85,7 +85,7 @@ fn seen(t: Tally, slot: usize) -> Tally
     next
 }
 
-// One difference more that the place counts; `after` has it from `slot_of` too.
+// One difference more that the place counts, which a caller has from `slot_of` too.
 fn differing(t: Tally, slot: usize) -> Tally
     requires { ⌜ slot < 22 ⌝ }
     ensures { λ next. ⌜ next .differing ≡ oneMore (t .differing) ⌝ }

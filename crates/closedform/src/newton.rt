@@ -33,7 +33,7 @@ fn sums_after(rate: f64, c: f64, a: f64, b: f64, sums: Sums) -> Sums
     }
 }
 
-// The objective starts at -1, the derivative at 0. `implicit_critical_rate` has the lists of one length.
+// The objective starts at -1, the derivative at 0. A caller has an A and a B for each coefficient.
 fn newton_sums(rate: f64, c: &[f64], a: &[f64], b: &[f64]) -> Sums
     requires { ⌜ (length (now a) ≡ length (now c)) × (length (now b) ≡ length (now c)) ⌝ }
     ensures { λ r. ⌜ r ≡ sumsOf rate (now (c .entry)) (now (a .entry)) (now (b .entry)) ⌝ }
@@ -50,7 +50,8 @@ fn newton_sums(rate: f64, c: &[f64], a: &[f64], b: &[f64]) -> Sums
     total
 }
 
-// The step. `valuations::priced_by` has the lists of one length.
+// The step. A caller that has worked the terms, or has asked rule 1 of them, has an A and a B for each
+// coefficient.
 pub fn implicit_critical_rate(rate: f64, c: &[f64], a: &[f64], b: &[f64]) -> Step
     requires { ⌜ (length (now a) ≡ length (now c)) × (length (now b) ≡ length (now c)) ⌝ }
     ensures { λ r. ⌜ stepOutcome r ≡ stepped rate (sumsOf rate (now (c .entry)) (now (a .entry)) (now (b .entry))) ⌝ }

@@ -32,8 +32,8 @@ fn component(
     bond_option::bond_option(option, deviation * b, strike, p_t, p)
 }
 
-// The components, each times its coefficient. `own` says whether the coupons have discount factors of
-// their own. `valuations::priced_by` has the lists of one length.
+// The components, each times its coefficient. `own` says whether the coupons have discount factors of their
+// own. A caller that has worked the terms has an A, a B, a factor and an own one for each coefficient.
 pub fn components(
     option: SwaptionType,
     own: bool,

@@ -38,7 +38,7 @@ pub fn implicit_critical_rate(coefficients: &[f64], affines: &[f64], b: &[f64]) 
     stepped(coefficients, affines, b, found)
 }
 
-// The search's own refusals, then the step. `implicit_critical_rate` has the lists of one length.
+// The search's own refusals, then the step. A caller that has asked rule 1 has the lists of one length.
 fn stepped(c: &[f64], a: &[f64], b: &[f64], found: Critical) -> ImplicitRate
     requires { ⌜ (length (now a) ≡ length (now c)) × (length (now b) ≡ length (now c)) ⌝ }
     ensures { λ r. ⌜ implicitRateOutcome r ≡ following (criticalOutcome found) (steppedFrom (now (c .entry)) (now (a .entry)) (now (b .entry))) ⌝ }

@@ -45,7 +45,8 @@ fn answered(c: &[f64], a: &[f64], b: &[f64], s: &[u8; 1720]) -> Verdict
     }
 }
 
-// A list's length. There are 65 places, and what is longer is read as so many: that is over the limit too.
+// A list's length. There are 65 places, and what is longer is read as so many: that is over the limit too. A
+// caller asks at the place of one of the three, 8 at most.
 fn length(s: &[u8; 1720], at: usize) -> usize
     requires { ⌜ at ≤ 8 ⌝ }
     ensures { λ r. ⌜ r ≤ 65 ⌝ }
@@ -55,7 +56,8 @@ fn length(s: &[u8; 1720], at: usize) -> usize
     if n < 65 { n as usize } else { 65 }
 }
 
-// The answer expected that stands at place `at`, nine words.
+// The answer expected that stands at place `at`, nine words. A caller asks at the place of one of the two, 88
+// at most.
 fn expected(s: &[u8; 1720], at: usize) -> Told
     requires { ⌜ at ≤ 88 ⌝ }
     ensures { λ r. ⌜ r ≡ toldAt (now (s .entry)) at ⌝ }

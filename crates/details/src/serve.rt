@@ -29,7 +29,7 @@ pub fn serve_file(file: &[u8]) {
     }
 }
 
-// `serve_file` has the layout from `lay_out`.
+// The jobs of a file. A caller has the layout from `lay_out` of this very file.
 fn serve_jobs(file: &[u8], l: Layout)
     requires { ⌜ layoutOf (now file) ≡ Parts l ⌝ }
 {
@@ -38,7 +38,7 @@ fn serve_jobs(file: &[u8], l: Layout)
     each_job(file, l, &floats);
 }
 
-// `serve_jobs` hands on the layout, and the lists that it has read.
+// The same, on the lists that a caller has read from the file.
 fn each_job(file: &[u8], l: Layout, floats: &[f64])
     requires { ⌜ (layoutOf (now file) ≡ Parts l) × Holds (now file) l (now floats) ⌝ }
 {
@@ -78,7 +78,8 @@ fn each_job(file: &[u8], l: Layout, floats: &[f64])
     }
 }
 
-// The lines of job k and, of kinds 5 to 11, the details. `each_job` has what `runfile::job_lines` asks.
+// The lines of job k and, of kinds 5 to 11, the details. A caller that goes through the jobs has what
+// `runfile::job_lines` asks.
 fn one_job(
     file: &[u8],
     l: Layout,

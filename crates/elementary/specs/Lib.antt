@@ -1,4 +1,4 @@
--- What the contracts of the elementary functions say; those of exp and of what is built on it are in `exponential`.
+-- What the contracts of the elementary functions say, but for exp and what is built on it.
 pub mod Constants
 pub mod Simple
 pub mod Ln

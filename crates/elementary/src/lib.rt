@@ -1,6 +1,6 @@
-// The elementary functions of document 01, which stand in for Rust's own on both sides of every
-// comparison; exp and what is built on it are in `exponential`. Each is equal, for every f64, to a
-// definition in specs/; none refuses anything.
+// The elementary functions of document 01, which stand in for Rust's own on both sides of every comparison, but
+// for exp and what is built on it. Each is equal, for every f64, to a definition in specs/; none refuses
+// anything.
 mod logarithm;
 mod simple;
 

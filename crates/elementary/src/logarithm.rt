@@ -39,8 +39,8 @@ struct Halved {
     k: i32,
 }
 
-// The digits of x under the exponent that puts them between 0.75 and 1.5: 0x18_0000_0000_0000 is 1.5
-// at full width, and the leading digit of `full` adds one to the exponent's field. `ln` has x finite
+// The digits of x under the exponent that puts them between 0.75 and 1.5: 0x18_0000_0000_0000 is 1.5 at full
+// width, and the leading digit of `full` adds one to the exponent's field. A caller has tested that x is finite
 // and above 0.
 fn split(x: f64) -> Halved
     requires { ⌜ T (positive x) ⌝ }
@@ -69,7 +69,7 @@ struct Wide {
     size: u64,
 }
 
-// A subnormal's leading zeros are shifted out. `split` has x finite and above 0.
+// A subnormal's leading zeros are shifted out. A caller has tested that x is finite and above 0.
 fn widen(x: f64) -> Wide
     requires { ⌜ T (positive x) ⌝ }
     ensures { λ r. ⌜ Widened x (r .full) (r .size) × (r .size < 5000) ⌝ }

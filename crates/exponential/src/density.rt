@@ -3,7 +3,7 @@ ghost use mathlib.Core.Path.{_≡_};
 ghost use Rattle.exponential.specs.Density.{densityOf};
 use super::exponential;
 
-// √(2π) as norm_cdf.rs prints it, for the crate `probability` too.
+// √(2π) as norm_cdf.rs prints it.
 pub const SQRT_2PI: f64 = 2.5066282746310005;
 
 pub fn norm_pdf(d: f64) -> f64

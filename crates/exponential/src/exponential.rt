@@ -78,7 +78,7 @@ pub fn exp_m1(y: f64) -> f64
     }
 }
 
-// ---- The parts of exp. `probability::both` takes them too, to work exp's series beside Hart's polynomials.
+// ---- The parts of exp, for whoever works its series beside other steps too.
 
 // Whether exp works x by its series.
 pub fn within_limits(x: f64) -> bool
@@ -99,7 +99,7 @@ pub struct Reduced {
     pub k: i32,
 }
 
-// `exp`, `exp_two` and `probability::both::quotients` have an x within the limits.
+// The r and the k of an x that is within the limits, as a caller has tested.
 pub fn reduce(x: f64) -> Reduced
     requires { ⌜ withinLimits x ≡ true ⌝ }
     ensures { λ r. ⌜ (r .r ≡ reducedOf x (kOf x)) × (r .k ≡ kOf x) × (mag (r .k) < 2000) ⌝ }
@@ -118,10 +118,11 @@ struct Whole {
     k: i32,
 }
 
-// The whole number nearest to p, a tie away from zero. `reduce` has p in range.
-// From 2^52 to 2^53 the f64s are the whole numbers, and ROUNDER lies in the middle: p + ROUNDER is
-// rounded to one of them, whose bits show it. Where n is less than 1/2 from p it is the nearest; so
-// only a tie, which ROUNDER takes to the even one, goes the slow way.
+// The whole number nearest to p, a tie away from zero. A caller has p from an x within the limits, so that it
+// is at most 1200 in size.
+// From 2^52 to 2^53 the f64s are the whole numbers, and ROUNDER lies in the middle: p + ROUNDER is rounded to
+// one of them, whose bits show it. Where n is less than 1/2 from p it is the nearest; so only a tie, which
+// ROUNDER takes to the even one, goes the slow way.
 fn nearest_whole(p: f64) -> Whole
     requires { ⌜ T (moderate p) ⌝ }
     ensures { λ r. ⌜ (r .n ≡ ofInt binary64 (nearestWhole p)) × (r .k ≡ nearestWhole p) ⌝ }
@@ -142,8 +143,8 @@ fn nearest_whole(p: f64) -> Whole
     Whole { n: k as f64, k }
 }
 
-// The same for a tie too, by a conversion with many branches. Twice p is exact, and cutting it to a
-// whole number loses no tie; p + 0.5 would round. `nearest_whole` hands its own bound on.
+// The same for a tie too, by a conversion with many branches. Twice p is exact, and cutting it to a whole
+// number loses no tie; p + 0.5 would round. A caller has p at most 1200 in size.
 fn by_halves(p: f64) -> i32
     requires { ⌜ T (moderate p) ⌝ }
     ensures { λ r. ⌜ r ≡ nearestWhole p ⌝ }
@@ -152,8 +153,8 @@ fn by_halves(p: f64) -> i32
     if q >= 0 { (q + 1) / 2 } else { (q - 1) / 2 }
 }
 
-// p starts at 1, and for n = last + turns - 1 down to last becomes 1 + (x × p)/n. `exp_m1` and `guessed`
-// give both as literals.
+// p starts at 1, and for n = last + turns - 1 down to last becomes 1 + (x × p)/n. A caller gives both as
+// literals, below 100.
 fn series(x: f64, last: u32, turns: u32) -> f64
     requires { ⌜ last < 100 ⌝ }
     requires { ⌜ turns < 100 ⌝ }
@@ -217,8 +218,7 @@ fn same(guess: f64, sum: f64) -> bool
     if guess == sum { guess > 0.0 } else { false }
 }
 
-// p × 2^a × 2^b, a being k/2 toward zero and b = k - a. `exp`, `exp_two` and `probability::both::last` have
-// k from `reduce`, in range.
+// p × 2^a × 2^b, a being k/2 toward zero and b = k - a. A caller has k from `reduce`, below 2000 in size.
 pub fn scale(p: f64, k: i32) -> f64
     requires { ⌜ mag k < 2000 ⌝ }
     ensures { λ r. ⌜ r ≡ scaleOf p k ⌝ }
@@ -228,8 +228,8 @@ pub fn scale(p: f64, k: i32) -> f64
     p * two_to(a) * two_to(b)
 }
 
-// 2^a exactly: its exponent's field is a + 1023, and it has no further digits. `scale` has the bound from
-// its own.
+// 2^a exactly: its exponent's field is a + 1023, and it has no further digits. A caller has halved a k below
+// 2000 in size.
 fn two_to(a: i32) -> f64
     requires { ⌜ mag a < 1022 ⌝ }
     ensures { λ r. ⌜ r ≡ twoTo a ⌝ }

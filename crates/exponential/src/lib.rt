@@ -10,7 +10,7 @@ pub use exponential::exp;
 pub use exponential::exp_m1;
 pub use exponential::exp_two;
 
-// The parts of exp, which are no calls. What each requires is shown by `exp`, `exp_two` and `probability::both`.
+// The parts of exp, which are no calls: whoever works an exp from them shows what each requires.
 pub use exponential::Reduced;
 pub use exponential::reduce;
 pub use exponential::scale;

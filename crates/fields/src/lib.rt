@@ -5,9 +5,9 @@ ghost use lib.ListN.{length};
 ghost use Rattle.fields.specs.Text.{bytesOf, pasted};
 ghost use Rattle.fields.specs.Fields.{decimalOf, hexIn, hexOf, bitsOf, ending};
 
-// Puts n in decimal, and the byte `end`, at place `at`, and answers the place behind them. Nearly every
-// number that is printed has at most three digits: those go straight to their places. `lines::write_line` and
-// `lines::write_point` have room for four numbers of 21 bytes and one of 17.
+// Puts n in decimal, and the byte `end`, at place `at`, and answers the place behind them. Nearly every number
+// that is printed has at most three digits: those go straight to their places. A caller that writes a line has
+// room for 20 digits and the byte.
 pub fn put_decimal(n: u64, end: u8, out: &mut [u8], at: usize) -> usize
     requires { ⌜ at + 21 ≤ length (now out) ⌝ }
     ensures { λ r. ⌜ r ≤ at + 21 ⌝ }
@@ -35,7 +35,7 @@ pub fn put_decimal(n: u64, end: u8, out: &mut [u8], at: usize) -> usize
     put_long(n, end, out, at)
 }
 
-// A decimal digit: `put_decimal` has divided.
+// A decimal digit: a caller has divided, so that d is below 10.
 fn digit(d: u64) -> u8
     requires { ⌜ d < 10 ⌝ }
     ensures { λ r. ⌜ r ≡ 48 + d ⌝ }
@@ -43,7 +43,7 @@ fn digit(d: u64) -> u8
     48 + d as u8
 }
 
-// `put_decimal` for a number of any length, with the room that it has.
+// Puts n in decimal whatever its length, and the byte `end`, where a caller has room for the longest.
 fn put_long(n: u64, end: u8, out: &mut [u8], at: usize) -> usize
     requires { ⌜ at + 21 ≤ length (now out) ⌝ }
     ensures { λ r. ⌜ r ≤ at + 21 ⌝ }
@@ -55,8 +55,8 @@ fn put_long(n: u64, end: u8, out: &mut [u8], at: usize) -> usize
     put(&text[..k], end, out, at)
 }
 
-// The same with the 16 hexadecimal digits of n, the first eight and the last eight. `lines::write_line` and
-// `lines::write_point` have the room, as for `put_decimal`.
+// The same with the 16 hexadecimal digits of n, the first eight and the last eight. A caller that writes a line
+// has room for them and the byte.
 pub fn put_hex(n: u64, end: u8, out: &mut [u8], at: usize) -> usize
     requires { ⌜ at + 17 ≤ length (now out) ⌝ }
     ensures { λ r. ⌜ r ≤ at + 17 ⌝ }
@@ -84,7 +84,7 @@ fn spelled(x: u64) -> u64
     digits + 0x3030_3030_3030_3030 + letters * 39
 }
 
-// Puts the 8 bytes of a word, the lowest first, at place `at`: `put_hex` has room for two words.
+// Puts the 8 bytes of a word, the lowest first, at place `at`: a caller has room for them.
 fn put_word(word: u64, out: &mut [u8], at: usize)
     requires { ⌜ at + 8 ≤ length (now out) ⌝ }
     ensures { λ _. ⌜ now (out .exit) ≡ pasted (now (out .entry)) at (bytesOf 8 word) ⌝ }
@@ -98,9 +98,8 @@ fn put_word(word: u64, out: &mut [u8], at: usize)
     }
 }
 
-// Puts a text, and the byte `end`, at place `at`, and answers the place behind them. Every text that is
-// put is shorter than the room: those of `lines::write_header` and `lines::write_refused`, a number's of 20 digits in
-// `put_long`, a point's kind and answer in `lines::write_point`.
+// Puts a text, and the byte `end`, at place `at`, and answers the place behind them. A caller that writes a
+// line has room for more than the text.
 pub fn put(text: &[u8], end: u8, out: &mut [u8], at: usize) -> usize
     requires { ⌜ at + length (now text) < length (now out) ⌝ }
     ensures { λ r. ⌜ r ≡ at + length (ending end (now (text .entry))) ⌝ }

@@ -1,4 +1,4 @@
--- "The priced coupon sum at a rate", of the model's swaption: what its search evaluates, and what demand 3 of kind 5 and of the fits speaks of.
+-- "The priced coupon sum at a rate", of the model's swaption: what its search evaluates, and what demand 3 speaks of.
 use mathlib.Core.List.{List}
 use lib.Ieee.{Float}
 use Rattle.formulas.specs.HullWhite.{forwardOf}

@@ -1,5 +1,5 @@
-// The model's swaption at a sigma, by Jamshidian's decomposition: a search for the critical rate, and a bond put
-// a coupon, on terms worked ahead. It serves kind 5 and the volatility fits of swaptions.
+// The model's swaption at a sigma, by Jamshidian's decomposition: a search for the critical rate, and a bond
+// put a coupon, on terms worked ahead. A swaption has the same price here whether it is priced or fitted.
 mod price;
 
 pub use price::Root;

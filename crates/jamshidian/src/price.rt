@@ -30,7 +30,8 @@ fn put(sigma: f64, deviation: f64, p_t: f64, rate: f64, a: f64, b: f64, p: f64) 
     formulas::bond_put_of(formulas::volatility_at(sigma, b, deviation), strike, p_t, p)
 }
 
-// The coupons' puts, each times its coefficient, fused. `price_at` has the lists of one length.
+// The coupons' puts, each times its coefficient, fused. A caller has an A, a B and a factor for each
+// coefficient.
 fn puts(
     sigma: f64,
     deviation: f64,
@@ -54,10 +55,9 @@ fn puts(
     total
 }
 
-// The price at a sigma: A a coupon, the search, then the puts. `decay` and `deviation`
-// are those of the option time, p_t its factor; c, b, drift and p are the terms' coefficients, B,
-// drifts and factors. `swaptions::terms_priced`, and `objectives::model_price` of a fit, have them of one length of at
-// most 64.
+// The price at a sigma: A a coupon, the search, then the puts. `decay` and `deviation` are those of the option
+// time, p_t its factor; c, b, drift and p are the terms' coefficients, B, drifts and factors. A caller that has
+// asked rule 1 of the coupons has them of one length of at most 64.
 pub fn price_at(
     alpha: f64,
     sigma: f64,

@@ -14,7 +14,7 @@ use options::BondOption;
 use pricers::SwaptionType;
 
 // Kinds 1 to 4: caplet, floorlet, bond put, bond call. What is told is all that their calls return.
-// `runfile::job_lines` is given the curve's faults.
+// A caller that works a file's jobs has the curve's faults, worked once for all of them.
 pub fn option_told(curve: Faults, alpha: f64, times: &[f64], factors: &[f64], j: Job) -> Told
     requires { ⌜ curve ≡ curveFaults (now times) (now factors) ⌝ }
     ensures { λ r. ⌜ r ≡ optionTold (listsOf alpha [] [] (now (times .entry)) (now (factors .entry)) [] [] [] [] [] []) j ⌝ }
@@ -72,7 +72,7 @@ pub fn option_told(curve: Faults, alpha: f64, times: &[f64], factors: &[f64], j:
 }
 
 // Kind 5, the model's swaption; 6 and 7, payer and receiver by the pricer.
-// `work` hands on the curve's faults.
+// A caller has the curve's faults, worked on these very lists.
 fn swaption_work(
     curve: Faults,
     alpha: f64,
@@ -138,7 +138,7 @@ fn swaption_work(
 }
 
 // Kinds 8 and 9, a caplet's fit, Black and normal; 10 and 11, a swaption's.
-// `work` hands on the curve's faults.
+// A caller has the curve's faults, worked on these very lists.
 fn fit_work(
     curve: Faults,
     alpha: f64,
@@ -208,8 +208,8 @@ fn fit_work(
     ))
 }
 
-// A job of kinds 5 to 11, by the call that its kind is: all that the call returns. `runfile::job_lines` and `details`
-// are given the curve's faults.
+// A job of kinds 5 to 11, by the call that its kind is: all that the call returns. A caller that works a file's
+// jobs has the curve's faults, worked once for all of them.
 pub fn work(
     curve: Faults,
     alpha: f64,

@@ -4,7 +4,8 @@ ghost use Prim.Native.Nat.{_+_, _<_, _≤_};
 ghost use lib.ListN.{length};
 ghost use Rattle.layout.specs.Bytes.{fourBytes, eightBytes, floatOf, floatAt};
 
-// The float at place `at`. `alpha`, `column` and `job_at` have it within the file.
+// The float at place `at`. A caller has a part or a record that lies within the list, and with it these eight
+// bytes.
 pub fn float_at(s: &[u8], at: usize) -> f64
     requires { ⌜ at + 8 ≤ length (now s) ⌝ }
     ensures { λ r. ⌜ r ≡ floatAt (now (s .entry)) at ⌝ }
@@ -23,9 +24,8 @@ pub fn float_of(b: u64) -> f64
     }
 }
 
-// The u64 at place `at`. Its eight bytes are there: of a float in `float_at`, of a job in `all_known` and
-// `job_at`, of a record in `vectors::parsed`, `calls::parsed` and `calls::read_numbers`, of a store of numbers in
-// `calls::load`.
+// The u64 at place `at`. A caller has a part or a record that lies within the list, and with it these eight
+// bytes.
 pub fn word(s: &[u8], at: usize) -> u64
     requires { ⌜ at + 8 ≤ length (now s) ⌝ }
     ensures { λ r. ⌜ r ≡ eightBytes (now (s .entry)) at ⌝ }
@@ -33,8 +33,7 @@ pub fn word(s: &[u8], at: usize) -> u64
     half(s, at) + 0x1_0000_0000 * half(s, at + 4)
 }
 
-// The u32 at place `at`. Its four bytes are there: of a u64 in `word`, of a pair in `pair`, of a record in
-// `calls::parsed` and `calls::read_lists`, of a list that is long enough in `basket_vectors::next` and `main` of `rounds`.
+// The u32 at place `at`. A caller has these four bytes in the same way.
 pub fn half(s: &[u8], at: usize) -> u64
     requires { ⌜ at + 4 ≤ length (now s) ⌝ }
     ensures { λ r. ⌜ r < 0x1_0000_0000 ⌝ }

@@ -1,5 +1,5 @@
-// A run file, lent as bytes: whether it keeps document 01's layout, and its floats and jobs. The numbers in
-// a list of bytes are read here for the test programs too.
+// A run file, lent as bytes: whether it keeps document 01's layout, and its floats and jobs. The numbers in any
+// other list of bytes are read here too.
 mod bytes;
 mod parts;
 mod reading;

@@ -48,7 +48,7 @@ pub fn lay_out(file: &[u8]) -> Laid
     Laid::Parts(l)
 }
 
-// The six pairs. `lay_out` has turned down a file too short for them.
+// The six pairs. A caller has turned down a file too short for them.
 fn parts(file: &[u8]) -> Layout
     requires { ⌜ 48 ≤ length (now file) ⌝ }
     ensures { λ r. ⌜ r ≡ partsOf (now (file .entry)) ⌝ }
@@ -63,7 +63,7 @@ fn parts(file: &[u8]) -> Layout
     }
 }
 
-// Pair k: `parts` takes 0 to 5.
+// Pair k: a caller takes one that the file has.
 fn pair(file: &[u8], k: usize) -> Part
     requires { ⌜ 8 * k + 8 ≤ length (now file) ⌝ }
     ensures { λ r. ⌜ r ≡ pairAt (now (file .entry)) k ⌝ }
@@ -105,7 +105,7 @@ fn sized(l: Layout) -> bool
         & records(40, 128, l.jobs)
 }
 
-// Whether a part is whole records of that width, and at most `limit`. `sized` gives each part's width.
+// Whether a part is whole records of that width, and at most `limit`. A caller gives a width that is not 0.
 fn records(width: u32, limit: u32, p: Part) -> bool
     requires { ⌜ 0 < width ⌝ }
     ensures { λ r. ⌜ r ≡ Layout·records width limit p ⌝ }
@@ -113,8 +113,8 @@ fn records(width: u32, limit: u32, p: Part) -> bool
     (p.length % width == 0) & (p.length / width <= limit)
 }
 
-// Whether every job has a kind of document 01. `lay_out` has asked before whether the parts are in their
-// places, within the file.
+// Whether every job has a kind of document 01. A caller has asked before whether the parts are in their places,
+// within the file.
 fn all_known(file: &[u8], jobs: Part) -> bool
     requires { ⌜ endOf jobs ≤ length (now file) ⌝ }
     ensures { λ r. ⌜ r ≡ allKnown (now (file .entry)) (jobs .offset) (jobs .length / 40) ⌝ }

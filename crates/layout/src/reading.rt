@@ -30,7 +30,7 @@ fn of_part(part: Part, width: usize, field: usize, place: usize) -> Column
     }
 }
 
-// The column of list `which`. `read_list`, `read_lists` and `list` have one of the nine.
+// The column of list `which`: a caller asks for one of the nine.
 fn column_at(l: Layout, which: usize) -> Column
     requires { ⌜ which < 9 ⌝ }
     ensures { λ r. ⌜ r ≡ columnAt l which ⌝ }
@@ -48,8 +48,8 @@ fn column_at(l: Layout, which: usize) -> Column
     }
 }
 
-// List `which` of a run file, at the front of `out`, and how many floats it has. `lay_out` has seen the layout;
-// `read_lists` goes through the nine, and lends the list's place.
+// List `which` of a run file, at the front of `out`, and how many floats it has. The layout is the one that
+// `lay_out` gave of this file; a caller asks for one of the nine, and lends room for it.
 fn read_list(file: &[u8], l: Layout, which: usize, out: &mut [f64]) -> usize
     requires { ⌜ (layoutOf (now file) ≡ Parts l) × (which < 9) × (length (listOf (requestOf (now file) l) which) ≤ length (now out)) ⌝ }
     ensures { λ r. ⌜ r ≡ length (listOf (requestOf (now (file .entry)) l) which) ⌝ }
@@ -61,8 +61,8 @@ fn read_list(file: &[u8], l: Layout, which: usize, out: &mut [f64]) -> usize
     n
 }
 
-// All nine, each at its place. `lay_out` has seen the layout; `serve_jobs` of `serving`, `rounds` and `details` lends
-// room for all of them.
+// All nine, each at its place. The layout is the one that `lay_out` gave of this file; a caller lends room for
+// the longest lists that a file may have.
 pub fn read_lists(file: &[u8], l: Layout, floats: &mut [f64])
     requires { ⌜ (layoutOf (now file) ≡ Parts l) × (length (now floats) ≡ 6464) ⌝ }
     ensures { λ _. ⌜ Holds (now (file .entry)) l (now (floats .exit)) ⌝ }
@@ -76,7 +76,8 @@ pub fn read_lists(file: &[u8], l: Layout, floats: &mut [f64])
     }
 }
 
-// List `which` of a run file, where `read_lists` has put it: `serving`, `rounds` and `details` hand on its floats.
+// List `which` of a run file, where `read_lists` has put it: a caller hands on the floats that were read from
+// this very file, and asks for one of the nine.
 pub fn list<'a>(file: &[u8], l: Layout, floats: &'a [f64], which: usize) -> &'a [f64]
     requires { ⌜ (layoutOf (now file) ≡ Parts l) × Holds (now file) l (now floats) × (which < 9) ⌝ }
     ensures { λ r. ⌜ now r ≡ listOf (requestOf (now (file .entry)) l) which ⌝ }

@@ -17,8 +17,8 @@ pub struct Job {
     pub d: f64,
 }
 
-// Alpha, the one float of its part. Of a run file `lay_out` has seen that the part lies within it;
-// `basket_vectors::next` lends 16 bytes, of which it is the last eight.
+// Alpha, the one float of its part. A caller has a part that lies within the file: of a run file `lay_out` has
+// seen it.
 pub fn alpha(file: &[u8], model: Part) -> f64
     requires { ⌜ model .offset + 8 ≤ length (now file) ⌝ }
     ensures { λ r. ⌜ r ≡ floatAt (now (file .entry)) (model .offset) ⌝ }
@@ -26,9 +26,9 @@ pub fn alpha(file: &[u8], model: Part) -> f64
     bytes::float_at(file, model.offset as usize)
 }
 
-// Of every record of a part, `width` bytes each, the float number `field`, counted from 0. Of a run
-// file `lay_out` has seen that the part lies within it. A place for each record is lent by `read_list` and by
-// `basket_vectors::input::column`.
+// Of every record of a part, `width` bytes each, the float number `field`, counted from 0. A caller has a part
+// that lies within the file (of a run file `lay_out` has seen it), asks for a field that a record has, and
+// lends a place for each record.
 pub fn column(file: &[u8], part: Part, width: usize, field: usize, out: &mut [f64])
     requires { ⌜ endOf part ≤ length (now file) ⌝ }
     requires { ⌜ 8 * field + 8 ≤ width ⌝ }
@@ -44,8 +44,8 @@ pub fn column(file: &[u8], part: Part, width: usize, field: usize, out: &mut [f6
     }
 }
 
-// Job i of the part, counted from 0. `lay_out` has seen that the part lies within the file, and
-// `runfile::job_lines` and `details` have a job that is in it.
+// Job i of the part, counted from 0. `lay_out` has seen that the part lies within the file; a caller goes
+// through the jobs that are in it.
 pub fn nth_job(file: &[u8], jobs: Part, i: usize) -> Job
     requires { ⌜ endOf jobs ≤ length (now file) ⌝ }
     requires { ⌜ i < jobs .length / 40 ⌝ }
@@ -54,7 +54,7 @@ pub fn nth_job(file: &[u8], jobs: Part, i: usize) -> Job
     job_at(file, jobs.offset as usize + 40 * i)
 }
 
-// The job that starts at place `at`: `nth_job` has one that ends within the part.
+// The job that starts at place `at`: a caller has one that ends within the part.
 fn job_at(file: &[u8], at: usize) -> Job
     requires { ⌜ at + 40 ≤ length (now file) ⌝ }
     ensures { λ r. ⌜ r ≡ jobAt (now (file .entry)) at ⌝ }

@@ -28,8 +28,8 @@ pub fn write_refused(out: &mut [u8; 128]) -> usize
     fields::put(b"refused 1", b'\n', out, 0)
 }
 
-// Puts a line at place `at`, and answers the place behind it. `runfile::one_line` writes a job's one line
-// to the front of a buffer of 131,072 bytes.
+// Puts a line at place `at`, and answers the place behind it. A caller has room for 128 bytes there, more than
+// the longest line has.
 pub fn write_line(l: Line, out: &mut [u8], at: usize) -> usize
     requires { ⌜ at + 128 ≤ length (now out) ⌝ }
     ensures end { λ r. ⌜ (r ≡ at + length (lineOf (l .job) (l .kind) (l .answer) (bitsOf (l .value)) (l .note))) × (r ≤ at + 128) ⌝ }
@@ -42,8 +42,8 @@ pub fn write_line(l: Line, out: &mut [u8], at: usize) -> usize
     fields::put_decimal(l.note, b'\n', out, note)
 }
 
-// The same with the line of a point of a served path: its kind is 12 and its answer 0.
-// `runfile::point_lines` has room for 128 bytes a point.
+// The same with the line of a point of a served path: its kind is 12 and its answer 0. A caller has room for
+// 128 bytes a point.
 pub fn write_point(job: u64, value: f64, note: u64, out: &mut [u8], at: usize) -> usize
     requires { ⌜ at + 128 ≤ length (now out) ⌝ }
     ensures end { λ r. ⌜ (r ≡ at + length (lineOf job 12 0 (bitsOf value) note)) × (r ≤ at + 128) ⌝ }

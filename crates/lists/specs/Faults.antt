@@ -27,7 +27,7 @@ pillarFaults times sigmas = record {
   domain = not (allOf (AtLeast zero) sigmas);
 }
 
--- payment times and accruals; what the times must be above is the call's option time, and own factors are the pricer's
+-- payment times and accruals; what the times must be above is the call's option time, and own factors are asked by a call that uses them
 abbrev pub couponFaults : List Float → List Float → Faults
 couponFaults payments accruals = record {
   size = ltb 64 (length payments) || not (eqb (length payments) (length accruals));

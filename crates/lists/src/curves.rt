@@ -1,5 +1,5 @@
-// What each list of a request does wrong, rule by rule. A list in use is checked whole; the
-// curve's faults can be worked once and carried to every call on the same curve (`.._on`).
+// What each list of a request does wrong, rule by rule. A list in use is checked whole; the curve's faults can
+// be worked once and carried to every call on the same curve.
 ghost use mathlib.Core.Path.{_≡_};
 ghost use Rattle.lists.specs.Faults.{curveFaults, pillarFaults, couponFaults, gridFaults};
 use super::checks;

@@ -18,11 +18,7 @@ pub struct Spot {
 }
 
 // The factor at a time that is on the curve, numbers compared. It is looked for by halves, for the times
-// strictly rise: behind rule 4 this is handed on by `options::bond_option_priced`,
-// `options::optionlet_priced`, `models::a_priced`, `models::zcb_priced`, `models::forward_priced`,
-// `models::theta_priced`, `models::theta_from`, `quotes::annuity_priced`, `terms::fetch`,
-// `swaptions::model_priced`, `valuations::swaption_priced`, `calibration::caplet_fitted` and
-// `calibration::swaption_fitted`.
+// strictly rise: a caller that prices or fits shows it, behind rule 4.
 pub fn factor(times: &[f64], factors: &[f64], t: f64) -> Found
     requires { ⌜ inOrder true (now times) ≡ true ⌝ }
     ensures { λ r. ⌜ foundOf r ≡ factorAt (now (times .entry)) (now (factors .entry)) t ⌝ }
@@ -31,7 +27,8 @@ pub fn factor(times: &[f64], factors: &[f64], t: f64) -> Found
     factor_at(times, factors, place, t)
 }
 
-// The same, looked for at the place `hint` first. `walks::forward_near` hands on that the times rise.
+// The same, looked for at the place `hint` first. A caller that walks along a grid shows that the times rise,
+// behind rule 4.
 pub fn factor_near(times: &[f64], factors: &[f64], hint: usize, t: f64) -> Spot
     requires { ⌜ inOrder true (now times) ≡ true ⌝ }
     ensures { λ r. ⌜ foundOf (r .found) ≡ factorAt (now (times .entry)) (now (factors .entry)) t ⌝ }
@@ -44,8 +41,8 @@ pub fn factor_near(times: &[f64], factors: &[f64], hint: usize, t: f64) -> Spot
     }
 }
 
-// The factor at t, which stands at this place or nowhere: `factor` has the place from `part`, `factor_near`
-// from `part_near`.
+// The factor at t, which stands at this place or nowhere: a caller has the place from `part` or `part_near`, in
+// times that strictly rise.
 fn factor_at(times: &[f64], factors: &[f64], place: usize, t: f64) -> Found
     requires { ⌜ (inOrder true (now times) ≡ true) × PartsAt true (now times) t place ⌝ }
     ensures { λ r. ⌜ foundOf r ≡ factorAt (now (times .entry)) (now (factors .entry)) t ⌝ }
@@ -64,8 +61,8 @@ fn factor_at(times: &[f64], factors: &[f64], place: usize, t: f64) -> Found
     }
 }
 
-// How many times of a rising list are below t where `strictly`, else at most t, looked for by halves. `factor`
-// and `part_near` hand on that they rise.
+// How many times of a rising list are below t where `strictly`, else at most t, looked for by halves. A caller
+// shows that they rise.
 fn part(times: &[f64], t: f64, strictly: bool) -> usize
     requires { ⌜ inOrder true (now times) ≡ true ⌝ }
     ensures { λ r. ⌜ PartsAt strictly (now (times .entry)) t r ⌝ }
@@ -83,8 +80,8 @@ fn part(times: &[f64], t: f64, strictly: bool) -> usize
     low
 }
 
-// The same, where `hint` is likely to be it: the times on both sides of the place say whether it is.
-// `factor_near` and `volatility_near` hand on that they rise.
+// The same, where `hint` is likely to be it: the times on both sides of the place say whether it is. A caller
+// shows that they rise.
 fn part_near(times: &[f64], hint: usize, t: f64, strictly: bool) -> usize
     requires { ⌜ inOrder true (now times) ≡ true ⌝ }
     ensures { λ r. ⌜ PartsAt strictly (now (times .entry)) t r ⌝ }
@@ -97,7 +94,7 @@ fn part_near(times: &[f64], hint: usize, t: f64, strictly: bool) -> usize
     part(times, t, strictly)
 }
 
-// Whether the first n times are so: in a rising list, as `part_near` is given, the last of them shows it.
+// Whether the first n times are so: in a list that rises, as a caller shows, the last of them tells it.
 fn reaches(times: &[f64], n: usize, t: f64, strictly: bool) -> bool
     requires { ⌜ inOrder true (now times) ≡ true ⌝ }
     ensures { λ r. ⌜ (r ≡ true → (n ≤ length (now (times .entry))) × Front strictly (now (times .entry)) t n) ⌝ }
@@ -111,7 +108,7 @@ fn reaches(times: &[f64], n: usize, t: f64, strictly: bool) -> bool
     lists::follows(strictly, times[n - 1], t)
 }
 
-// Whether none from place n on is: in the list of `part_near` the first of them shows it.
+// Whether none from place n on is: in a list that rises, as a caller shows, the first of them tells it.
 fn stops(times: &[f64], n: usize, t: f64, strictly: bool) -> bool
     requires { ⌜ inOrder true (now times) ≡ true ⌝ }
     ensures { λ r. ⌜ (r ≡ true → Back strictly (now (times .entry)) t n) ⌝ }
@@ -146,8 +143,8 @@ pub fn volatility(times: &[f64], sigmas: &[f64], t: f64) -> Found
     Found::At(best)
 }
 
-// The same on rising times, of which `hint` are likely to be at or before t. `walks::walk_points` hands on
-// that they rise.
+// The same on rising times, of which `hint` are likely to be at or before t. A caller that walks along a grid
+// shows that they rise, behind rule 4.
 pub fn volatility_near(times: &[f64], sigmas: &[f64], hint: usize, t: f64) -> Spot
     requires { ⌜ inOrder true (now times) ≡ true ⌝ }
     ensures { λ r. ⌜ foundOf (r .found) ≡ volatilityAt (now (times .entry)) (now (sigmas .entry)) t ⌝ }

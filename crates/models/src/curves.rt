@@ -52,7 +52,7 @@ pub fn A(alpha: f64, times: &[f64], factors: &[f64], t: f64, bond: f64, sigma: f
     }
 }
 
-// `A` has asked the rules: the curve's times strictly rise.
+// A behind its rules: a caller that has asked them has a curve whose times strictly rise.
 fn a_priced(alpha: f64, times: &[f64], factors: &[f64], t: f64, bond: f64, sigma: f64) -> Price
     requires { ⌜ inOrder true (now times) ≡ true ⌝ }
     ensures { λ r. ⌜ outcomeOf r ≡ aPriced alpha (now (times .entry)) (now (factors .entry)) t bond sigma ⌝ }
@@ -90,7 +90,7 @@ pub fn zcb_price(
     }
 }
 
-// `zcb_price` has asked the rules: the curve's times strictly rise.
+// The bond's price behind its rules: a caller that has asked them has a curve whose times strictly rise.
 fn zcb_priced(
     alpha: f64,
     times: &[f64],
@@ -129,7 +129,7 @@ pub fn forward_rate(times: &[f64], factors: &[f64], t: f64) -> Price
     }
 }
 
-// `forward_rate` has asked the rules: the curve's times strictly rise.
+// The forward rate behind its rules: a caller that has asked them has a curve whose times strictly rise.
 fn forward_priced(times: &[f64], factors: &[f64], t: f64) -> Price
     requires { ⌜ inOrder true (now times) ≡ true ⌝ }
     ensures { λ r. ⌜ outcomeOf r ≡ forwardPriced (now (times .entry)) (now (factors .entry)) t ⌝ }
@@ -154,7 +154,7 @@ pub fn theta(alpha: f64, times: &[f64], factors: &[f64], t: f64, sigma: f64) -> 
     }
 }
 
-// `theta` has asked the rules: the curve's times strictly rise.
+// The drift behind its rules: a caller that has asked them has a curve whose times strictly rise.
 fn theta_priced(alpha: f64, times: &[f64], factors: &[f64], t: f64, sigma: f64) -> Price
     requires { ⌜ inOrder true (now times) ≡ true ⌝ }
     ensures { λ r. ⌜ outcomeOf r ≡ thetaPriced alpha (now (times .entry)) (now (factors .entry)) t sigma ⌝ }
@@ -168,7 +168,7 @@ fn theta_priced(alpha: f64, times: &[f64], factors: &[f64], t: f64, sigma: f64) 
     theta_from(alpha, times, factors, t, sigma, p, p_plus)
 }
 
-// A difference around t, or, within a day of 0, one ahead of it. `theta_priced` hands on that the curve's
+// A difference around t, or, within a day of 0, one ahead of it. A caller behind the rules has a curve whose
 // times strictly rise.
 fn theta_from(
     alpha: f64,

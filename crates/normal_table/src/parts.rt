@@ -38,7 +38,7 @@ fn met_at(part: u64, i: usize, negative: bool, dual: bool) -> bool
     }
 }
 
-// To half a unit of the last printed digit of the value. `met_at` gives a row of the table.
+// To half a unit of the last printed digit of the value. A caller gives a row of the table.
 fn cumulative(i: usize, negative: bool, dual: bool) -> bool
     requires { ⌜ i < 15 ⌝ }
     ensures { λ r. ⌜ r ≡ cumulativeMet i negative dual ⌝ }
@@ -55,8 +55,8 @@ fn cumulative(i: usize, negative: bool, dual: bool) -> bool
     )
 }
 
-// To half a unit of the last printed digit of the argument: the table gives 1 less the function's value.
-// `met_at` gives a row of it.
+// To half a unit of the last printed digit of the argument: the table gives 1 less the function's value. A
+// caller gives a row of it.
 fn point(i: usize, negative: bool, dual: bool) -> bool
     requires { ⌜ i < 30 ⌝ }
     ensures { λ r. ⌜ r ≡ pointMet i negative dual ⌝ }
@@ -73,7 +73,7 @@ fn point(i: usize, negative: bool, dual: bool) -> bool
     )
 }
 
-// To `spread` quarters of a unit of the fifteenth digit. `met_at` gives a row of the table.
+// To `spread` quarters of a unit of the fifteenth digit. A caller gives a row of the table.
 fn fine(i: usize, spread: u64, negative: bool, dual: bool) -> bool
     requires { ⌜ i < 32 ⌝ }
     ensures { λ r. ⌜ r ≡ fineMet i spread negative dual ⌝ }
@@ -90,7 +90,7 @@ fn fine(i: usize, spread: u64, negative: bool, dual: bool) -> bool
     )
 }
 
-// To half a unit of the tenth digit. `met_at` gives a row of the table.
+// To half a unit of the tenth digit. A caller gives a row of the table.
 fn coarse(i: usize, negative: bool, dual: bool) -> bool
     requires { ⌜ i < 30 ⌝ }
     ensures { λ r. ⌜ r ≡ coarseMet i negative dual ⌝ }

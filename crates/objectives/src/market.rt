@@ -36,7 +36,7 @@ pub fn caplet_market(
     p_end * tau * vanilla_call(quote, fwd, strike, vol, t)
 }
 
-// The annuity on factors that are fetched; `swaption_market` has the lists of one length.
+// The annuity on factors that are fetched: a caller has one for each accrual.
 fn annuity(accruals: &[f64], p: &[f64]) -> f64
     requires { ⌜ length (now p) ≡ length (now accruals) ⌝ }
     ensures { λ r. ⌜ r ≡ annuityOf (now (accruals .entry)) (now (p .entry)) ⌝ }
@@ -50,8 +50,8 @@ fn annuity(accruals: &[f64], p: &[f64]) -> f64
     sum
 }
 
-// p_t is the factor at the option time, p those at the payment times; the swap ends at the last listed
-// payment. `calibration::swaption_worked` has the lists of one length, and by rule 7 a coupon.
+// p_t is the factor at the option time, p those at the payment times; the swap ends at the last listed payment.
+// A caller that has asked rules 1 and 7 has the lists of one length, and a coupon.
 pub fn swaption_market(
     quote: Quote,
     strike: f64,

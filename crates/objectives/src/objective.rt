@@ -52,7 +52,7 @@ fn caplet_at(
 }
 
 // The model price at a sigma. The lists are a swaption's coefficients, B, drifts and factors; a caplet has
-// none. `residual` has them of one length of at most 64.
+// none. A caller that has worked them ahead has them of one length of at most 64.
 fn model_price(
     instrument: Instrument,
     c: &[f64],
@@ -104,8 +104,8 @@ fn value_of(swaption: Swaption) -> Price
     }
 }
 
-// The residual at a sigma, or why there is none: the model's refusal, or a NaN. `solve`, `solve_above`,
-// `halve` and `unconverged` of `solver` have the lists of one length of at most 64.
+// The residual at a sigma, or why there is none: the model's refusal, or a NaN. A caller that fits has the
+// lists of one length of at most 64.
 pub fn residual(
     instrument: Instrument,
     market: f64,

@@ -8,7 +8,7 @@ use Rattle.lists.specs.declared.curves.Faults.{Faults}
 use Rattle.lists.specs.declared.refusals.Refusal.the-variants as R
 use Rattle.lists.specs.Refusals.{Rule, rule}
 
--- Kinds 1 to 4, and B, A, zcb_price, zcb_price_volatility, short_rate_variance: an option time t and a bond or end time T. `other` is a further number that the call uses, 0 where there is none.
+-- a call with an option time t and a bond or end time T. `other` is a further number that the call uses, 0 where there is none
 abbrev pub optionRules : Faults → Float → Float → Float → Float → Float → List Rule
 optionRules curve alpha t T sigma other =
     rule R.Size (curve .size)

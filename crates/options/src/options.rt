@@ -123,8 +123,8 @@ pub fn bond_call_price(
     )
 }
 
-// The same on a curve whose faults are known: `bond_put_price` and `bond_call_price` have worked them, and
-// `kinds::option_told` hands on those that were worked once for all jobs.
+// The same on a curve whose faults are known: a caller has worked them on these very lists, for this call or
+// once for many.
 pub fn bond_option_on(
     option: BondOption,
     curve: Faults,
@@ -148,7 +148,7 @@ pub fn bond_option_on(
     }
 }
 
-// The same of a caplet or a floorlet, for `caplet_price`, `floorlet_price` and `kinds::option_told`.
+// The same of a caplet or a floorlet; a caller has worked the faults too.
 pub fn optionlet_on(
     option: BondOption,
     curve: Faults,
@@ -170,8 +170,9 @@ pub fn optionlet_on(
     }
 }
 
-// A price behind the rules, as `bond_option_on` has asked them. The exps need no factor and take longest: they
-// come before the lookups, and the root, which waits for them, behind all that does not.
+// A price behind the rules: a caller that has asked them has a curve whose times strictly rise. The exps need
+// no factor and take longest: they come before the lookups, and the root, which waits for them, behind all that
+// does not.
 fn bond_option_priced(
     option: BondOption,
     alpha: f64,
@@ -198,7 +199,7 @@ fn bond_option_priced(
     lists::served(bond_option(option, sigma_p, moneyness, strike_value, p_bond))
 }
 
-// The same of a caplet or a floorlet, for `optionlet_on`.
+// The same of a caplet or a floorlet; a caller has asked the rules too.
 fn optionlet_priced(
     option: BondOption,
     alpha: f64,

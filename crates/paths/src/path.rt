@@ -41,8 +41,8 @@ pub fn generate(
     )
 }
 
-// The same on a curve whose faults are known: `generate` has worked them, and `runfile::path_lines` hands on
-// those that were worked once for all jobs.
+// The same on a curve whose faults are known: a caller has worked them on these very lists, for this call or
+// once for many.
 pub fn generate_on(
     curve: Faults,
     alpha: f64,

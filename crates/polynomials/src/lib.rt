@@ -32,8 +32,8 @@ pub fn sized(z: f64, low: u64, high: u64) -> bool
     }
 }
 
-// The quotient at an ordinary z, as `hart` has tested: the numbers stay taken apart from step to step.
-// The steps of the two polynomials alternate, so that a processor works on both at once.
+// The quotient at an ordinary z, as a caller has tested by `sized`: the numbers stay taken apart from step to
+// step. The steps of the two polynomials alternate, so that a processor works on both at once.
 fn quotient(z: f64, e: f64) -> f64
     requires { ⌜ Ordinary z ⌝ }
     ensures { λ r. ⌜ r ≡ hartOf fusedOf z e ⌝ }

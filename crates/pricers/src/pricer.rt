@@ -53,8 +53,8 @@ pub fn swaption_value(
     )
 }
 
-// The same on a curve whose faults are known: `swaption_value` has worked them, and
-// `kinds::swaption_work` hands on those that were worked once for all jobs.
+// The same on a curve whose faults are known: a caller has worked them on these very lists, for this call or
+// once for many.
 pub fn swaption_value_on(
     option: SwaptionType,
     curve: Faults,

@@ -77,8 +77,8 @@ struct Shares {
     p2: f64,
 }
 
-// What lies above z and above w, the exponents of their exps being a and b. `norm_cdf_two` has them, and
-// has tested all four by `both_near`.
+// What lies above z and above w, the exponents of their exps being a and b. A caller has worked these, and has
+// tested that all four are within their bounds.
 pub fn quotients(z: f64, w: f64, a: f64, b: f64) -> exponential::Two
     requires { ⌜ Near z × Near w × (withinLimits a ≡ true) × (withinLimits b ≡ true) × (a ≡ neg z ⊗ z ⊗ half) × (b ≡ neg w ⊗ w ⊗ half) ⌝ }
     ensures { λ r. ⌜ (r .first ≡ upperOf fusedOf z) × (r .second ≡ upperOf fusedOf w) ⌝ }
@@ -113,7 +113,7 @@ fn begun(y: u64, x: u64, r: f64, q: f64) -> Shares
     }
 }
 
-// A turn for both. `quotients` has the bounds from the coefficients before.
+// A turn for both. A caller has the bounds from the coefficients before.
 fn turn_two(s: Shares, y: u64, x: u64, r: f64, q: f64, c: u64, d: u64, n: f64, m: f64) -> Shares
     requires { ⌜ Room (s .num) (s .den) c d × Room (s .num2) (s .den2) c d ⌝ }
     ensures { λ t. ⌜ Turned (s .num) (s .den) (s .p) y r c d n m (t .num) (t .den) (t .p) × Turned (s .num2) (s .den2) (s .p2) x q c d n m (t .num2) (t .den2) (t .p2) ⌝ }
@@ -130,8 +130,8 @@ fn turn_two(s: Shares, y: u64, x: u64, r: f64, q: f64, c: u64, d: u64, n: f64, m
     }
 }
 
-// A step of each polynomial, with the coefficients c and d, and two terms of exp. `turn_two` hands its own
-// bounds on.
+// A step of each polynomial, with the coefficients c and d, and two terms of exp. A caller has the bounds from
+// the coefficients before.
 fn turn(num: u64, den: u64, p: f64, y: u64, r: f64, c: u64, d: u64, n: f64, m: f64) -> Share
     requires { ⌜ Room num den c d ⌝ }
     ensures { λ t. ⌜ Turned num den p y r c d n m (t .num) (t .den) (t .p) ⌝ }
@@ -144,8 +144,8 @@ fn turn(num: u64, den: u64, p: f64, y: u64, r: f64, c: u64, d: u64, n: f64, m: f
     }
 }
 
-// The last turn, whose steps have 47 and 45 places, and e × num / den. `quotients` has the
-// bounds from the coefficients before, and k from `reduce`.
+// The last turn, whose steps have 47 and 45 places, and e × num / den. A caller has the bounds from the
+// coefficients before, and k from `reduce`.
 fn last(num: u64, den: u64, p: f64, y: u64, r: f64, k: i32) -> f64
     requires { ⌜ (num + 0x6e_1a7a_a5d3_1f94 < 2 ^ 62) × (den + 0x37_0d3d_52e9_8fca < 2 ^ 62) × (mag k < 2000) ⌝ }
     ensures { λ v. ⌜ Ended num den p y r k v ⌝ }

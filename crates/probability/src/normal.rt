@@ -70,7 +70,7 @@ fn upper(z: f64, dual: bool) -> f64
     upper_by(z, exponential::exp(-z * z * 0.5), dual)
 }
 
-// The same, where `upper` or `norm_cdf_two` has worked the exp.
+// The same, where a caller has worked the exp.
 fn upper_by(z: f64, e: f64, dual: bool) -> f64
     requires { ⌜ e ≡ expOf (neg z ⊗ z ⊗ half) ⌝ }
     ensures { λ r. ⌜ r ≡ upperOf (stepOf dual) z ⌝ }

@@ -8,7 +8,7 @@ use Rattle.lists.specs.declared.curves.Faults.{Faults}
 use Rattle.lists.specs.declared.refusals.Refusal.the-variants as R
 use Rattle.lists.specs.Refusals.{Rule, rule}
 
--- d1_d2, Black and Bachelier: tau is a fit's option time, which is above 0; a Black strike is above 0, a normal one need not be
+-- a quoted volatility's formula: tau is a fit's option time, which is above 0; a Black strike is above 0, a normal one need not be
 abbrev pub quoteRules : Bool → Float → Float → Float → Float → List Rule
 quoteRules black fwd strike vol tau =
     rule R.NotFinite (not (finite fwd && finite strike && finite vol && finite tau))

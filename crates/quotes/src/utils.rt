@@ -83,7 +83,8 @@ pub fn annuity(times: &[f64], factors: &[f64], payments: &[f64], accruals: &[f64
     }
 }
 
-// `annuity` shows that the times strictly rise, behind rule 4: so each factor is looked up by halves.
+// The annuity behind its rules: a caller that has asked rule 4 has times that strictly rise, so each factor is
+// looked up by halves.
 fn annuity_priced(times: &[f64], factors: &[f64], payments: &[f64], accruals: &[f64]) -> Price
     requires { ⌜ inOrder true (now times) ≡ true ⌝ }
     ensures { λ r. ⌜ outcomeOf r ≡ annuityPriced (now (times .entry)) (now (factors .entry)) (now (payments .entry)) (now (accruals .entry)) ⌝ }

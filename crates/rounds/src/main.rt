@@ -1,5 +1,5 @@
-// A program for timing: how often a run file is worked (u32, the least byte first) and then the file, from standard
-// input. The file's jobs are worked so often, and the last round's lines are written. `bench/run` calls it.
+// A program for timing: how often a run file is worked (u32, the least byte first) and then the file, from
+// standard input. The file's jobs are worked so often, and the last round's lines are written.
 ghost use mathlib.Core.Path.{_≡_};
 ghost use Prim.Native.Nat.{_≤_};
 ghost use lib.ListN.{length};
@@ -37,7 +37,7 @@ fn serve_file(file: &[u8], rounds: u64) {
     }
 }
 
-// `serve_file` has the layout from `lay_out`.
+// The jobs of a file. A caller has the layout from `lay_out` of this very file.
 fn serve_jobs(file: &[u8], l: Layout, rounds: u64)
     requires { ⌜ layoutOf (now file) ≡ Parts l ⌝ }
 {
@@ -46,7 +46,7 @@ fn serve_jobs(file: &[u8], l: Layout, rounds: u64)
     each_round(file, l, &floats, rounds);
 }
 
-// `serve_jobs` hands on the layout, and the lists that it has read.
+// The same, on the lists that a caller has read from the file.
 fn each_round(file: &[u8], l: Layout, floats: &[f64], rounds: u64)
     requires { ⌜ (layoutOf (now file) ≡ Parts l) × Holds (now file) l (now floats) ⌝ }
 {
@@ -85,7 +85,7 @@ fn each_round(file: &[u8], l: Layout, floats: &[f64], rounds: u64)
     }
 }
 
-// One round. `each_round` has the lists of the file, the curve's faults, and room for a path of 1,024 points.
+// One round. A caller has the lists of the file, the curve's faults, and room for a path of 1,024 points.
 fn each_job(
     file: &[u8],
     l: Layout,

@@ -20,7 +20,7 @@ use lines::Line;
 use lists::Answer;
 use lists::Faults;
 
-// A line for each point of a path, the note being the point from 0. `path_lines` has room for 1,024.
+// A line for each point of a path, the note being the point from 0. A caller lends 128 bytes for each.
 fn point_lines(k: u64, values: &[f64], out: &mut [u8]) -> usize
     requires { ⌜ 128 * length (now values) ≤ length (now out) ⌝ }
     ensures { λ r. ⌜ Begins r (pointLines k 0 (now (values .entry))) (now (out .entry)) (now (out .exit)) ⌝ }
@@ -34,7 +34,7 @@ fn point_lines(k: u64, values: &[f64], out: &mut [u8]) -> usize
     at
 }
 
-// One line, for a job that is no served path. `path_lines` and `told_line` have room.
+// One line, for a job that is no served path. A caller lends 128 bytes for it.
 fn one_line(l: Line, out: &mut [u8]) -> usize
     requires { ⌜ 128 ≤ length (now out) ⌝ }
     ensures { λ r. ⌜ Begins r (lineOf (l .job) (l .kind) (l .answer) (bitsOf (l .value)) (l .note)) (now (out .entry)) (now (out .exit)) ⌝ }
@@ -42,7 +42,7 @@ fn one_line(l: Line, out: &mut [u8]) -> usize
     lines::write_line(l, out, 0)
 }
 
-// The line of a job of kinds 1 to 11, of which `told` is told. `job_lines` and `worked_line` have room for far more.
+// The line of a job of kinds 1 to 11, of which `told` is told. A caller lends 128 bytes for it.
 fn told_line(k: u64, kind: u64, told: Told, out: &mut [u8]) -> usize
     requires { ⌜ 128 ≤ length (now out) ⌝ }
     ensures { λ r. ⌜ Begins r (toldLine k kind told) (now (out .entry)) (now (out .exit)) ⌝ }
@@ -59,7 +59,7 @@ fn told_line(k: u64, kind: u64, told: Told, out: &mut [u8]) -> usize
     )
 }
 
-// The line of a job of kinds 5 to 11, from all that its call returned. `job_lines` and `details` have room for far more.
+// The line of a job of kinds 5 to 11, from all that its call returned. A caller lends 128 bytes for it.
 pub fn worked_line(k: u64, kind: u64, worked: Worked, out: &mut [u8]) -> usize
     requires { ⌜ 128 ≤ length (now out) ⌝ }
     ensures { λ r. ⌜ Begins r (toldLine k kind (toldFrom (wholeOf worked))) (now (out .entry)) (now (out .exit)) ⌝ }
@@ -67,8 +67,8 @@ pub fn worked_line(k: u64, kind: u64, worked: Worked, out: &mut [u8]) -> usize
     told_line(k, kind, kinds::tell(worked), out)
 }
 
-// Kind 12. A grid without points is served with one line of zeros. `job_lines` hands on the curve's faults
-// and the room, and has the grid of a run file: at most 1,024 points.
+// Kind 12. A grid without points is served with one line of zeros. A caller has the curve's faults and the grid
+// of a run file, at most 1,024 points, and lends 128 bytes for each.
 fn path_lines(
     curve: Faults,
     alpha: f64,
@@ -124,9 +124,9 @@ fn path_lines(
     point_lines(k, &values[..n], out)
 }
 
-// The lines of job k of the file, on the lists that were read from it and the curve's faults, worked once
-// for all jobs. `each_job` of `serving`, `rounds` and `details` has them from
-// `layout::list`, and lends room for a path of 1,024 points.
+// The lines of job k of the file, on the lists that were read from it and the curve's faults, worked once for
+// all jobs. The layout is the one that `lay_out` gave of this file; a caller that goes through its jobs has the
+// lists from `layout::list`, and lends room for a path of 1,024 points.
 pub fn job_lines(
     file: &[u8],
     l: Layout,

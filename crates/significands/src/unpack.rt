@@ -28,7 +28,7 @@ pub fn finite(x: f64) -> bool
     if x < infinity { -infinity < x } else { false }
 }
 
-// The fields of the bit pattern of a finite x, as `unpack` and `ieee::sum::terms_of` are given.
+// The fields of the bit pattern of an x that a caller has found finite.
 pub fn read(x: f64) -> Fields
     requires { ⌜ T (Scale.finite x) ⌝ }
     ensures { λ r. ⌜ Spec.Fields x (r .sign) (r .exp) (r .digits) ⌝ }
@@ -41,8 +41,7 @@ pub fn read(x: f64) -> Fields
     }
 }
 
-// The sign, the significand and the exponent of a finite x, as `ieee::root::positive` and
-// `ieee::sum::any_terms` are given.
+// The sign, the significand and the exponent of an x that a caller has found finite.
 pub fn unpack(x: f64) -> Parts
     requires { ⌜ T (Scale.finite x) ⌝ }
     ensures { λ r. ⌜ Unpacked x (r .sign) (r .sig) (r .exp) ⌝ }
@@ -61,8 +60,8 @@ pub fn unpack(x: f64) -> Parts
     normal(f.sign, 1, f.digits)
 }
 
-// ±(digits + 2^52) * 2^(exp + 63): a field of exp that is not 0 gives the significand its leading
-// digit. `unpack` and `ieee::sum::terms_of` have the bounds from `read`.
+// ±(digits + 2^52) * 2^(exp + 63): a field of exp that is not 0 gives the significand its leading digit. A
+// caller has the bounds from `read`.
 pub fn ordinary(sign: bool, exp: u64, digits: u64) -> Parts
     requires { ⌜ (exp < 2 ^ 11) × (digits < 2 ^ 52) ⌝ }
     ensures { λ r. ⌜ (r .sign ≡ sign) × (r .sig * 2 ^ r .exp ≡ (digits + 2 ^ 52) * 2 ^ (exp + 63)) × Normal (r .sig) (r .exp) × (0 < r .sig) ⌝ }
@@ -70,8 +69,9 @@ pub fn ordinary(sign: bool, exp: u64, digits: u64) -> Parts
     normal(sign, exp, digits + 0x10_0000_0000_0000)
 }
 
-// ±sig * 2^(exp + 63), with sig brought to full width by its count of leading zeros. `ordinary` and
-// `unpack` show the bounds. Where there is a leading digit the compiler knows the count, so that it costs nothing.
+// ±sig * 2^(exp + 63), with sig brought to full width by its count of leading zeros. A caller has the bounds
+// from `read`, and a sig that is not 0. Where there is a leading digit the compiler knows the count, so that it
+// costs nothing.
 fn normal(sign: bool, exp: u64, sig: u64) -> Parts
     requires { ⌜ (exp < 2 ^ 11) × (0 < sig) × (sig < 2 ^ 53) ⌝ }
     ensures { λ r. ⌜ (r .sign ≡ sign) × (r .sig * 2 ^ r .exp ≡ sig * 2 ^ (exp + 63)) × Normal (r .sig) (r .exp) × (0 < r .sig) ⌝ }

@@ -21,7 +21,7 @@ pub enum Turn {
     Refused(Refusal),
 }
 
-// `halvings` has the lists of one length of at most 64.
+// One halving. A caller that fits has the lists of one length of at most 64.
 fn halve(
     instrument: Instrument,
     market: f64,
@@ -48,8 +48,8 @@ fn halve(
     }
 }
 
-// The midpoint of the last ends, where no halving converged. `halvings` has the lists of one length of at
-// most 64.
+// The midpoint of the last ends, where no halving converged. A caller that fits has the lists of one length of
+// at most 64.
 fn unconverged(
     instrument: Instrument,
     market: f64,
@@ -76,7 +76,7 @@ fn unconverged(
     }
 }
 
-// 200 halvings. After one that leaves everything as it was, no further one changes anything. `solve_above`
+// 200 halvings. After one that leaves everything as it was, no further one changes anything. A caller that fits
 // has the lists of one length of at most 64.
 fn halvings(
     instrument: Instrument,
@@ -119,8 +119,8 @@ fn halvings(
     unconverged(instrument, market, c, b, drift, p, ends)
 }
 
-// The residual at 2.0 beside that at 1e-8: they differ in sign, or there is nothing to halve. `solve` has
-// the lists of one length of at most 64.
+// The residual at 2.0 beside that at 1e-8: they differ in sign, or there is nothing to halve. A caller that
+// fits has the lists of one length of at most 64.
 fn solve_above(
     instrument: Instrument,
     market: f64,
@@ -151,8 +151,8 @@ fn solve_above(
     }
 }
 
-// The residual at 1e-8 comes first. `calibration::swaption_worked` has the lists of one length of at most 64,
-// and those of `calibration::caplet_worked` are empty.
+// The residual at 1e-8 comes first. A caller that has worked a swaption's terms has the lists of one length of
+// at most 64; those of a caplet are empty.
 pub fn solve(
     instrument: Instrument,
     market: f64,

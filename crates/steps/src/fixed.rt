@@ -9,8 +9,7 @@ ghost use Rattle.steps.specs.Open.{field};
 ghost use Rattle.steps.specs.Fixed.{Held, settledOf, Settled, Stepped, SteppedLast};
 use super::rounding;
 
-// x * 2^62, for an x from 2^-10 up and below 4, which loses no digit. `probability::both::quotients` has
-// such arguments, as `norm_cdf_two` has tested.
+// x * 2^62, for an x from 2^-10 up and below 4, as a caller has tested; this loses no digit.
 pub fn fixed_of(x: f64) -> u64
     requires { ⌜ T (not (isNan x)) × (1013 ≤ field x) × (field x ≤ 1024) ⌝ }
     ensures { λ r. ⌜ Held x r 62 × (r < 2 ^ 64) ⌝ }
@@ -19,8 +18,8 @@ pub fn fixed_of(x: f64) -> u64
     (bits % 0x10_0000_0000_0000 + 0x10_0000_0000_0000) << (bits / 0x10_0000_0000_0000 - 1013)
 }
 
-// a * y + c, a having two places more than c, and y 62: the exact value, rounded once to 53 digits.
-// `begun` and `turn` of `probability::both` show the bounds from the coefficients.
+// a * y + c, a having two places more than c, and y 62: the exact value, rounded once to 53 digits. A caller
+// shows the bounds from the coefficients of its chain.
 pub fn fixed_step(a: u64, y: u64, c: u64) -> u64
     requires { ⌜ (2 ^ 53 ≤ c) × (a + c < 2 ^ 62) ⌝ }
     ensures { λ r. ⌜ Stepped a y c r ⌝ }
@@ -29,7 +28,7 @@ pub fn fixed_step(a: u64, y: u64, c: u64) -> u64
     settled(v.hi + c, wide::mark(v.lo))
 }
 
-// The last step of a chain, as an f64: c has so many places. `probability::both::last` shows the bounds.
+// The last step of a chain, as an f64: c has so many places. A caller shows the bounds in the same way.
 pub fn fixed_last(a: u64, y: u64, c: u64, places: u64) -> f64
     requires { ⌜ (2 ^ 53 ≤ c) × (a + c < 2 ^ 62) × (places ≤ 60) ⌝ }
     ensures { λ r. ⌜ SteppedLast a y c places r ⌝ }
@@ -38,8 +37,8 @@ pub fn fixed_last(a: u64, y: u64, c: u64, places: u64) -> f64
     packed(v.hi + c, wide::mark(v.lo), places)
 }
 
-// h, and a little more where the sticky digit s is 1, to 53 digits, which are put back to their places.
-// `fixed_step` has the bounds from its own.
+// h, and a little more where the sticky digit s is 1, to 53 digits, which are put back to their places. A
+// caller has the bounds from those of a step.
 fn settled(h: u64, s: u64) -> u64
     requires { ⌜ (2 ^ 53 ≤ h) × (h < 2 ^ 62) × (s ≤ 1) ⌝ }
     ensures { λ r. ⌜ Settled h s r ⌝ }
@@ -48,7 +47,7 @@ fn settled(h: u64, s: u64) -> u64
     k.digits * 1024 >> k.up
 }
 
-// The same as an f64. `fixed_last` has the bounds from its own.
+// The same as an f64. A caller has the bounds from those of a last step.
 fn packed(h: u64, s: u64, places: u64) -> f64
     requires { ⌜ (2 ^ 53 ≤ h) × (h < 2 ^ 62) × (s ≤ 1) × (places ≤ 60) ⌝ }
     ensures { λ r. ⌜ r ≡ settledOf h s places ⌝ }

@@ -15,8 +15,7 @@ pub struct Open {
     pub exp: u64,
 }
 
-// A positive x that is no subnormal, taken apart. `polynomials::quotient` has an ordinary
-// argument, as `polynomials::hart` has tested, and the other numbers that it opens are literals; `step` has c in range.
+// A positive x that is no subnormal, taken apart: a caller has tested it, or has a literal.
 pub fn opened(x: f64) -> Open
     requires { ⌜ T (not (isNan x)) × (1 ≤ field x) × (field x ≤ 2046) ⌝ }
     ensures { λ r. ⌜ (valueOf (r .sig) (r .exp) ≡ x) × Digits (r .sig) × (r .exp + 1 ≡ field x) ⌝ }
@@ -28,10 +27,9 @@ pub fn opened(x: f64) -> Open
     }
 }
 
-// q * 2^i times y * 2^j, plus c: the exact value, rounded once. The sum is taken at the place of c, with
-// what the product has below it as a sticky digit; a product that is far larger keeps its own place,
-// and c loses no digit there. The two are less than 64 places apart, as
-// `polynomials::quotient` shows of its argument and coefficients.
+// q * 2^i times y * 2^j, plus c: the exact value, rounded once. The sum is taken at the place of c, with what
+// the product has below it as a sticky digit; a product that is far larger keeps its own place, and c loses no
+// digit there. The two are less than 64 places apart, as a caller shows of its argument and coefficients.
 pub fn step(q: u64, i: u64, y: u64, j: u64, c: f64) -> Open
     requires { ⌜ Digits q × Digits y × (i ≤ 2000) × (j ≤ 2000) × T (not (isNan c)) × (62 ≤ field c) × (field c ≤ 2000) × (field c + 1026 < i + j + 64) × (i + j < field c + 1090) ⌝ }
     ensures { λ r. ⌜ (valueOf (r .sig) (r .exp) ≡ fusedOf (valueOf q i) (valueOf y j) c) × Digits (r .sig) × (field c ≤ r .exp + 1) × (r .exp ≤ max (field c + 6) (i + j - 1020)) ⌝ }
@@ -55,8 +53,8 @@ pub fn step(q: u64, i: u64, y: u64, j: u64, c: f64) -> Open
     }
 }
 
-// h * 2^place in units of 2^-1084, and a little more where the sticky digit s is 1, to 53 digits. `step`
-// has the bounds from the larger of its terms.
+// h * 2^place in units of 2^-1084, and a little more where the sticky digit s is 1, to 53 digits. A caller has
+// the bounds from the larger term of a step.
 fn rounded(h: u64, s: u64, place: u64) -> Open
     requires { ⌜ (2 ^ 54 ≤ h) × (h < 2 ^ 62) × (s ≤ 1) × (62 ≤ place) × (place < 2 ^ 13) ⌝ }
     ensures { λ o. ⌜ (valueOf (o .sig) (o .exp) ≡ Ieee.round binary64 false ((2 * h + s) * 2 ^ (place + 1192)) (2 ^ 2277)) × Digits (o .sig) × (place ≤ o .exp + 8) × (o .exp + 1 ≤ place) ⌝ }
@@ -68,8 +66,7 @@ fn rounded(h: u64, s: u64, place: u64) -> Open
     }
 }
 
-// q * 2^k in units of 2^-1074 as an f64. `polynomials::quotient` has the bounds from its last
-// steps.
+// q * 2^k in units of 2^-1074 as an f64. A caller has the bounds from the last steps of its chain.
 pub fn closed(q: u64, k: u64) -> f64
     requires { ⌜ Digits q × (k ≤ 2000) ⌝ }
     ensures { λ r. ⌜ r ≡ valueOf q k ⌝ }

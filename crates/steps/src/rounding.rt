@@ -11,8 +11,7 @@ pub struct Rounded {
 }
 
 // h, and a little more where the sticky digit s is 1, to 53 digits. That digit is put below the others when
-// they stand in their place, so that nothing waits for it. `open::rounded`, `fixed::settled` and `fixed::packed` hand
-// their own bounds on.
+// they stand in their place, so that nothing waits for it. A caller has the bounds from those of a step.
 pub fn kept(h: u64, s: u64) -> Rounded
     requires { ⌜ (2 ^ 53 ≤ h) × (h < 2 ^ 62) × (s ≤ 1) ⌝ }
     ensures { λ r. ⌜ (r .digits ≡ digitsOf h s) × (r .up ≡ upOf h) × Digits (r .digits) × (r .up ≤ 9) ⌝ }

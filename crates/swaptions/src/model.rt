@@ -48,8 +48,8 @@ pub fn swaption_price(
     )
 }
 
-// The same on a curve whose faults are known: `swaption_price` has worked them, and
-// `kinds::swaption_work` hands on those that were worked once for all jobs.
+// The same on a curve whose faults are known: a caller has worked them on these very lists, for this call or
+// once for many.
 pub fn swaption_price_on(
     curve: Faults,
     alpha: f64,
@@ -126,8 +126,8 @@ fn nothing() -> Swaption
     )
 }
 
-// The factors, then the terms and the price. `swaption_price_on` has asked the rules: the coupons' lists
-// are of one length of at most 64, and the curve's times strictly rise.
+// The factors, then the terms and the price. A caller that has asked the rules has the coupons' lists of one
+// length of at most 64, and a curve whose times strictly rise.
 fn model_priced(
     alpha: f64,
     times: &[f64],
@@ -166,8 +166,8 @@ fn model_priced(
     )
 }
 
-// The terms and the price, on the factors at t, t + h and the payment times. `model_priced` has the lists of
-// one length of at most 64.
+// The terms and the price, on the factors at t, t + h and the payment times. A caller behind the rules has the
+// lists of one length of at most 64.
 fn terms_priced(
     alpha: f64,
     payments: &[f64],

@@ -1,6 +1,6 @@
-// parameters.rs, transition_variances: a call that writes a list. All values are worked first and written
-// only where none is refused, so that a refusal leaves the lent output as it was; the function that does
-// so, `finish`, writes a path (kind 12) too.
+// parameters.rs, transition_variances: a call that writes a list. All values are worked first and written only
+// where none is refused, so that a refusal leaves the lent output as it was; `finish` does so for any list that
+// was worked.
 mod output;
 mod transition;
 

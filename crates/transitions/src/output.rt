@@ -10,8 +10,8 @@ use lists::Answer;
 use lists::Refusal;
 use lists::Test;
 
-// Writes the values over the front of the output, unless one of them is not finite (rule 13). The output
-// has room for them: `transition_variances` and `paths::generate_on` have asked rule 1.
+// Writes the values over the front of the output, unless one of them is not finite (rule 13). A caller that has
+// asked rule 1 lends an output with room for them.
 pub fn finish(values: &[f64], out: &mut [f64]) -> Answer
     requires { ⌜ length (now values) ≤ length (now out) ⌝ }
     ensures answer { λ r. ⌜ r ≡ answerOf (finishingList (now (values .entry))) ⌝ }
@@ -22,8 +22,8 @@ pub fn finish(values: &[f64], out: &mut [f64]) -> Answer
     lists::and_rule(Answer::Served, Refusal::Overflow, !finite)
 }
 
-// Writes the values over the front of the output where they are wanted, and else nothing. `finish` hands on that
-// it has room for them.
+// Writes the values over the front of the output where they are wanted, and else nothing. A caller lends an
+// output with room for them.
 fn store(wanted: bool, values: &[f64], out: &mut [f64])
     requires { ⌜ length (now values) ≤ length (now out) ⌝ }
     ensures { λ _. ⌜ now (out .exit) ≡ cond wanted (now (values .entry) ++ drop (length (now (values .entry))) (now (out .entry))) (now (out .entry)) ⌝ }

@@ -72,7 +72,7 @@ fn step_variance(alpha: f64, times: &[f64], sigmas: &[f64], time_step: f64, step
     schedules::variance_of(alpha, times, sigmas, start, start + time_step)
 }
 
-// The variances over as many steps as the list has places: `transition_variances` lends at most 1,024.
+// The variances over as many steps as the list has places: a caller behind rule 1 lends at most 1,024.
 fn variances(alpha: f64, times: &[f64], sigmas: &[f64], time_step: f64, out: &mut [f64])
     requires { ⌜ length (now out) ≤ 1024 ⌝ }
     ensures { λ _. ⌜ now (out .exit) ≡ variancesOf alpha (now (times .entry)) (now (sigmas .entry)) «time_step» 0 (length (now (out .entry))) ⌝ }

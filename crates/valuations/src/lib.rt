@@ -1,5 +1,5 @@
-// closedformhullwhiteswaptionpricer.rs behind the rules of its call: payer and receiver swaptions by Jamshidian's
-// decomposition, the DualFwd pricer by its values. `pricers` has the call.
+// closedformhullwhiteswaptionpricer.rs behind the rules of its call: payer and receiver swaptions by
+// Jamshidian's decomposition, the DualFwd pricer by its values. The call, which asks the rules, stands above.
 mod value;
 
 pub use value::Valuation;

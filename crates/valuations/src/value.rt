@@ -27,8 +27,8 @@ pub enum Valuation {
     Refused(Refusal),
 }
 
-// The factors and the terms. `pricers::swaption_value_on` has asked the rules: the coupons' lists are of one length
-// of at most 64, and the curve's times strictly rise.
+// The factors and the terms. A caller that has asked the rules has the coupons' lists of one length of at most
+// 64, and a curve whose times strictly rise.
 pub fn swaption_priced(
     option: SwaptionType,
     alpha: f64,
@@ -81,7 +81,8 @@ pub fn swaption_priced(
     )
 }
 
-// The search, the Newton step, the components. `swaption_priced` has the lists of one length of at most 64.
+// The search, the Newton step, the components. A caller that has worked the terms has the lists of one length
+// of at most 64.
 fn priced_by(
     option: SwaptionType,
     deviation: f64,

@@ -1,4 +1,4 @@
--- The functions that the numbers 1 to 14 of a record name. `agreesOf` lets no other number through, so the last case is 14.
+-- The functions that the numbers 1 to 14 of a record name. Whoever asks lets no other number through, so the last case is 14.
 use Prim.Native.Nat.{ℕ}
 use mathlib.Core.Bool.{cond}
 use lib.Dec.{eqb}

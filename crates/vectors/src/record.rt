@@ -13,7 +13,7 @@ pub struct Record {
     pub expected: u64,
 }
 
-// The record that starts at index `at` of s. `tallied` asks for one only where 40 bytes are left.
+// The record that starts at index `at` of s. A caller asks for one only where 40 bytes are left.
 pub fn parsed(s: &[u8], at: usize) -> Record
     requires { ⌜ at + 40 ≤ length (now s) ⌝ }
     ensures function { λ r. ⌜ r .function ≡ eightBytes (now (s .entry)) at ⌝ }

@@ -13,7 +13,7 @@ pub fn write(t: Tally) {
     write_total(t);
 }
 
-// The line of one of the 15 places that `write` goes through.
+// The line of one of the 15 places: a caller that writes the report goes through these.
 fn write_line(t: Tally, function: usize)
     requires { ⌜ function < 15 ⌝ }
 {

@@ -62,7 +62,7 @@ fn after(t: Tally, r: Record) -> Tally
     }
 }
 
-// One record more at a place, which `after` has from `slot_of`, within the lists.
+// One record more at a place. A caller has the place from `slot_of`, within the lists.
 fn seen(t: Tally, slot: usize) -> Tally
     requires { ⌜ slot < 15 ⌝ }
     ensures { λ n. ⌜ Seen slot (t .records) (t .seen) (n .records) (n .seen) ⌝ }
@@ -74,7 +74,7 @@ fn seen(t: Tally, slot: usize) -> Tally
     next
 }
 
-// One more that differs, at the same place of `after`.
+// One more that differs, at a place that a caller has from `slot_of` too.
 fn missed(t: Tally, slot: usize) -> Tally
     requires { ⌜ slot < 15 ⌝ }
     ensures { λ n. ⌜ (n .differing ≡ oneMore (t .differing)) × (n .differ ≡ set (t .differ) slot (oneMore (getD (t .differ) slot 0))) ⌝ }
@@ -86,7 +86,7 @@ fn missed(t: Tally, slot: usize) -> Tally
     next
 }
 
-// Where the first that differs stands, if none has before, at the same place of `after`.
+// Where the first that differs stands, if none has before, at a place that a caller has from `slot_of` too.
 fn marked(t: Tally, slot: usize) -> Tally
     requires { ⌜ slot < 15 ⌝ }
     ensures { λ n. ⌜ n .first ≡ cond (eqb (getD (t .differ) slot 0) 0) (set (t .first) slot (t .records)) (t .first) ⌝ }

@@ -6,7 +6,7 @@ ghost use Rattle.ieee.specs.Numbers.{zero};
 ghost use Rattle.walks.specs.Walk.{stepDecay, decaysFrom};
 use exponential::Two;
 
-// Writes the decay over each step of the grid, the first of them from 0. `walk_grid` lends a place for each.
+// Writes the decay over each step of the grid, the first of them from 0. A caller lends a place for each.
 pub fn write_decays(alpha: f64, grid: &[f64], out: &mut [f64])
     requires { ⌜ length (now out) ≡ length (now grid) ⌝ }
     ensures { λ _. ⌜ now (out .exit) ≡ decaysFrom alpha zero (now (grid .entry)) ⌝ }

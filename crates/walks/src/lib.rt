@@ -1,4 +1,5 @@
-// The points of a short-rate path, worked along its grid into a lent list. `paths` has the call.
+// The points of a short-rate path, worked along its grid into a lent list. The call, which asks the rules,
+// stands above.
 mod decays;
 mod walk;
 

@@ -21,7 +21,7 @@ pub struct State {
     pub variance: f64,
 }
 
-// One Euler step of the state to the time t, with the decay over it, which `walk_points` has from its list.
+// One Euler step of the state to the time t, with the decay over it, which a caller has worked ahead.
 fn state_after(alpha: f64, sigma: f64, t: f64, draw: f64, decay: f64, s: State) -> State
     requires { ⌜ decay ≡ stepDecay alpha (s .t) t ⌝ }
     ensures { λ r. ⌜ r ≡ stateAfter alpha sigma t draw s ⌝ }
@@ -44,8 +44,8 @@ fn shift_of(variance: f64, forward: f64) -> f64
     ieee::fused(0.5, variance, forward)
 }
 
-// The forward at t, from the factors at t and a day later, looked for at `hint` first. `walk_points` hands on
-// that the curve's times rise.
+// The forward at t, from the factors at t and a day later, looked for at `hint` first. A caller behind the
+// rules has a curve whose times strictly rise.
 fn forward_near(times: &[f64], factors: &[f64], hint: usize, t: f64) -> Spot
     requires { ⌜ inOrder true (now times) ≡ true ⌝ }
     ensures { λ r. ⌜ foundOf (r .found) ≡ forwardAt (now (times .entry)) (now (factors .entry)) t ⌝ }
@@ -66,8 +66,8 @@ fn forward_near(times: &[f64], factors: &[f64], hint: usize, t: f64) -> Spot
     }
 }
 
-// Works every point of the grid into `out`, or says why one cannot be worked. `paths::generate_on` has asked the
-// rules: the lists are of one length, and the times of the pillars and of the curve strictly rise.
+// Works every point of the grid into `out`, or says why one cannot be worked. A caller that has asked the rules
+// has the lists of one length, and pillars and a curve whose times strictly rise.
 pub fn walk_grid(
     alpha: f64,
     pillars: &[f64],
@@ -85,8 +85,9 @@ pub fn walk_grid(
     walk_points(alpha, pillars, sigmas, times, factors, grid, draws, out)
 }
 
-// The same, where `out` holds the decay over each step, as `walk_grid` has had it written: a point's rate takes
-// the place of its decay. A volatility and a forward are looked for where those of the point before were found.
+// The same, where `out` holds the decay over each step, as a caller has had it written by `write_decays`: a
+// point's rate takes the place of its decay. A volatility and a forward are looked for where those of the point
+// before were found.
 fn walk_points(
     alpha: f64,
     pillars: &[f64],

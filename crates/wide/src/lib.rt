@@ -46,7 +46,7 @@ fn lower(a: u64, b: u64) -> u64
     std::num::wrapping_add_u64(cross << 32, a0 * b0)
 }
 
-// v + w. `ieee::sum::sum` and `steps::step` show that the sum fits two words.
+// v + w. A caller shows that the sum fits two words.
 pub fn plus(vh: u64, vl: u64, wh: u64, wl: u64) -> Pair
     requires { ⌜ words vh vl + words wh wl < 2 ^ 128 ⌝ }
     ensures { λ r. ⌜ words (r .hi) (r .lo) ≡ words vh vl + words wh wl ⌝ }
@@ -62,7 +62,7 @@ pub fn plus(vh: u64, vl: u64, wh: u64, wl: u64) -> Pair
     }
 }
 
-// v - w. `ieee::sum::sum` has compared them.
+// v - w. A caller has compared them: w is at most v.
 pub fn minus(vh: u64, vl: u64, wh: u64, wl: u64) -> Pair
     requires { ⌜ words wh wl ≤ words vh vl ⌝ }
     ensures { λ r. ⌜ words (r .hi) (r .lo) ≡ words vh vl - words wh wl ⌝ }
@@ -108,8 +108,8 @@ pub fn width(hi: u64, lo: u64) -> u64
     }
 }
 
-// v shifted right by d, with the last digit sticky: 1 where it is 1 or a digit 1 was shifted out. v is
-// below 2^127, as `ieee::sum::sum` and `significands::pack::kept` show.
+// v shifted right by d, with the last digit sticky: 1 where it is 1 or a digit 1 was shifted out. A caller
+// shows that v is below 2^127.
 pub fn jam(hi: u64, lo: u64, d: u64) -> Pair
     requires { ⌜ hi < 2 ^ 63 ⌝ }
     ensures { λ r. ⌜ words (r .hi) (r .lo) ≡ jammed (words hi lo) (d + 1) ⌝ }
@@ -129,7 +129,7 @@ pub fn jam(hi: u64, lo: u64, d: u64) -> Pair
     }
 }
 
-// The same, by less than a word, as `jam` has tested.
+// The same, by less than a word, as a caller has tested.
 fn jam_near(hi: u64, lo: u64, d: u64) -> Pair
     requires { ⌜ (hi < 2 ^ 63) × (d < 64) ⌝ }
     ensures { λ r. ⌜ words (r .hi) (r .lo) ≡ jammed (words hi lo) (d + 1) ⌝ }
@@ -142,7 +142,7 @@ fn jam_near(hi: u64, lo: u64, d: u64) -> Pair
     }
 }
 
-// The same, by a word and d more, as `jam` has tested; `significands::pack::raised` shifts by a word.
+// The same, by a word and d more: a caller shifts by less than two words.
 pub fn jam_far(hi: u64, lo: u64, d: u64) -> u64
     requires { ⌜ d < 64 ⌝ }
     ensures { λ r. ⌜ r ≡ jammed (words hi lo) (64 + d + 1) ⌝ }
@@ -152,8 +152,8 @@ pub fn jam_far(hi: u64, lo: u64, d: u64) -> u64
     high / 2 * 2 + mark(high % 2 + out)
 }
 
-// v shifted right by a word and d more: what is left of it, and as the lower word the sticky digit, 1
-// where a digit 1 was shifted out. `steps::step` shows that it shifts by less than two words.
+// v shifted right by a word and d more: what is left of it, and as the lower word the sticky digit, 1 where a
+// digit 1 was shifted out. A caller shifts by less than two words.
 pub fn jam_below(hi: u64, lo: u64, d: u64) -> Pair
     requires { ⌜ d < 64 ⌝ }
     ensures { λ r. ⌜ (2 * r .hi + r .lo ≡ jammed (words hi lo) (64 + d)) × (r .lo ≤ 1) ⌝ }
