@@ -10,6 +10,13 @@ use Rattle.serving.proofs.Sending.{refusal-due, header-due, same-file, 
 use Rattle.serving.proofs.serve.serve_file.Statement.{statement}
 use Rattle.serving.proofs.serve.serve_file.Tie as tie
 
+-- the points of the walk that the rest speaks of, from the header's first line: where the layout is known to hold, and the start
+abbrev good : tie.After-first-line2 → tie.After-laid
+good c = c .before .before .before
+
+abbrev start : tie.After-laid → tie.Start
+start c = c .before .before .before .before
+
 lay-out-requires : tie.Need-lay-out-requires
 lay-out-requires c κs = search needs
 
@@ -46,8 +53,9 @@ slice-aggregate-send-2 c = search needs
 
 send-requires-2 : tie.Need-send-requires-2
 send-requires-2 c κs =
-    let s = c .before .before .before .before .before .before .before .before .before in
-    let e = sym (c .before .before .before .before .before .before .before .lay-out .ensures) ∙ c .before .before .before .before .before .laid .given .1 in
+    let g = good (c .before .before) in
+    let s = start g in
+    let e = sym (g .before .before .lay-out .ensures) ∙ g .laid .given .1 in
     let j = header-due (now (s .args .file)) _ 0 _ _ refl _ e (c .before .before .first-line2 .ensures) in
     due-of (now (s .args .file)) (s .args .sent) 0 _ (s .pre) (j .0) (j .1)
 
@@ -56,13 +64,14 @@ failed-requires c κs = search needs
 
 returns : tie.Need-returns
 returns c =
-    let s = c .before .before .before .before .before .before .before .before .before .before .before .before in
+    let s = start (good (c .before .before .before .before .before)) in
     (same-file (s .args .sent) (c .before .before .send2 .result) (c .before .before .send2 .ensures .0) ∙ s .pre .0, inl (sym (c .before .failed .ensures) ∙ c .if1 .taken))
 
 serve-jobs-requires : tie.Need-serve-jobs-requires
 serve-jobs-requires c κs =
-    let s = c .before .before .before .before .before .before .before .before .before .before .before .before .before in
-    let e = sym (c .before .before .before .before .before .before .before .before .before .before .before .lay-out .ensures) ∙ c .before .before .before .before .before .before .before .before .before .laid .given .1 in
+    let g = good (c .before .before .before .before .before .before) in
+    let s = start g in
+    let e = sym (g .before .before .lay-out .ensures) ∙ g .laid .given .1 in
     let sent = c .before .before .before .send2 .ensures in
     (e, next-due (now (s .args .file)) (s .args .sent) _ 0 _ (s .pre) sent (sym (c .before .before .failed .ensures) ∙ c .before .if1 .left), omega (arith, sent .1, sent .2, s .pre .2))
 
