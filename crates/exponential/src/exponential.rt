@@ -7,7 +7,7 @@ ghost use lib.Signed.{mag};
 ghost use lib.Ieee.{binary64, ofInt};
 ghost use Rattle.ieee.specs.Numbers.{one};
 ghost use Rattle.ieee.specs.Rows.{Gives};
-ghost use Rattle.exponential.specs.Exp.{moderate, nearestWhole, kOf, reducedOf, seriesOf, twoTo, scaleOf, withinLimits, expOf, expM1Of};
+ghost use Rattle.exponential.specs.Exp.{moderate, nearestWhole, kOf, reducedOf, turnOf, seriesOf, twoTo, scaleOf, withinLimits, expOf, expM1Of};
 ghost use Rattle.exponential.specs.ExactCases.{exactCases};
 use elementary::LN_2_HIGH;
 use elementary::LN_2_LOW;
@@ -152,6 +152,13 @@ fn by_halves(p: f64) -> i32
     if q >= 0 { (q + 1) / 2 } else { (q - 1) / 2 }
 }
 
+// A turn of the series.
+pub fn turn(x: f64, p: f64, n: f64) -> f64
+    ensures { λ r. ⌜ r ≡ turnOf x p n ⌝ }
+{
+    1.0 + (x * p) / n
+}
+
 // p starts at 1, and for n = last + turns - 1 down to last becomes 1 + (x × p)/n. `exp_m1` and `guessed`
 // give both as literals.
 fn series(x: f64, last: u32, turns: u32) -> f64
@@ -164,7 +171,7 @@ fn series(x: f64, last: u32, turns: u32) -> f64
     while k > 0 {
         k -= 1;
         let n = last + k;
-        p = 1.0 + (x * p) / (n as f64);
+        p = turn(x, p, n as f64);
     }
     p
 }
@@ -179,8 +186,8 @@ fn series_two(x: f64, y: f64) -> Two
     while k > 0 {
         k -= 1;
         let n = (1 + k) as f64;
-        p = 1.0 + (x * p) / n;
-        q = 1.0 + (y * q) / n;
+        p = turn(x, p, n);
+        q = turn(y, q, n);
     }
     Two {
         first: p,
@@ -199,9 +206,8 @@ fn guessed(x: f64) -> f64
     while k > 0 {
         k -= 1;
         let n = (1 + k) as f64;
-        let product = x * p;
-        let guess = 1.0 + product * (1.0 / n);
-        if same(guess, 1.0 + product / n) {
+        let guess = 1.0 + (x * p) * (1.0 / n);
+        if same(guess, turn(x, p, n)) {
             p = guess;
         } else {
             return series(x, 1, 13);
