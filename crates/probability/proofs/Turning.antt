@@ -3,7 +3,7 @@ use mathlib.Core.Path.{_≡_, refl, sym, ap, _∙_, subst}
 use mathlib.Core.Bool.{true, false, true≢false}
 use mathlib.Core.List.{List}
 use lib.ListN.{take}
-use Prim.Native.Nat.{ℕ, _+_, _*_, _^_, _≤_, _<_}
+use Prim.Native.Nat.{ℕ, zero, suc, _+_, _*_, _^_, _≤_, _<_}
 use native.Mathlib.Nat.{le-trans, le-of-eq, le-of-lt, mul-le-mul-right, le-of-mul-le-mul-right}
 use native.Mathlib.Omega.{arith}
 use lib.Dec.{lit≤}
@@ -117,26 +117,51 @@ module _ (z : Float) (y : ℕ) (Z : Held z y 62) where
       let b5 = s5 .value 49 _ z _ (lit≤ tt) b4 Z den5 in
       s6 .value 47 _ z _ (lit≤ tt) b5 Z den6
 
--- ---- the sizes: at most A and B after some turns
+-- ---- the sizes after n turns
 
-abbrev pub Within : ℕ → ℕ → ℕ → ℕ → Type 0
-Within A B num den = (num ≤ A) × (den ≤ B)
+abbrev pub numMost : ℕ → ℕ
+numMost zero = numFixed 0
+numMost (suc n) = numMost n + numFixed (suc n) + 512
 
-pub begins : (y : ℕ) (r : Float) (num den : ℕ) (p : Float) → Begun y r num den p → Within (numFixed 0) ((denFixed 0) + (denFixed 1) + 512) num den
-begins y r num den p b = (le-of-eq (b .numerator), b .denominator .most)
+abbrev pub denMost : ℕ → ℕ
+denMost zero = denFixed 0 + denFixed 1 + 512
+denMost (suc n) = denMost n + denFixed (suc (suc n)) + 512
 
-module _ (A B num den : ℕ) (w : Within A B num den) (c d : ℕ) where
-  pub room : 2 ^ 53 ≤ c → A + c < 2 ^ 62 → 2 ^ 53 ≤ d → B + d < 2 ^ 62 → Room num den c d
-  room lc uc ld ud = (lc, under num A c (w .0) uc, ld, under den B d (w .1) ud)
+abbrev Within : ℕ → ℕ → ℕ → Type 0
+Within n num den = (num ≤ numMost n) × (den ≤ denMost n)
+
+-- of both arguments
+pub record Sizes (n num den num2 den2 : ℕ) : Type 0 where
+  pub first : Within n num den
+  pub second : Within n num2 den2
+
+begun-within : {y : ℕ} {r : Float} {num den : ℕ} {p : Float} → Begun y r num den p → Within 0 num den
+begun-within b = (le-of-eq (b .numerator), b .denominator .most)
+
+pub begins : {y x : ℕ} {r q : Float} {num den num2 den2 : ℕ} {p p2 : Float} → Begun y r num den p → Begun x q num2 den2 p2 → Sizes 0 num den num2 den2
+begins b b2 = record { first = begun-within b; second = begun-within b2 }
+
+module _ (n : ℕ) {num den num2 den2 : ℕ} (s : Sizes n num den num2 den2) where
+  pub room : (c d : ℕ) → 2 ^ 53 ≤ c → numMost n + c < 2 ^ 62 → 2 ^ 53 ≤ d → denMost n + d < 2 ^ 62 → Room num den c d × Room num2 den2 c d
+  room c d lc uc ld ud = (
+    (lc, under num (numMost n) c (s .first .0) uc, ld, under den (denMost n) d (s .first .1) ud),
+    (lc, under num2 (numMost n) c (s .second .0) uc, ld, under den2 (denMost n) d (s .second .1) ud),
+  )
     where
       under : (n A c : ℕ) → n ≤ A → A + c < 2 ^ 62 → n + c < 2 ^ 62
       under n A c l u = omega arith
 
-  pub goes-on : (p : Float) (y : ℕ) (r n m : Float) (num' den' : ℕ) (p' : Float) → Turned num den p y r c d n m num' den' p' → Within (A + c + 512) (B + d + 512) num' den'
-  goes-on p y r n m num' den' p' t = (over num A c num' (w .0) (t .numerator .most), over den B d den' (w .1) (t .denominator .most))
-    where
-      over : (n A c r : ℕ) → n ≤ A → r ≤ n + c + 512 → r ≤ A + c + 512
-      over n A c r l u = omega arith
+over : (n A c r : ℕ) → n ≤ A → r ≤ n + c + 512 → r ≤ A + c + 512
+over n A c r l u = omega arith
+
+turned-within : (n : ℕ) {num den : ℕ} {p : Float} {y : ℕ} {r k m : Float} {num' den' : ℕ} {p' : Float} → Within n num den
+    → Turned num den p y r (numFixed (suc n)) (denFixed (suc (suc n))) k m num' den' p' → Within (suc n) num' den'
+turned-within n {num} {den} {p} {y} {r} {k} {m} {num'} {den'} w t = (over num (numMost n) (numFixed (suc n)) num' (w .0) (t .numerator .most), over den (denMost n) (denFixed (suc (suc n))) den' (w .1) (t .denominator .most))
+
+pub goes-on : (n : ℕ) {num den num2 den2 : ℕ} {p p2 : Float} {y x : ℕ} {r q k m : Float} {num' den' num2' den2' : ℕ} {p' p2' : Float} → Sizes n num den num2 den2
+    → Turned num den p y r (numFixed (suc n)) (denFixed (suc (suc n))) k m num' den' p' × Turned num2 den2 p2 x q (numFixed (suc n)) (denFixed (suc (suc n))) k m num2' den2' p2'
+    → Sizes (suc n) num' den' num2' den2'
+goes-on n s t = record { first = turned-within n (s .first) (t .0); second = turned-within n (s .second) (t .1) }
 
 -- ---- the series
 
