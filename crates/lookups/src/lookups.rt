@@ -18,11 +18,7 @@ pub struct Spot {
 }
 
 // The factor at a time that is on the curve, numbers compared. It is looked for by halves, for the times
-// strictly rise: behind rule 4 this is handed on by `options::bond_option_priced`,
-// `options::optionlet_priced`, `models::a_priced`, `models::zcb_priced`, `models::forward_priced`,
-// `models::theta_priced`, `models::theta_from`, `quotes::annuity_priced`, `terms::fetch`,
-// `swaptions::model_priced`, `valuations::swaption_priced`, `calibration::caplet_fitted` and
-// `calibration::swaption_fitted`.
+// strictly rise: whoever asks stands behind rule 4, which has tested them, and hands that on.
 pub fn factor(times: &[f64], factors: &[f64], t: f64) -> Found
     requires { ⌜ inOrder true (now times) ≡ true ⌝ }
     ensures { λ r. ⌜ foundOf r ≡ factorAt (now (times .entry)) (now (factors .entry)) t ⌝ }
