@@ -11,6 +11,7 @@ ghost use Rattle.exponential.specs.Exp.{moderate, nearestWhole, kOf, red
 ghost use Rattle.exponential.specs.ExactCases.{exactCases};
 use elementary::LN_2_HIGH;
 use elementary::LN_2_LOW;
+use elementary::same;
 
 // Above the first exp is infinite, below the second 0.
 const TOP: f64 = 710.0;
@@ -214,13 +215,6 @@ fn guessed(x: f64) -> f64
         }
     }
     p
-}
-
-// Whether a guess is the sum, which is above 0 where it is: of two equal zeros the signs might differ.
-fn same(guess: f64, sum: f64) -> bool
-    ensures { λ r. ⌜ (r ≡ true → guess ≡ sum) ⌝ }
-{
-    if guess == sum { guess > 0.0 } else { false }
 }
 
 // p × 2^a × 2^b, a being k/2 toward zero and b = k - a. `exp`, `exp_two` and `probability::both::last` have
