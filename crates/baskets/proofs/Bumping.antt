@@ -81,12 +81,7 @@ module _ {alpha : Float} {xs fs : List Float} {ns : List Bool} {ks ts ends vs ss
 
   module _ {i : ℕ} (h : i < length ns) (f : Bumping alpha xs fs ns ks ts ends vs ss i ds cs) where
     here : from ns ks ts ends vs i ≡ entryAt ns ks ts ends vs i ∷ from ns ks ts ends vs (i + 1)
-    here =
-        let k : i < length ks = omega arith in
-        let t : i < length ts = omega arith in
-        let e : i < length ends = omega arith in
-        let v : i < length vs = omega arith in
-        next-entry ns ks ts ends vs i h k t e v
+    here = next-entry ns ks ts ends vs i (f .strikes) (f .starts) (f .ended) (f .quoted) h
 
     sigma-here : drop i ss ≡ getD ss i nan ∷ drop (i + 1) ss
     sigma-here = let l : i < length ss = omega arith in next ss i l

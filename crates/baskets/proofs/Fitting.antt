@@ -66,12 +66,7 @@ module _ {alpha : Float} {xs fs : List Float} {ns : List Bool} {ks ts ends vs : 
 
   module _ {i : ℕ} (h : i < length ns) (f : Fitting alpha xs fs ns ks ts ends vs i ss cs hs rs) where
     here : from ns ks ts ends vs i ≡ entryAt ns ks ts ends vs i ∷ from ns ks ts ends vs (i + 1)
-    here =
-        let k : i < length ks = omega arith in
-        let t : i < length ts = omega arith in
-        let e : i < length ends = omega arith in
-        let v : i < length vs = omega arith in
-        next-entry ns ks ts ends vs i h k t e v
+    here = next-entry ns ks ts ends vs i (f .strikes) (f .starts) (f .ended) (f .quoted) h
 
     pub turn : {fit : Fit} {status : Float} → status ≡ statusOf (fit .converged) → capletFitted (quoteOf (getD ns i false)) alpha xs fs (getD ks i nan) (getD ts i nan) (getD ends i nan) (getD vs i nan) ≡ served fit
         → Fitting alpha xs fs ns ks ts ends vs (i + 1) (set ss i (fit .sigma)) (set cs i status) (set hs i (countOf (fit .halvings))) (set rs i (fit .residual))

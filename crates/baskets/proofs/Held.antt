@@ -12,28 +12,18 @@ use Rattle.lists.specs.declared.refusals.Refusal.the-variants as R
 use Rattle.lists.specs.Refusals.{Outcome, served, refused, answerNumber, answerOf, following}
 use Rattle.lookups.specs.Lookups.{Maybe, just, nothing, factorAt, needing}
 use Rattle.lists.proofs.Outcomes.{not-both}
-use Rattle.terms.proofs.Callers.{ends-so, ends-otherwise}
 use Rattle.bisection.specs.declared.result.Fit.{Fit}
 use Rattle.bisection.specs.Result.{finishingFit}
 use Rattle.bisection.specs.Solve.{solveOf}
 use Rattle.bisection.specs.Demand3.{Assured}
-use Rattle.bisection.proofs.Finishing.{allFinite}
 use Rattle.bisection.proofs.Demand3.{demand3}
 use Rattle.objectives.specs.declared.market.Quote.{Quote}
 use Rattle.objectives.specs.Objective.{capletObjective}
+use Rattle.objectives.proofs.Finished.{finished-served, finished-wanting}
 use Rattle.calibration.specs.Fits.{capletFitted}
 use Rattle.entries.specs.Entries.{Entry}
 use Rattle.baskets.specs.Basket.{fitOf}
 use Rattle.baskets.specs.Demand3.{FitHeld}
-
--- ---- rule 13 after a fit
-finished-served : (o : Outcome Fit) (fit : Fit) → following o finishingFit ≡ served fit → o ≡ served fit
-finished-served (served x) fit e = ap served (ends-so (allFinite x) x e)
-finished-served (refused q) fit e = absurd (not-both e)
-
-finished-wanting : (o : Outcome Fit) → following o finishingFit ≡ refused R.NoBracket → o ≡ refused R.NoBracket
-finished-wanting (served x) e = absurd (ends-otherwise (allFinite x) x e)
-finished-wanting (refused q) e = let z : q ≡ R.NoBracket = cc in ap refused z
 
 module _ (alpha : Float) (xs fs : List Float) (e : Entry) (vol : Float) where
   abbrev pub objective : Float → Float → Float → Outcome Float

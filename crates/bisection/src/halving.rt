@@ -3,6 +3,7 @@
 ghost use mathlib.Core.Path.{_≡_};
 ghost use mathlib.Core.Bool.{true};
 ghost use Rattle.bisection.specs.Solve.{sameSign, closeEnough, movedTo};
+use elementary::same;
 
 // The last two ends with their residuals.
 pub struct Ends {
@@ -45,16 +46,6 @@ pub fn moved(ends: Ends, sigma: f64, residual: f64) -> Ends
             high_residual: residual,
         }
     }
-}
-
-// Whether two values are surely the same. Of zeros it says no: `==` does not see their sign.
-fn same(x: f64, y: f64) -> bool
-    ensures { λ r. ⌜ (r ≡ true → x ≡ y) ⌝ }
-{
-    if x != y {
-        return false;
-    }
-    x != 0.0
 }
 
 // Whether a halving surely left everything as it was: then no further one moves anything.

@@ -9,27 +9,18 @@ use Rattle.lists.specs.Refusals.{Outcome, served, refused, firstOf, following}
 use Rattle.lookups.specs.Lookups.{just, factorAt}
 use Rattle.lists.specs.Faults.{curveFaults}
 use Rattle.lists.proofs.Outcomes.{not-both}
-use Rattle.terms.proofs.Callers.{Late, past-rules, past-lookups, ends-so, ends-otherwise}
+use Rattle.terms.proofs.Callers.{Late, past-rules, past-lookups}
 use Rattle.terms.proofs.Begun.{Searches, searches, begins}
 use Rattle.bisection.specs.declared.result.Fit.{Fit}
 use Rattle.bisection.specs.Result.{finishingFit}
 use Rattle.bisection.specs.Solve.{solveOf}
-use Rattle.bisection.proofs.Finishing.{allFinite}
 use Rattle.bisection.proofs.Demand3.{demand3}
 use Rattle.objectives.specs.declared.market.Quote.{Quote}
 use Rattle.objectives.specs.Objective.{capletObjective, swaptionObjective}
 use Rattle.objectives.proofs.Searches.{value-there, root-there, want-there, unbracketed-there, bracket-wanted}
+use Rattle.objectives.proofs.Finished.{finished-served, finished-wanting}
 use Rattle.calibration.specs.Fits.{capletRules, swaptionRulesOn, capletFitted, capletFitOutcome, swaptionFitted, swaptionFitOutcome}
 use Rattle.calibration.specs.Demand3.{CapletAssured, FitBegun, RootAt, SwaptionAssured, WantsBracket}
-
--- ---- rule 13 after a fit: it is the fit itself that is served, and no other refusal is put for the fit's own
-finished-served : (o : Outcome Fit) (fit : Fit) → following o finishingFit ≡ served fit → o ≡ served fit
-finished-served (served x) fit e = ap served (ends-so (allFinite x) x e)
-finished-served (refused q) fit e = absurd (not-both e)
-
-finished-wanting : (o : Outcome Fit) → following o finishingFit ≡ refused R.NoBracket → o ≡ refused R.NoBracket
-finished-wanting (served x) e = absurd (ends-otherwise (allFinite x) x e)
-finished-wanting (refused q) e = let z : q ≡ R.NoBracket = cc in ap refused z
 
 -- ---- caplets
 module _ (quote : Quote) (alpha : Float) (ts fs : List Float) (strike t S vol : Float) where

@@ -1,5 +1,6 @@
 // The functions with no series: midpoint, max, min, abs, signum, is_finite.
 ghost use mathlib.Core.Path.{_≡_};
+ghost use mathlib.Core.Bool.{true};
 ghost use lib.Ieee.Scale.{finite};
 ghost use Rattle.elementary.specs.Simple.{midpointOf, maxOf, minOf, absOf, signumOf};
 
@@ -64,4 +65,14 @@ pub fn is_finite(x: f64) -> bool
 {
     let infinity = 1.0 / 0.0;
     (x < infinity) & (-infinity < x)
+}
+
+// Whether two f64 are surely the same value. Of zeros it says no: `==` does not see their sign.
+pub fn same(x: f64, y: f64) -> bool
+    ensures { λ r. ⌜ (r ≡ true → x ≡ y) ⌝ }
+{
+    if x != y {
+        return false;
+    }
+    x != 0.0
 }

@@ -4,6 +4,7 @@ use mathlib.Core.Bool.{Bool, true, false, _||_}
 use mathlib.Core.List.{List, [], _∷_}
 use Prim.Native.Nat.{ℕ, _+_, _≤_, _<_}
 use native.Mathlib.Numerals.{add-one}
+use native.Mathlib.Omega.{arith}
 use lib.ListN.{length, getD, drop, drop-of-length-le}
 use lib.Seq.{drop-cons}
 use lib.Ieee.{Float, nan, le}
@@ -69,9 +70,10 @@ module _ (ns : List Bool) (ks ts ends vs : List Float) where
   abbrev pub entryAt : ℕ → Entry
   entryAt i = record { quote = quoteOf (getD ns i false); strike = getD ks i nan; start = getD ts i nan; end = getD ends i nan; vol = getD vs i nan }
 
-  pub next-entry : (i : ℕ) → i < length ns → i < length ks → i < length ts → i < length ends → i < length vs → from i ≡ entryAt i ∷ from (i + 1)
+  -- of lists of one length
+  pub next-entry : (i : ℕ) → length ks ≡ length ns → length ts ≡ length ns → length ends ≡ length ns → length vs ≡ length ns → i < length ns → from i ≡ entryAt i ∷ from (i + 1)
   unfolding entriesOf
-  next-entry i a b c e f = rw (next-quote ns i a, next ks i b, next ts i c, next ends i e, next vs i f)
+  next-entry i k t e v h = rw (next-quote ns i h, next ks i (omega arith), next ts i (omega arith), next ends i (omega arith), next vs i (omega arith))
 
   pub no-entries : (i : ℕ) → length ns ≤ i → from i ≡ []
   unfolding entriesOf

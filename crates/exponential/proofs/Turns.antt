@@ -3,13 +3,12 @@ use mathlib.Core.Path.{_≡_, refl}
 use Prim.Native.Nat.{ℕ, zero, suc, _+_, _-_, _≤_, _<_}
 use native.Mathlib.Omega.{arith}
 use native.Mathlib.Numerals.{sub-one}
-use lib.Ieee.{Float, binary64, add, mul, div, ofInt}
+use lib.Ieee.{Float, binary64, ofInt}
 use lib.IntN.{pos}
-use Rattle.ieee.specs.Numbers.{one}
-use Rattle.exponential.specs.Exp.{seriesOf}
+use Rattle.exponential.specs.Exp.{turnOf, seriesOf}
 
 pub series-turn : (x : Float) (last k : ℕ) (p : Float) → 0 < k
-    → seriesOf x last (k - 1) (add binary64 one (div binary64 (mul binary64 x p) (ofInt binary64 (pos (last + (k - 1)))))) ≡ seriesOf x last k p
+    → seriesOf x last (k - 1) (turnOf x p (ofInt binary64 (pos (last + (k - 1))))) ≡ seriesOf x last k p
 unfolding seriesOf
 series-turn x last zero p h = absurd (let z : ⊥ = omega arith in z)
 series-turn x last (suc k) p h = simp sub-one

@@ -25,10 +25,14 @@ kOf x = nearestWhole (x ⊗ log2e)
 abbrev pub reducedOf : Float → ℤ → Float
 reducedOf x k = (x ⊖ ofInt binary64 k ⊗ ln2hi) ⊖ ofInt binary64 k ⊗ ln2lo
 
--- p becomes 1 + (x × p)/n for n = last + k - 1 down to last, in k turns
+-- a turn of the series: 1 + (x × p)/n
+abbrev pub turnOf : Float → Float → Float → Float
+turnOf x p n = one ⊕ (x ⊗ p) ⊘ n
+
+-- p becomes that for n = last + k - 1 down to last, in k turns
 unfoldable pub seriesOf : Float → ℕ → ℕ → Float → Float
 seriesOf x last zero p = p
-seriesOf x last (suc k) p = seriesOf x last k (one ⊕ (x ⊗ p) ⊘ ofInt binary64 (pos (last + k)))
+seriesOf x last (suc k) p = seriesOf x last k (turnOf x p (ofInt binary64 (pos (last + k))))
 
 -- 2 ^ a, exactly
 abbrev pub twoTo : ℤ → Float

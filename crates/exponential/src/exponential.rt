@@ -7,10 +7,11 @@ ghost use lib.Signed.{mag};
 ghost use lib.Ieee.{binary64, ofInt};
 ghost use Rattle.ieee.specs.Numbers.{one};
 ghost use Rattle.ieee.specs.Rows.{Gives};
-ghost use Rattle.exponential.specs.Exp.{moderate, nearestWhole, kOf, reducedOf, seriesOf, twoTo, scaleOf, withinLimits, expOf, expM1Of};
+ghost use Rattle.exponential.specs.Exp.{moderate, nearestWhole, kOf, reducedOf, turnOf, seriesOf, twoTo, scaleOf, withinLimits, expOf, expM1Of};
 ghost use Rattle.exponential.specs.ExactCases.{exactCases};
 use elementary::LN_2_HIGH;
 use elementary::LN_2_LOW;
+use elementary::same;
 
 // Above the first exp is infinite, below the second 0.
 const TOP: f64 = 710.0;
@@ -153,6 +154,13 @@ fn by_halves(p: f64) -> i32
     if q >= 0 { (q + 1) / 2 } else { (q - 1) / 2 }
 }
 
+// A turn of the series.
+pub fn turn(x: f64, p: f64, n: f64) -> f64
+    ensures { λ r. ⌜ r ≡ turnOf x p n ⌝ }
+{
+    1.0 + (x * p) / n
+}
+
 // p starts at 1, and for n = last + turns - 1 down to last becomes 1 + (x × p)/n. A caller gives both as
 // literals, below 100.
 fn series(x: f64, last: u32, turns: u32) -> f64
@@ -165,7 +173,7 @@ fn series(x: f64, last: u32, turns: u32) -> f64
     while k > 0 {
         k -= 1;
         let n = last + k;
-        p = 1.0 + (x * p) / (n as f64);
+        p = turn(x, p, n as f64);
     }
     p
 }
@@ -180,8 +188,8 @@ fn series_two(x: f64, y: f64) -> Two
     while k > 0 {
         k -= 1;
         let n = (1 + k) as f64;
-        p = 1.0 + (x * p) / n;
-        q = 1.0 + (y * q) / n;
+        p = turn(x, p, n);
+        q = turn(y, q, n);
     }
     Two {
         first: p,
@@ -200,22 +208,14 @@ fn guessed(x: f64) -> f64
     while k > 0 {
         k -= 1;
         let n = (1 + k) as f64;
-        let product = x * p;
-        let guess = 1.0 + product * (1.0 / n);
-        if same(guess, 1.0 + product / n) {
+        let guess = 1.0 + (x * p) * (1.0 / n);
+        if same(guess, turn(x, p, n)) {
             p = guess;
         } else {
             return series(x, 1, 13);
         }
     }
     p
-}
-
-// Whether a guess is the sum, which is above 0 where it is: of two equal zeros the signs might differ.
-fn same(guess: f64, sum: f64) -> bool
-    ensures { λ r. ⌜ (r ≡ true → guess ≡ sum) ⌝ }
-{
-    if guess == sum { guess > 0.0 } else { false }
 }
 
 // p × 2^a × 2^b, a being k/2 toward zero and b = k - a. A caller has k from `reduce`, below 2000 in size.

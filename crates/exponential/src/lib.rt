@@ -14,4 +14,5 @@ pub use exponential::exp_two;
 pub use exponential::Reduced;
 pub use exponential::reduce;
 pub use exponential::scale;
+pub use exponential::turn;
 pub use exponential::within_limits;

@@ -142,17 +142,14 @@ fn swaption_work(
 fn fit_work(
     curve: Faults,
     alpha: f64,
-    pillars: &[f64],
-    sigmas: &[f64],
     times: &[f64],
     factors: &[f64],
     payments: &[f64],
     accruals: &[f64],
-    owns: &[f64],
     j: Job,
 ) -> Worked
     requires { ⌜ curve ≡ curveFaults (now times) (now factors) ⌝ }
-    ensures { λ r. ⌜ wholeOf r ≡ fitWhole (listsOf alpha (now (pillars .entry)) (now (sigmas .entry)) (now (times .entry)) (now (factors .entry)) (now (payments .entry)) (now (accruals .entry)) (now (owns .entry)) [] [] []) j ⌝ }
+    ensures { λ r. ⌜ wholeOf r ≡ fitWhole (listsOf alpha [] [] (now (times .entry)) (now (factors .entry)) (now (payments .entry)) (now (accruals .entry)) [] [] [] []) j ⌝ }
 {
     if j.kind == 8 {
         return Worked::Fit(calibration::fit_caplet_on(
@@ -239,16 +236,5 @@ pub fn work(
             j,
         );
     }
-    fit_work(
-        curve,
-        alpha,
-        pillars,
-        sigmas,
-        times,
-        factors,
-        payments,
-        accruals,
-        owns,
-        j,
-    )
+    fit_work(curve, alpha, times, factors, payments, accruals, j)
 }

@@ -1,4 +1,5 @@
 -- The formulas of hullwhitemodel.rs that are no kind, as calls: B, A, zcb_price, zcb_price_volatility, short_rate_variance, the forward rate and theta. "In the formulas `t` is an option time, `T` or `S` a bond time."
+use mathlib.Core.Path.{_≡_}
 use mathlib.Core.Bool.{cond}
 use mathlib.Core.List.{List}
 use lib.Ieee.{Float, lt}
@@ -6,7 +7,8 @@ use Rattle.ieee.specs.Rounded.{_⊕_, _⊖_}
 use Rattle.ieee.specs.Numbers.{zero, two}
 use Rattle.ieee.specs.Fused.{fusedOf}
 use Rattle.lists.specs.Refusals.{Outcome, unless, finishing}
-use Rattle.lookups.specs.Lookups.{factorAt, needing}
+use Rattle.lookups.specs.Lookups.{foundOf, factorAt, needing}
+use Rattle.lookups.specs.declared.lookups.Found.{Found}
 use Rattle.lists.specs.Faults.{curveFaults}
 use Rattle.formulas.specs.HullWhite.{h, bOf, forwardOf, aOf, zcbOf, volatilityOf, slopeOf, thetaOf, shortRateVarianceOf}
 use Rattle.models.specs.Rules.{noFaults, forwardRules, thetaRules}
@@ -21,24 +23,27 @@ volatilityOutcome alpha sigma t T = unless (optionRules noFaults alpha t T sigma
 unfoldable pub shortRateVarianceOutcome : Float → Float → Float → Float → Outcome Float
 shortRateVarianceOutcome alpha t T sigma = unless (optionRules noFaults alpha t T sigma zero) (finishing (shortRateVarianceOf alpha t T sigma))
 
--- A(t, T) wants the factors at t, T and t + h
-unfoldable pub aPriced : Float → List Float → List Float → Float → Float → Float → Outcome Float
-aPriced alpha ts fs t T sigma =
+-- A(t, T) wants the factors at t, T and t + h; b is B(t, T). What is then done with A is the rest's.
+abbrev pub withA : Float → List Float → List Float → Float → Float → Float → Float → (Float → Outcome Float) → Outcome Float
+withA alpha ts fs t T sigma b rest =
     needing (factorAt ts fs t) (λ pt.
     needing (factorAt ts fs T) (λ pT.
     needing (factorAt ts fs (t ⊕ h)) (λ pPlus.
-    finishing (aOf alpha t sigma (bOf alpha t T) (forwardOf pt pPlus) pt pT))))
+    rest (aOf alpha t sigma b (forwardOf pt pPlus) pt pT))))
+
+-- for the contract of the part that finds A: what it found goes on as that
+abbrev pub FoundA : Float → List Float → List Float → Float → Float → Float → Float → Found → Type 0
+FoundA alpha ts fs t T sigma b found = (rest : Float → Outcome Float) → needing (foundOf found) rest ≡ withA alpha ts fs t T sigma b rest
+
+unfoldable pub aPriced : Float → List Float → List Float → Float → Float → Float → Outcome Float
+aPriced alpha ts fs t T sigma = withA alpha ts fs t T sigma (bOf alpha t T) finishing
 
 unfoldable pub aOutcome : Float → List Float → List Float → Float → Float → Float → Outcome Float
 aOutcome alpha ts fs t T sigma = unless (optionRules (curveFaults ts fs) alpha t T sigma zero) (aPriced alpha ts fs t T sigma)
 
 -- the price at t of a bond that ends at T, at the short rate r
 unfoldable pub zcbPriced : Float → List Float → List Float → Float → Float → Float → Float → Outcome Float
-zcbPriced alpha ts fs r t T sigma =
-    needing (factorAt ts fs t) (λ pt.
-    needing (factorAt ts fs T) (λ pT.
-    needing (factorAt ts fs (t ⊕ h)) (λ pPlus.
-    finishing (zcbOf (aOf alpha t sigma (bOf alpha t T) (forwardOf pt pPlus) pt pT) (bOf alpha t T) r))))
+zcbPriced alpha ts fs r t T sigma = let b = bOf alpha t T in withA alpha ts fs t T sigma b (λ a. finishing (zcbOf a b r))
 
 unfoldable pub zcbOutcome : Float → List Float → List Float → Float → Float → Float → Float → Outcome Float
 zcbOutcome alpha ts fs r t T sigma = unless (optionRules (curveFaults ts fs) alpha t T sigma r) (zcbPriced alpha ts fs r t T sigma)

@@ -4,7 +4,7 @@ ghost use mathlib.Core.Path.{_≡_};
 ghost use mathlib.Core.Bool.{true};
 ghost use Rattle.lists.specs.Checks.{inOrder};
 ghost use Rattle.lists.specs.Refusals.{Priced, outcomeOf};
-ghost use Rattle.models.specs.Curves.{bOutcome, volatilityOutcome, shortRateVarianceOutcome, aPriced, aOutcome, zcbPriced, zcbOutcome, forwardPriced, forwardOutcome, thetaPriced, thetaFrom, thetaOutcome};
+ghost use Rattle.models.specs.Curves.{bOutcome, volatilityOutcome, shortRateVarianceOutcome, FoundA, aPriced, aOutcome, zcbPriced, zcbOutcome, forwardPriced, forwardOutcome, thetaPriced, thetaFrom, thetaOutcome};
 use super::rules;
 use lists::Answer;
 use lists::Price;
@@ -57,18 +57,38 @@ fn a_priced(alpha: f64, times: &[f64], factors: &[f64], t: f64, bond: f64, sigma
     requires { ⌜ inOrder true (now times) ≡ true ⌝ }
     ensures { λ r. ⌜ outcomeOf r ≡ aPriced alpha (now (times .entry)) (now (factors .entry)) t bond sigma ⌝ }
 {
-    let Found::At(p_t) = lookups::factor(times, factors, t) else {
+    let b = formulas::b_of(alpha, t, bond);
+    let Found::At(a) = a_found(alpha, times, factors, t, bond, sigma, b) else {
         return Price::Refused(Refusal::OffCurve);
+    };
+    lists::served(a)
+}
+
+// A(t, bond), where the curve has the times that it needs; b is B(t, bond). Whoever asks has the curve's
+// times strictly rising.
+fn a_found(
+    alpha: f64,
+    times: &[f64],
+    factors: &[f64],
+    t: f64,
+    bond: f64,
+    sigma: f64,
+    b: f64,
+) -> Found
+    requires { ⌜ inOrder true (now times) ≡ true ⌝ }
+    ensures { λ r. ⌜ FoundA alpha (now (times .entry)) (now (factors .entry)) t bond sigma b r ⌝ }
+{
+    let Found::At(p_t) = lookups::factor(times, factors, t) else {
+        return Found::Missing;
     };
     let Found::At(p_bond) = lookups::factor(times, factors, bond) else {
-        return Price::Refused(Refusal::OffCurve);
+        return Found::Missing;
     };
     let Found::At(p_plus) = lookups::factor(times, factors, t + formulas::day()) else {
-        return Price::Refused(Refusal::OffCurve);
+        return Found::Missing;
     };
-    let b = formulas::b_of(alpha, t, bond);
     let forward = formulas::forward_of(p_t, p_plus);
-    lists::served(formulas::a_of(alpha, t, sigma, b, forward, p_t, p_bond))
+    Found::At(formulas::a_of(alpha, t, sigma, b, forward, p_t, p_bond))
 }
 
 pub fn zcb_price(
@@ -103,18 +123,10 @@ fn zcb_priced(
     requires { ⌜ inOrder true (now times) ≡ true ⌝ }
     ensures { λ r. ⌜ outcomeOf r ≡ zcbPriced alpha (now (times .entry)) (now (factors .entry)) rate t bond sigma ⌝ }
 {
-    let Found::At(p_t) = lookups::factor(times, factors, t) else {
-        return Price::Refused(Refusal::OffCurve);
-    };
-    let Found::At(p_bond) = lookups::factor(times, factors, bond) else {
-        return Price::Refused(Refusal::OffCurve);
-    };
-    let Found::At(p_plus) = lookups::factor(times, factors, t + formulas::day()) else {
-        return Price::Refused(Refusal::OffCurve);
-    };
     let b = formulas::b_of(alpha, t, bond);
-    let forward = formulas::forward_of(p_t, p_plus);
-    let a = formulas::a_of(alpha, t, sigma, b, forward, p_t, p_bond);
+    let Found::At(a) = a_found(alpha, times, factors, t, bond, sigma, b) else {
+        return Price::Refused(Refusal::OffCurve);
+    };
     lists::served(formulas::zcb_of(a, b, rate))
 }
 

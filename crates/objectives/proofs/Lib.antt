@@ -3,3 +3,4 @@ pub mod Annuity
 pub mod Residuals
 pub mod Worked
 pub mod Searches
+pub mod Finished

@@ -18,7 +18,7 @@ capletMarketOf quote strike t S vol pt pS =
     let tau = S ⊖ t in
     pS ⊗ tau ⊗ vanillaCallOf quote ((pt ⊘ pS ⊖ one) ⊘ tau) strike vol t
 
--- the annuity over the coupons listed, "Sums start at 0 .. and run left to right"
+-- the annuity over the coupons listed, "Sums start at 0 .. and run left to right". The call's `annuityFrom` meets a lookup at each coupon; `annuity-looked` shows that it is this sum on the factors looked up
 unfoldable pub annuityOnto : Float → List Float → List Float → Float
 annuityOnto sum [] ps = sum
 annuityOnto sum (accrual ∷ accruals) [] = sum

@@ -36,7 +36,9 @@ pub fn caplet_market(
     p_end * tau * vanilla_call(quote, fwd, strike, vol, t)
 }
 
-// The annuity on factors that are fetched: a caller has one for each accrual.
+// The annuity on factors that are fetched: a caller has one for each accrual. The call on a curve adds the same
+// coupons by the same step, and has a loop of its own: it keeps no factors, but looks each up as it comes to it and
+// is turned down where one is missing.
 fn annuity(accruals: &[f64], p: &[f64]) -> f64
     requires { ⌜ length (now p) ≡ length (now accruals) ⌝ }
     ensures { λ r. ⌜ r ≡ annuityOf (now (accruals .entry)) (now (p .entry)) ⌝ }

@@ -1,20 +1,24 @@
 -- Fused steps on numbers taken apart, at an ordinary z: each leaves room for the next (`ready`), and their values are those of the fused steps (`stepped`). Assumes nothing.
 use mathlib.Core.Path.{_≡_, sym, ap, ap₂, _∙_, subst}
-use mathlib.Core.Bool.{Bool, true, false, not}
-use Prim.Native.Nat.{ℕ, suc, _+_, _-_, _*_, _/_, _%_, _^_, _≤_, _<_, max}
-use native.Mathlib.Nat.{le-trans, le-of-eq}
+use mathlib.Core.Bool.{Bool, true, false, not, _&&_}
+use mathlib.Core.List.{List, [], _∷_}
+use Prim.Native.Nat.{ℕ, zero, suc, _+_, _-_, _*_, _/_, _%_, _^_, _≤_, _<_, max}
+use native.Mathlib.Nat.{le-trans, le-of-eq, le-of-suc-le-suc, not-suc-le-zero}
 use native.Mathlib.Omega.{arith}
-use lib.Dec.{T, lit≤}
+use lib.Dec.{T, leb, leb→le, lit≤}
+use lib.ListN.{length}
+use lib.Ieee.Fits.{and-l, and-r}
 use lib.Ieee.{Float, nan, inf, fin, binary64, lt, isNan, ofBits}
 use lib.Ieee.Bits.{toBits-ofBits, nanBits-is, nanBits-above}
 use borrow.Author.Tests.{le-ltb}
-use Rattle.ieee.specs.Numbers.{zero}
+use Rattle.ieee.specs.Numbers as Numbers
 use Rattle.ieee.specs.Fused.{fusedOf}
 use Rattle.steps.specs.Open.{valueOf, field, Digits}
 use Rattle.polynomials.specs.Sized.{Ordinary}
+use Rattle.polynomials.proofs.Coefficients.{literal}
 
 -- a number above 0 is a number
-pub above-zero : (z : Float) → lt zero z ≡ true → T (not (isNan z))
+pub above-zero : (z : Float) → lt Numbers.zero z ≡ true → T (not (isNan z))
 unfolding lt isNan ofBits
 above-zero nan h = absurd (h' h)
   where
@@ -39,6 +43,18 @@ coefficient n l h =
 
     small : (n : ℕ) → n / 2 ^ 52 ≤ 1032 → n < 2 * 2 ^ 63
     small n h = omega arith
+
+-- each of a list is one, where antt finds that each field is within the bounds
+abbrev eachWithin : List ℕ → Bool
+eachWithin [] = true
+eachWithin (b ∷ bits) = eachWithin bits && (leb 1018 (b / 2 ^ 52) && leb (b / 2 ^ 52) 1032)
+
+pub coefficients : (bits : List ℕ) → T (eachWithin bits) → (n : ℕ) → n < length bits → Coefficient (literal bits n)
+coefficients [] h n l = absurd (not-suc-le-zero l)
+coefficients (b ∷ bits) h zero l =
+    let w = and-r (eachWithin bits) (leb 1018 (b / 2 ^ 52) && leb (b / 2 ^ 52) 1032) h in
+    coefficient b (leb→le 1018 (b / 2 ^ 52) (and-l (leb 1018 (b / 2 ^ 52)) (leb (b / 2 ^ 52) 1032) w)) (leb→le (b / 2 ^ 52) 1032 (and-r (leb 1018 (b / 2 ^ 52)) (leb (b / 2 ^ 52) 1032) w))
+coefficients (b ∷ bits) h (suc n) l = coefficients bits (and-l (eachWithin bits) (leb 1018 (b / 2 ^ 52) && leb (b / 2 ^ 52) 1032) h) n (le-of-suc-le-suc l)
 
 -- ---- a number taken apart between the steps
 

@@ -1,7 +1,9 @@
 -- norm_cdf.rs, Hart's two polynomials and their quotient. Document 01: "f64 uses fused steps, the DualFwd one a product and then a sum." Each is the same text over its own step.
 use mathlib.Core.Bool.{Bool, true, false}
 use mathlib.Core.List.{List, [], _∷_}
-use lib.Ieee.{Float}
+use Prim.Native.Nat.{ℕ}
+use lib.ListN.{getD}
+use lib.Ieee.{Float, nan}
 use Rattle.ieee.specs.Rounded.{_⊕_, _⊗_, _⊘_}
 use Rattle.ieee.specs.Decimal.{decimal}
 use Rattle.ieee.specs.Fused.{fusedOf}
@@ -21,6 +23,13 @@ denFirst = decimal 883883476483184 16
 
 abbrev pub denRest : List Float
 denRest = decimal 175566716318264 14 ∷ decimal 16064177579207 12 ∷ decimal 867807322029461 13 ∷ decimal 296564248779674 12 ∷ decimal 637333633378831 12 ∷ decimal 793826512519948 12 ∷ decimal 440413735824752 12 ∷ []
+
+-- the n-th of each, from 0 on
+abbrev pub numAt : ℕ → Float
+numAt n = getD (numFirst ∷ numRest) n nan
+
+abbrev pub denAt : ℕ → Float
+denAt n = getD (denFirst ∷ denRest) n nan
 
 -- ---- the steps
 

@@ -6,6 +6,37 @@ ghost use Rattle.ieee.specs.Fused.{fusedOf};
 ghost use Rattle.polynomials.specs.Polynomials.{productThenSum, stepOf, horner, numFirst, numRest, denFirst, denRest, hartOf};
 ghost use Rattle.polynomials.specs.Sized.{Sized, Ordinary};
 
+// The coefficients as norm_cdf.rs prints them, the highest power's first.
+const NUM_0: f64 = 3.52624965998911e-2;
+
+const NUM_1: f64 = 0.700383064443688;
+
+const NUM_2: f64 = 6.37396220353165;
+
+const NUM_3: f64 = 33.912866078383;
+
+const NUM_4: f64 = 112.079291497871;
+
+const NUM_5: f64 = 221.213596169931;
+
+const NUM_6: f64 = 220.206867912376;
+
+const DEN_0: f64 = 8.83883476483184e-2;
+
+const DEN_1: f64 = 1.75566716318264;
+
+const DEN_2: f64 = 16.064177579207;
+
+const DEN_3: f64 = 86.7807322029461;
+
+const DEN_4: f64 = 296.564248779674;
+
+const DEN_5: f64 = 637.333633378831;
+
+const DEN_6: f64 = 793.826512519948;
+
+const DEN_7: f64 = 440.413735824752;
+
 // The quotient of Hart's two polynomials.
 pub fn hart(z: f64, e: f64, dual: bool) -> f64
     ensures { λ r. ⌜ r ≡ hartOf (stepOf dual) z e ⌝ }
@@ -39,66 +70,66 @@ fn quotient(z: f64, e: f64) -> f64
     ensures { λ r. ⌜ r ≡ hartOf fusedOf z e ⌝ }
 {
     let y = steps::opened(z);
-    let a = steps::opened(3.52624965998911e-2);
-    let b = steps::opened(8.83883476483184e-2);
-    let b = steps::step(b.sig, b.exp, y.sig, y.exp, 1.75566716318264);
-    let a = steps::step(a.sig, a.exp, y.sig, y.exp, 0.700383064443688);
-    let b = steps::step(b.sig, b.exp, y.sig, y.exp, 16.064177579207);
-    let a = steps::step(a.sig, a.exp, y.sig, y.exp, 6.37396220353165);
-    let b = steps::step(b.sig, b.exp, y.sig, y.exp, 86.7807322029461);
-    let a = steps::step(a.sig, a.exp, y.sig, y.exp, 33.912866078383);
-    let b = steps::step(b.sig, b.exp, y.sig, y.exp, 296.564248779674);
-    let a = steps::step(a.sig, a.exp, y.sig, y.exp, 112.079291497871);
-    let b = steps::step(b.sig, b.exp, y.sig, y.exp, 637.333633378831);
-    let a = steps::step(a.sig, a.exp, y.sig, y.exp, 221.213596169931);
-    let b = steps::step(b.sig, b.exp, y.sig, y.exp, 793.826512519948);
-    let a = steps::step(a.sig, a.exp, y.sig, y.exp, 220.206867912376);
-    let b = steps::step(b.sig, b.exp, y.sig, y.exp, 440.413735824752);
+    let a = steps::opened(NUM_0);
+    let b = steps::opened(DEN_0);
+    let b = steps::step(b.sig, b.exp, y.sig, y.exp, DEN_1);
+    let a = steps::step(a.sig, a.exp, y.sig, y.exp, NUM_1);
+    let b = steps::step(b.sig, b.exp, y.sig, y.exp, DEN_2);
+    let a = steps::step(a.sig, a.exp, y.sig, y.exp, NUM_2);
+    let b = steps::step(b.sig, b.exp, y.sig, y.exp, DEN_3);
+    let a = steps::step(a.sig, a.exp, y.sig, y.exp, NUM_3);
+    let b = steps::step(b.sig, b.exp, y.sig, y.exp, DEN_4);
+    let a = steps::step(a.sig, a.exp, y.sig, y.exp, NUM_4);
+    let b = steps::step(b.sig, b.exp, y.sig, y.exp, DEN_5);
+    let a = steps::step(a.sig, a.exp, y.sig, y.exp, NUM_5);
+    let b = steps::step(b.sig, b.exp, y.sig, y.exp, DEN_6);
+    let a = steps::step(a.sig, a.exp, y.sig, y.exp, NUM_6);
+    let b = steps::step(b.sig, b.exp, y.sig, y.exp, DEN_7);
     e * steps::closed(a.sig, a.exp) / steps::closed(b.sig, b.exp)
 }
 
 fn num(z: f64) -> f64
     ensures { λ r. ⌜ r ≡ horner fusedOf z numFirst numRest ⌝ }
 {
-    let a = ieee::fused(3.52624965998911e-2, z, 0.700383064443688);
-    let a = ieee::fused(a, z, 6.37396220353165);
-    let a = ieee::fused(a, z, 33.912866078383);
-    let a = ieee::fused(a, z, 112.079291497871);
-    let a = ieee::fused(a, z, 221.213596169931);
-    ieee::fused(a, z, 220.206867912376)
+    let a = ieee::fused(NUM_0, z, NUM_1);
+    let a = ieee::fused(a, z, NUM_2);
+    let a = ieee::fused(a, z, NUM_3);
+    let a = ieee::fused(a, z, NUM_4);
+    let a = ieee::fused(a, z, NUM_5);
+    ieee::fused(a, z, NUM_6)
 }
 
 fn den(z: f64) -> f64
     ensures { λ r. ⌜ r ≡ horner fusedOf z denFirst denRest ⌝ }
 {
-    let a = ieee::fused(8.83883476483184e-2, z, 1.75566716318264);
-    let a = ieee::fused(a, z, 16.064177579207);
-    let a = ieee::fused(a, z, 86.7807322029461);
-    let a = ieee::fused(a, z, 296.564248779674);
-    let a = ieee::fused(a, z, 637.333633378831);
-    let a = ieee::fused(a, z, 793.826512519948);
-    ieee::fused(a, z, 440.413735824752)
+    let a = ieee::fused(DEN_0, z, DEN_1);
+    let a = ieee::fused(a, z, DEN_2);
+    let a = ieee::fused(a, z, DEN_3);
+    let a = ieee::fused(a, z, DEN_4);
+    let a = ieee::fused(a, z, DEN_5);
+    let a = ieee::fused(a, z, DEN_6);
+    ieee::fused(a, z, DEN_7)
 }
 
 fn num_dual(z: f64) -> f64
     ensures { λ r. ⌜ r ≡ horner productThenSum z numFirst numRest ⌝ }
 {
-    let a = 3.52624965998911e-2 * z + 0.700383064443688;
-    let a = a * z + 6.37396220353165;
-    let a = a * z + 33.912866078383;
-    let a = a * z + 112.079291497871;
-    let a = a * z + 221.213596169931;
-    a * z + 220.206867912376
+    let a = NUM_0 * z + NUM_1;
+    let a = a * z + NUM_2;
+    let a = a * z + NUM_3;
+    let a = a * z + NUM_4;
+    let a = a * z + NUM_5;
+    a * z + NUM_6
 }
 
 fn den_dual(z: f64) -> f64
     ensures { λ r. ⌜ r ≡ horner productThenSum z denFirst denRest ⌝ }
 {
-    let a = 8.83883476483184e-2 * z + 1.75566716318264;
-    let a = a * z + 16.064177579207;
-    let a = a * z + 86.7807322029461;
-    let a = a * z + 296.564248779674;
-    let a = a * z + 637.333633378831;
-    let a = a * z + 793.826512519948;
-    a * z + 440.413735824752
+    let a = DEN_0 * z + DEN_1;
+    let a = a * z + DEN_2;
+    let a = a * z + DEN_3;
+    let a = a * z + DEN_4;
+    let a = a * z + DEN_5;
+    let a = a * z + DEN_6;
+    a * z + DEN_7
 }

@@ -1,8 +1,9 @@
 -- Hart's polynomials in fixed point: the sums stay below 2 ^ 62 (`begins`, `goes-on`, `room`), and stand for the polynomials (`numerator-is`, `denominator-is`); the series of exp beside them (`thirteen`); an argument in fixed point is below the threshold (`near-limit`, `near-threshold`); what lies above it from all of these (`assembled`). Assumes nothing.
 use mathlib.Core.Path.{_≡_, refl, sym, ap, _∙_, subst}
 use mathlib.Core.Bool.{true, false, true≢false}
-use mathlib.Core.List.{List, [], _∷_}
-use Prim.Native.Nat.{ℕ, _+_, _*_, _^_, _≤_, _<_}
+use mathlib.Core.List.{List}
+use lib.ListN.{take}
+use Prim.Native.Nat.{ℕ, zero, suc, _+_, _*_, _^_, _≤_, _<_}
 use native.Mathlib.Nat.{le-trans, le-of-eq, le-of-lt, mul-le-mul-right, le-of-mul-le-mul-right}
 use native.Mathlib.Omega.{arith}
 use lib.Dec.{lit≤}
@@ -15,90 +16,90 @@ use mir.ValLaws.{toZ-ofZ}
 use lib.Signed.{mag}
 use lib.Pow.{pow-pos}
 use lib.Ieee.Fits.{down-pos}
-use Rattle.ieee.specs.Rounded.{_⊕_, _⊗_, _⊘_}
+use Rattle.ieee.specs.Rounded.{_⊗_, _⊘_}
 use Rattle.ieee.specs.Decimal.{decimal}
 use Rattle.ieee.specs.Numbers.{half, one, two}
 use Rattle.ieee.specs.Fused.{fusedOf}
 use Rattle.steps.specs.Fixed.{Held, Stepped}
-use Rattle.exponential.specs.Exp.{kOf, reducedOf, seriesOf, withinLimits, expOf}
+use Rattle.exponential.specs.Exp.{kOf, reducedOf, turnOf, seriesOf, withinLimits, expOf}
 use Rattle.exponential.proofs.Limits.{from-parts}
-use Rattle.polynomials.specs.Polynomials.{horner, numFirst, numRest, denFirst, denRest}
+use Rattle.polynomials.specs.Polynomials.{horner, numFirst, numRest, numAt, denFirst, denRest, denAt}
 use Rattle.probability.specs.NormCdf.{limit, threshold, upperOf}
-use Rattle.probability.specs.Turns.{Room, Begun, Turned, Ended}
+use Rattle.probability.specs.Turns.{numFixed, denFixed, Room, Begun, Turned, Ended}
 
 -- ---- the coefficients in fixed point: antt compares each with the printed one
 
-num0 : Held (decimal 352624965998911 16) 0x48_37b4_2d5f_ef78 59
+num0 : Held (numAt 0) (numFixed 0) 59
 unfolding decimal fits
 num0 = record { fitted = tt; value = (refl, refl) }
 
-num1 : Held (decimal 700383064443688 15) 0x166_989b_e8ea_71f0 57
+num1 : Held (numAt 1) (numFixed 1) 57
 unfolding decimal fits
 num1 = record { fitted = tt; value = (refl, refl) }
 
-num2 : Held (decimal 637396220353165 14) 0x32f_ddfe_550d_e460 55
+num2 : Held (numAt 2) (numFixed 2) 55
 unfolding decimal fits
 num2 = record { fitted = tt; value = (refl, refl) }
 
-num3 : Held (decimal 33912866078383 12) 0x43d_3632_ec09_0c40 53
+num3 : Held (numAt 3) (numFixed 3) 53
 unfolding decimal fits
 num3 = record { fitted = tt; value = (refl, refl) }
 
-num4 : Held (decimal 112079291497871 12) 0x380_a263_94b1_a780 51
+num4 : Held (numAt 4) (numFixed 4) 51
 unfolding decimal fits
 num4 = record { fitted = tt; value = (refl, refl) }
 
-num5 : Held (decimal 221213596169931 12) 0x1ba_6d5c_7a28_cf20 49
+num5 : Held (numAt 5) (numFixed 5) 49
 unfolding decimal fits
 num5 = record { fitted = tt; value = (refl, refl) }
 
-pub num6 : Held (decimal 220206867912376 12) 0x6e_1a7a_a5d3_1f94 47
+pub num6 : Held (numAt 6) (numFixed 6) 47
 unfolding decimal fits
 num6 = record { fitted = tt; value = (refl, refl) }
 
-den0 : Held (decimal 883883476483184 16) 0xb5_04f3_33f9_de50 59
+den0 : Held (denAt 0) (denFixed 0) 59
 unfolding decimal fits
 den0 = record { fitted = tt; value = (refl, refl) }
 
-den1 : Held (decimal 175566716318264 14) 0x382_e6ce_710f_a220 57
+den1 : Held (denAt 1) (denFixed 1) 57
 unfolding decimal fits
 den1 = record { fitted = tt; value = (refl, refl) }
 
-den2 : Held (decimal 16064177579207 12) 0x808_36f8_8dea_4e80 55
+den2 : Held (denAt 2) (denFixed 2) 55
 unfolding decimal fits
 den2 = record { fitted = tt; value = (refl, refl) }
 
-den3 : Held (decimal 867807322029461 13) 0xad8_fbc2_19d2_cd00 53
+den3 : Held (denAt 3) (denFixed 3) 53
 unfolding decimal fits
 den3 = record { fitted = tt; value = (refl, refl) }
 
-den4 : Held (decimal 296564248779674 12) 0x944_8394_dd3c_1000 51
+den4 : Held (denAt 4) (denFixed 4) 51
 unfolding decimal fits
 den4 = record { fitted = tt; value = (refl, refl) }
 
-den5 : Held (decimal 637333633378831 12) 0x4fa_aad1_fe85_ddc0 49
+den5 : Held (denAt 5) (denFixed 5) 49
 unfolding decimal fits
 den5 = record { fitted = tt; value = (refl, refl) }
 
-den6 : Held (decimal 793826512519948 12) 0x18c_e9cb_2989_74a0 47
+den6 : Held (denAt 6) (denFixed 6) 47
 unfolding decimal fits
 den6 = record { fitted = tt; value = (refl, refl) }
 
-pub den7 : Held (decimal 440413735824752 12) 0x37_0d3d_52e9_8fca 45
+pub den7 : Held (denAt 7) (denFixed 7) 45
 unfolding decimal fits
 den7 = record { fitted = tt; value = (refl, refl) }
 
 -- ---- the values, before the last step
 
 abbrev numFive : List Float
-numFive = decimal 700383064443688 15 ∷ decimal 637396220353165 14 ∷ decimal 33912866078383 12 ∷ decimal 112079291497871 12 ∷ decimal 221213596169931 12 ∷ []
+numFive = take 5 numRest
 
 abbrev denSix : List Float
-denSix = decimal 175566716318264 14 ∷ decimal 16064177579207 12 ∷ decimal 867807322029461 13 ∷ decimal 296564248779674 12 ∷ decimal 637333633378831 12 ∷ decimal 793826512519948 12 ∷ []
+denSix = take 6 denRest
 
 module _ (z : Float) (y : ℕ) (Z : Held z y 62) where
-  numerator-is : (n1 n2 n3 n4 n5 : ℕ) → Stepped 0x48_37b4_2d5f_ef78 y 0x166_989b_e8ea_71f0 n1 → Stepped n1 y 0x32f_ddfe_550d_e460 n2 → Stepped n2 y 0x43d_3632_ec09_0c40 n3
-      → Stepped n3 y 0x380_a263_94b1_a780 n4 → Stepped n4 y 0x1ba_6d5c_7a28_cf20 n5 → Held (horner fusedOf z numFirst numFive) n5 49
+  numerator-is : (n1 n2 n3 n4 n5 : ℕ) → Stepped (numFixed 0) y (numFixed 1) n1 → Stepped n1 y (numFixed 2) n2 → Stepped n2 y (numFixed 3) n3
+      → Stepped n3 y (numFixed 4) n4 → Stepped n4 y (numFixed 5) n5 → Held (horner fusedOf z numFirst numFive) n5 49
   numerator-is n1 n2 n3 n4 n5 s1 s2 s3 s4 s5 =
       let a1 = s1 .value 57 _ z _ (lit≤ tt) num0 Z num1 in
       let a2 = s2 .value 55 _ z _ (lit≤ tt) a1 Z num2 in
@@ -106,8 +107,8 @@ module _ (z : Float) (y : ℕ) (Z : Held z y 62) where
       let a4 = s4 .value 51 _ z _ (lit≤ tt) a3 Z num4 in
       s5 .value 49 _ z _ (lit≤ tt) a4 Z num5
 
-  denominator-is : (d1 d2 d3 d4 d5 d6 : ℕ) → Stepped 0xb5_04f3_33f9_de50 y 0x382_e6ce_710f_a220 d1 → Stepped d1 y 0x808_36f8_8dea_4e80 d2 → Stepped d2 y 0xad8_fbc2_19d2_cd00 d3
-      → Stepped d3 y 0x944_8394_dd3c_1000 d4 → Stepped d4 y 0x4fa_aad1_fe85_ddc0 d5 → Stepped d5 y 0x18c_e9cb_2989_74a0 d6 → Held (horner fusedOf z denFirst denSix) d6 47
+  denominator-is : (d1 d2 d3 d4 d5 d6 : ℕ) → Stepped (denFixed 0) y (denFixed 1) d1 → Stepped d1 y (denFixed 2) d2 → Stepped d2 y (denFixed 3) d3
+      → Stepped d3 y (denFixed 4) d4 → Stepped d4 y (denFixed 5) d5 → Stepped d5 y (denFixed 6) d6 → Held (horner fusedOf z denFirst denSix) d6 47
   denominator-is d1 d2 d3 d4 d5 d6 s1 s2 s3 s4 s5 s6 =
       let b1 = s1 .value 57 _ z _ (lit≤ tt) den0 Z den1 in
       let b2 = s2 .value 55 _ z _ (lit≤ tt) b1 Z den2 in
@@ -116,36 +117,61 @@ module _ (z : Float) (y : ℕ) (Z : Held z y 62) where
       let b5 = s5 .value 49 _ z _ (lit≤ tt) b4 Z den5 in
       s6 .value 47 _ z _ (lit≤ tt) b5 Z den6
 
--- ---- the sizes: at most A and B after some turns
+-- ---- the sizes after n turns
 
-abbrev pub Within : ℕ → ℕ → ℕ → ℕ → Type 0
-Within A B num den = (num ≤ A) × (den ≤ B)
+abbrev pub numMost : ℕ → ℕ
+numMost zero = numFixed 0
+numMost (suc n) = numMost n + numFixed (suc n) + 512
 
-pub begins : (y : ℕ) (r : Float) (num den : ℕ) (p : Float) → Begun y r num den p → Within 0x48_37b4_2d5f_ef78 (0xb5_04f3_33f9_de50 + 0x382_e6ce_710f_a220 + 512) num den
-begins y r num den p b = (le-of-eq (b .numerator), b .denominator .most)
+abbrev pub denMost : ℕ → ℕ
+denMost zero = denFixed 0 + denFixed 1 + 512
+denMost (suc n) = denMost n + denFixed (suc (suc n)) + 512
 
-module _ (A B num den : ℕ) (w : Within A B num den) (c d : ℕ) where
-  pub room : 2 ^ 53 ≤ c → A + c < 2 ^ 62 → 2 ^ 53 ≤ d → B + d < 2 ^ 62 → Room num den c d
-  room lc uc ld ud = (lc, under num A c (w .0) uc, ld, under den B d (w .1) ud)
+abbrev Within : ℕ → ℕ → ℕ → Type 0
+Within n num den = (num ≤ numMost n) × (den ≤ denMost n)
+
+-- of both arguments
+pub record Sizes (n num den num2 den2 : ℕ) : Type 0 where
+  pub first : Within n num den
+  pub second : Within n num2 den2
+
+begun-within : {y : ℕ} {r : Float} {num den : ℕ} {p : Float} → Begun y r num den p → Within 0 num den
+begun-within b = (le-of-eq (b .numerator), b .denominator .most)
+
+pub begins : {y x : ℕ} {r q : Float} {num den num2 den2 : ℕ} {p p2 : Float} → Begun y r num den p → Begun x q num2 den2 p2 → Sizes 0 num den num2 den2
+begins b b2 = record { first = begun-within b; second = begun-within b2 }
+
+module _ (n : ℕ) {num den num2 den2 : ℕ} (s : Sizes n num den num2 den2) where
+  pub room : (c d : ℕ) → 2 ^ 53 ≤ c → numMost n + c < 2 ^ 62 → 2 ^ 53 ≤ d → denMost n + d < 2 ^ 62 → Room num den c d × Room num2 den2 c d
+  room c d lc uc ld ud = (
+    (lc, under num (numMost n) c (s .first .0) uc, ld, under den (denMost n) d (s .first .1) ud),
+    (lc, under num2 (numMost n) c (s .second .0) uc, ld, under den2 (denMost n) d (s .second .1) ud),
+  )
     where
       under : (n A c : ℕ) → n ≤ A → A + c < 2 ^ 62 → n + c < 2 ^ 62
       under n A c l u = omega arith
 
-  pub goes-on : (p : Float) (y : ℕ) (r n m : Float) (num' den' : ℕ) (p' : Float) → Turned num den p y r c d n m num' den' p' → Within (A + c + 512) (B + d + 512) num' den'
-  goes-on p y r n m num' den' p' t = (over num A c num' (w .0) (t .numerator .most), over den B d den' (w .1) (t .denominator .most))
-    where
-      over : (n A c r : ℕ) → n ≤ A → r ≤ n + c + 512 → r ≤ A + c + 512
-      over n A c r l u = omega arith
+over : (n A c r : ℕ) → n ≤ A → r ≤ n + c + 512 → r ≤ A + c + 512
+over n A c r l u = omega arith
+
+turned-within : (n : ℕ) {num den : ℕ} {p : Float} {y : ℕ} {r k m : Float} {num' den' : ℕ} {p' : Float} → Within n num den
+    → Turned num den p y r (numFixed (suc n)) (denFixed (suc (suc n))) k m num' den' p' → Within (suc n) num' den'
+turned-within n {num} {den} {p} {y} {r} {k} {m} {num'} {den'} w t = (over num (numMost n) (numFixed (suc n)) num' (w .0) (t .numerator .most), over den (denMost n) (denFixed (suc (suc n))) den' (w .1) (t .denominator .most))
+
+pub goes-on : (n : ℕ) {num den num2 den2 : ℕ} {p p2 : Float} {y x : ℕ} {r q k m : Float} {num' den' num2' den2' : ℕ} {p' p2' : Float} → Sizes n num den num2 den2
+    → Turned num den p y r (numFixed (suc n)) (denFixed (suc (suc n))) k m num' den' p' × Turned num2 den2 p2 x q (numFixed (suc n)) (denFixed (suc (suc n))) k m num2' den2' p2'
+    → Sizes (suc n) num' den' num2' den2'
+goes-on n s t = record { first = turned-within n (s .first) (t .0); second = turned-within n (s .second) (t .1) }
 
 -- ---- the series
 
 abbrev two-terms : Float → Float → Float → Float → Float
-two-terms r p n m = one ⊕ (r ⊗ (one ⊕ (r ⊗ p) ⊘ n)) ⊘ m
+two-terms r p n m = turnOf r (turnOf r p n) m
 
 abbrev lit : ℕ → Float
 lit n = ofBits binary64 n
 
-thirteen : (r p0 p1 p2 p3 p4 p5 p6 : Float) → p0 ≡ one ⊕ (r ⊗ one) ⊘ ofInt binary64 (pos 13)
+thirteen : (r p0 p1 p2 p3 p4 p5 p6 : Float) → p0 ≡ turnOf r one (ofInt binary64 (pos 13))
     → p1 ≡ two-terms r p0 (lit 0x4028_0000_0000_0000) (lit 0x4026_0000_0000_0000) → p2 ≡ two-terms r p1 (lit 0x4024_0000_0000_0000) (lit 0x4022_0000_0000_0000)
     → p3 ≡ two-terms r p2 (lit 0x4020_0000_0000_0000) (lit 0x401c_0000_0000_0000) → p4 ≡ two-terms r p3 (lit 0x4018_0000_0000_0000) (lit 0x4014_0000_0000_0000)
     → p5 ≡ two-terms r p4 (lit 0x4010_0000_0000_0000) (lit 0x4008_0000_0000_0000) → p6 ≡ two-terms r p5 two one
@@ -197,15 +223,15 @@ k-small k h = subst (λ (j : ℤ). mag j < 2000) (sym (k-back k h)) h
 
 pub assembled : (z a r v : Float) (y : ℕ) (k : ℤ) {n0 d1 n1 d2 n2 d3 n3 d4 n4 d5 n5 d6 : ℕ} {p0 p1 p2 p3 p4 p5 : Float} → y < 2 ^ 64 → Held z y 62 → a ≡ neg z ⊗ z ⊗ half → withinLimits a ≡ true
     → r ≡ reducedOf a (kOf a) → k ≡ kOf a → Begun y r n0 d1 p0
-    → Turned n0 d1 p0 y r 0x166_989b_e8ea_71f0 0x808_36f8_8dea_4e80 (lit 0x4028_0000_0000_0000) (lit 0x4026_0000_0000_0000) n1 d2 p1
-    → Turned n1 d2 p1 y r 0x32f_ddfe_550d_e460 0xad8_fbc2_19d2_cd00 (lit 0x4024_0000_0000_0000) (lit 0x4022_0000_0000_0000) n2 d3 p2
-    → Turned n2 d3 p2 y r 0x43d_3632_ec09_0c40 0x944_8394_dd3c_1000 (lit 0x4020_0000_0000_0000) (lit 0x401c_0000_0000_0000) n3 d4 p3
-    → Turned n3 d4 p3 y r 0x380_a263_94b1_a780 0x4fa_aad1_fe85_ddc0 (lit 0x4018_0000_0000_0000) (lit 0x4014_0000_0000_0000) n4 d5 p4
-    → Turned n4 d5 p4 y r 0x1ba_6d5c_7a28_cf20 0x18c_e9cb_2989_74a0 (lit 0x4010_0000_0000_0000) (lit 0x4008_0000_0000_0000) n5 d6 p5
+    → Turned n0 d1 p0 y r (numFixed 1) (denFixed 2) (lit 0x4028_0000_0000_0000) (lit 0x4026_0000_0000_0000) n1 d2 p1
+    → Turned n1 d2 p1 y r (numFixed 2) (denFixed 3) (lit 0x4024_0000_0000_0000) (lit 0x4022_0000_0000_0000) n2 d3 p2
+    → Turned n2 d3 p2 y r (numFixed 3) (denFixed 4) (lit 0x4020_0000_0000_0000) (lit 0x401c_0000_0000_0000) n3 d4 p3
+    → Turned n3 d4 p3 y r (numFixed 4) (denFixed 5) (lit 0x4018_0000_0000_0000) (lit 0x4014_0000_0000_0000) n4 d5 p4
+    → Turned n4 d5 p4 y r (numFixed 5) (denFixed 6) (lit 0x4010_0000_0000_0000) (lit 0x4008_0000_0000_0000) n5 d6 p5
     → Ended n5 d6 p5 y r (toZ w32 (ofZ w32 k)) v → v ≡ upperOf fusedOf z
 unfolding upperOf
 assembled z a r v y k {n0} {d1} {n1} {d2} {n2} {d3} {n3} {d4} {n4} {d5} {n5} {d6} {p0} {p1} {p2} {p3} {p4} {p5} word Z a-is w r-is k-is B t1 t2 t3 t4 t5 E =
-    let N = numerator-is z y Z n1 n2 n3 n4 n5 (subst (λ (n : ℕ). Stepped n y 0x166_989b_e8ea_71f0 n1) (B .numerator) (t1 .numerator)) (t2 .numerator) (t3 .numerator) (t4 .numerator) (t5 .numerator) in
+    let N = numerator-is z y Z n1 n2 n3 n4 n5 (subst (λ (n : ℕ). Stepped n y (numFixed 1) n1) (B .numerator) (t1 .numerator)) (t2 .numerator) (t3 .numerator) (t4 .numerator) (t5 .numerator) in
     let D = denominator-is z y Z d1 d2 d3 d4 d5 d6 (B .denominator) (t1 .denominator) (t2 .denominator) (t3 .denominator) (t4 .denominator) (t5 .denominator) in
     let p = thirteen r p0 p1 p2 p3 p4 p5 (two-terms r p5 two one) (B .series) (t1 .series) (t2 .series) (t3 .series) (t4 .series) (t5 .series) refl in
     let e = from-parts a w r (two-terms r p5 two one) _ k r-is k-is p refl in

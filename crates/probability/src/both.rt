@@ -12,9 +12,11 @@ ghost use Rattle.ieee.specs.Fused.{fusedOf};
 ghost use Rattle.exponential.specs.Exp.{withinLimits};
 ghost use Rattle.probability.specs.NormCdf.{upperOf};
 ghost use Rattle.polynomials.specs.Sized.{Near};
-ghost use Rattle.probability.specs.Turns.{Room, Turned, Begun, Ended};
+ghost use Rattle.probability.specs.Turns.{numFixed, denFixed, Room, Turned, Begun, Ended};
 
-// Hart's coefficients, the n-th times 2^(59 - 2 n): a step takes two places off.
+// Hart's coefficients, the n-th times 2^(59 - 2 n): a step takes two places off. They are constants of their
+// own beside those of `polynomials`: no constant is worked from another by a call. The proofs hold each
+// against the printed one.
 // 3.52624965998911e-2
 const NUM_0: u64 = 0x48_37b4_2d5f_ef78;
 
@@ -106,10 +108,10 @@ fn begun(y: u64, x: u64, r: f64, q: f64) -> Shares
     Shares {
         num: NUM_0,
         den: steps::fixed_step(DEN_0, y, DEN_1),
-        p: 1.0 + (r * 1.0) / 13.0,
+        p: exponential::turn(r, 1.0, 13.0),
         num2: NUM_0,
         den2: steps::fixed_step(DEN_0, x, DEN_1),
-        p2: 1.0 + (q * 1.0) / 13.0,
+        p2: exponential::turn(q, 1.0, 13.0),
     }
 }
 
@@ -136,22 +138,22 @@ fn turn(num: u64, den: u64, p: f64, y: u64, r: f64, c: u64, d: u64, n: f64, m: f
     requires { ⌜ Room num den c d ⌝ }
     ensures { λ t. ⌜ Turned num den p y r c d n m (t .num) (t .den) (t .p) ⌝ }
 {
-    let first = 1.0 + (r * p) / n;
+    let first = exponential::turn(r, p, n);
     Share {
         num: steps::fixed_step(num, y, c),
         den: steps::fixed_step(den, y, d),
-        p: 1.0 + (r * first) / m,
+        p: exponential::turn(r, first, m),
     }
 }
 
 // The last turn, whose steps have 47 and 45 places, and e × num / den. A caller has the bounds from the
 // coefficients before, and k from `reduce`.
 fn last(num: u64, den: u64, p: f64, y: u64, r: f64, k: i32) -> f64
-    requires { ⌜ (num + 0x6e_1a7a_a5d3_1f94 < 2 ^ 62) × (den + 0x37_0d3d_52e9_8fca < 2 ^ 62) × (mag k < 2000) ⌝ }
+    requires { ⌜ (num + numFixed 6 < 2 ^ 62) × (den + denFixed 7 < 2 ^ 62) × (mag k < 2000) ⌝ }
     ensures { λ v. ⌜ Ended num den p y r k v ⌝ }
 {
-    let first = 1.0 + (r * p) / 2.0;
-    let e = exponential::scale(1.0 + (r * first) / 1.0, k);
+    let first = exponential::turn(r, p, 2.0);
+    let e = exponential::scale(exponential::turn(r, first, 1.0), k);
     let above = steps::fixed_last(num, y, NUM_6, 47);
     let below = steps::fixed_last(den, y, DEN_7, 45);
     e * above / below

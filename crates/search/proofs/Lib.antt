@@ -7,7 +7,6 @@ pub mod Place
 pub mod Middle
 pub mod Law
 pub mod HalvingLaw
-pub mod SameValue
 pub mod LadderSteps
 pub mod HalvingSteps
 pub mod Every

@@ -4,6 +4,7 @@ ghost use mathlib.Core.Bool.{true};
 ghost use Rattle.coupons.specs.Sum.{weightedSum};
 ghost use Rattle.search.specs.Rate.{halveOf, halvingsOf};
 use super::Bracket;
+use elementary::same;
 
 // What a halving, or a run of them, comes to: a bracket, or a stop at a NaN sum.
 pub enum Halving {
@@ -35,16 +36,6 @@ fn halve(weights: &[f64], b: &[f64], bracket: Bracket) -> Halving
             upper_sum: sum,
         })
     }
-}
-
-// Whether two values are surely the same. Of zeros it says no: `==` does not see their sign.
-fn same(x: f64, y: f64) -> bool
-    ensures { λ r. ⌜ (r ≡ true → x ≡ y) ⌝ }
-{
-    if x != y {
-        return false;
-    }
-    x != 0.0
 }
 
 // Whether two brackets surely have the same ends.

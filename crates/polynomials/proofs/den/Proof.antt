@@ -2,7 +2,7 @@
 use mathlib.Core.Path.{_≡_, _∙_}
 use Rattle.ieee.specs.Fused.{fusedOf}
 use Rattle.polynomials.specs.Polynomials.{horner}
-use Rattle.polynomials.proofs.Coefficients.{denLiteral, denLiterals, den-is}
+use Rattle.polynomials.proofs.Coefficients.{literal, denBits, denLiterals, den-is}
 use borrow.Author.Needs.{needs}
 use Rattle.polynomials.proofs.den.Statement.{statement}
 use Rattle.polynomials.proofs.den.Tie as tie
@@ -30,7 +30,7 @@ fused-requires-7 c κs = search needs
 
 returns : tie.Need-returns
 returns c =
-    let w : c .fused7 .result ≡ horner fusedOf (c .before .before .before .before .before .before .before .args .z) denLiteral denLiterals = cc in
+    let w : c .fused7 .result ≡ horner fusedOf (c .before .before .before .before .before .before .before .args .z) (literal denBits 0) denLiterals = cc in
     w ∙ den-is fusedOf _
 
 pub den-spec : {M : Type 1} → statement M

@@ -2,7 +2,7 @@
 use mathlib.Core.Path.{_≡_, _∙_}
 use Rattle.ieee.specs.Fused.{fusedOf}
 use Rattle.polynomials.specs.Polynomials.{horner}
-use Rattle.polynomials.proofs.Coefficients.{numLiteral, numLiterals, num-is}
+use Rattle.polynomials.proofs.Coefficients.{literal, numBits, numLiterals, num-is}
 use borrow.Author.Needs.{needs}
 use Rattle.polynomials.proofs.num.Statement.{statement}
 use Rattle.polynomials.proofs.num.Tie as tie
@@ -27,7 +27,7 @@ fused-requires-6 c κs = search needs
 
 returns : tie.Need-returns
 returns c =
-    let w : c .fused6 .result ≡ horner fusedOf (c .before .before .before .before .before .before .args .z) numLiteral numLiterals = cc in
+    let w : c .fused6 .result ≡ horner fusedOf (c .before .before .before .before .before .before .args .z) (literal numBits 0) numLiterals = cc in
     w ∙ num-is fusedOf _
 
 pub num-spec : {M : Type 1} → statement M

@@ -2,7 +2,6 @@
 use borrow.Author.Needs.{needs}
 use mathlib.Core.Path.{_≡_, sym, ap, _∙_}
 use Prim.Native.Nat.{_-_, _≤_}
-use lib.Ieee.{Float}
 use Rattle.ieee.specs.Numbers.{one}
 use Rattle.exponential.specs.Exp.{seriesOf}
 use Rattle.exponential.proofs.Turns.{series-turn, series-end}
@@ -27,6 +26,9 @@ add-n c = search needs
 int-to-float-n : tie.Need-int-to-float-n Inv-loop μ-loop
 int-to-float-n c = search needs
 
+turn-requires : tie.Need-turn-requires Inv-loop μ-loop
+turn-requires c κs = search needs
+
 same-requires : tie.Need-same-requires Inv-loop μ-loop
 same-requires c κs = search needs
 
@@ -35,8 +37,10 @@ loop-less c = search needs
 
 loop-again : tie.Need-loop-again Inv-loop μ-loop
 loop-again c =
-    let l = c .before .before .before .before in
-    (search needs, ap (λ (w : Float). seriesOf (l .before .args .x) 1 (l .loop .k - 1) w) (c .before .same .ensures (c .if1 .taken)) ∙ series-turn _ _ _ _ (c .before .before .before .loop-test .taken) ∙ l .loop .inv .1)
+    let s = c .before in
+    let t = s .before .before .before in
+    let l = t .before in
+    (search needs, ap (seriesOf (l .before .args .x) 1 (l .loop .k - 1)) (s .same .ensures (c .if1 .taken) ∙ s .before .turn .ensures) ∙ series-turn _ _ _ _ (t .loop-test .taken) ∙ l .loop .inv .1)
 
 series-requires : tie.Need-series-requires Inv-loop μ-loop
 series-requires c κs = search needs
@@ -57,6 +61,7 @@ guessed-spec =
     sub-k
     add-n
     int-to-float-n
+    turn-requires
     same-requires
     loop-less
     loop-again

@@ -1,7 +1,7 @@
 -- `exponential::series` meets its contract: what is left of the series, from p on, is the whole series. The turns that are left fall. Assumes nothing.
 use borrow.Author.Needs.{needs}
-use mathlib.Core.Path.{_≡_, sym, _∙_}
-use Prim.Native.Nat.{_≤_}
+use mathlib.Core.Path.{_≡_, sym, ap, _∙_}
+use Prim.Native.Nat.{_-_, _≤_}
 use Rattle.ieee.specs.Numbers.{one}
 use Rattle.exponential.specs.Exp.{seriesOf}
 use Rattle.exponential.proofs.Turns.{series-turn, series-end}
@@ -23,17 +23,23 @@ sub-k c = search needs
 add-n : tie.Need-add-n Inv-loop μ-loop
 add-n c = search needs
 
-int-to-float-p : tie.Need-int-to-float-p Inv-loop μ-loop
-int-to-float-p c = search needs
+int-to-float-turn : tie.Need-int-to-float-turn Inv-loop μ-loop
+int-to-float-turn c = search needs
+
+turn-requires : tie.Need-turn-requires Inv-loop μ-loop
+turn-requires c κs = search needs
 
 loop-less : tie.Need-loop-less Inv-loop μ-loop
 loop-less c = search needs
 
 loop-again : tie.Need-loop-again Inv-loop μ-loop
-loop-again c = (search needs, series-turn _ _ _ _ (c .before .loop-test .taken) ∙ c .before .before .loop .inv .1)
+loop-again c =
+    let t = c .before .before in
+    let l = t .before in
+    (search needs, ap (seriesOf (l .before .args .x) (l .before .args .last) (l .loop .k - 1)) (c .turn .ensures) ∙ series-turn _ _ _ _ (t .loop-test .taken) ∙ l .loop .inv .1)
 
 returns : tie.Need-returns Inv-loop μ-loop
 returns c = sym (series-end _ _ _ _ (c .loop-test .left)) ∙ c .before .loop .inv .1
 
 pub series-spec : {M : Type 1} → statement M
-series-spec = tie.close (tie.spec Inv-loop μ-loop loop-holds sub-k add-n int-to-float-p loop-less loop-again returns)
+series-spec = tie.close (tie.spec Inv-loop μ-loop loop-holds sub-k add-n int-to-float-turn turn-requires loop-less loop-again returns)

@@ -1,7 +1,7 @@
 -- `exponential::series_two` meets its contract: of each series, what is left, from p or q on, is the whole, as in `series`. The turns that are left fall. Assumes nothing.
 use borrow.Author.Needs.{needs}
-use mathlib.Core.Path.{_≡_, sym, _∙_}
-use Prim.Native.Nat.{_≤_}
+use mathlib.Core.Path.{_≡_, sym, ap, _∙_}
+use Prim.Native.Nat.{_-_, _≤_}
 use Rattle.ieee.specs.Numbers.{one}
 use Rattle.exponential.specs.Exp.{seriesOf}
 use Rattle.exponential.proofs.Turns.{series-turn, series-end}
@@ -26,14 +26,24 @@ add-n c = search needs
 int-to-float-n : tie.Need-int-to-float-n Inv-loop μ-loop
 int-to-float-n c = search needs
 
+turn-requires : tie.Need-turn-requires Inv-loop μ-loop
+turn-requires c κs = search needs
+
+turn-requires-2 : tie.Need-turn-requires-2 Inv-loop μ-loop
+turn-requires-2 c κs = search needs
+
 loop-less : tie.Need-loop-less Inv-loop μ-loop
 loop-less c = search needs
 
 loop-again : tie.Need-loop-again Inv-loop μ-loop
 loop-again c =
-    let inv = c .before .before .loop .inv in
-    let h = c .before .loop-test .taken in
-    (search needs, series-turn _ _ _ _ h ∙ inv .1, series-turn _ _ _ _ h ∙ inv .2)
+    let t = c .before .before .before in
+    let l = t .before in
+    let h = t .loop-test .taken in (
+      search needs,
+      ap (seriesOf (l .before .args .x) 1 (l .loop .k - 1)) (c .before .turn .ensures) ∙ series-turn _ _ _ _ h ∙ l .loop .inv .1,
+      ap (seriesOf (l .before .args .y) 1 (l .loop .k - 1)) (c .turn2 .ensures) ∙ series-turn _ _ _ _ h ∙ l .loop .inv .2,
+    )
 
 returns : tie.Need-returns Inv-loop μ-loop
 returns c =
@@ -42,4 +52,4 @@ returns c =
     (sym (series-end _ _ _ _ h) ∙ inv .1, sym (series-end _ _ _ _ h) ∙ inv .2)
 
 pub series-two-spec : {M : Type 1} → statement M
-series-two-spec = tie.close (tie.spec Inv-loop μ-loop loop-holds sub-k add-n int-to-float-n loop-less loop-again returns)
+series-two-spec = tie.close (tie.spec Inv-loop μ-loop loop-holds sub-k add-n int-to-float-n turn-requires turn-requires-2 loop-less loop-again returns)

@@ -1,7 +1,7 @@
 -- `kinds::kinds::work` meets its contract: swaptions below kind 8, else fits. Assumes nothing.
 use borrow.Author.Needs.{needs}
 use borrow.Author.Tests.{lt-ltb, le-ltb}
-use Rattle.kinds.specs.Worked.{workOf}
+use Rattle.kinds.specs.Worked.{fitWhole, workOf}
 use Rattle.kinds.proofs.kinds.work.Statement.{statement}
 use Rattle.kinds.proofs.kinds.work.Tie as tie
 
@@ -16,7 +16,7 @@ fit-work-requires : tie.Need-fit-work-requires
 fit-work-requires c κs = search needs
 
 returns-2 : tie.Need-returns-2
-unfolding workOf
+unfolding workOf fitWhole
 returns-2 c = rw (le-ltb _ 8 (c .before .if1 .left)) (c .fit-work .ensures)
 
 pub work-spec : {M : Type 1} → statement M

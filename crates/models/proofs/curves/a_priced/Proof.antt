@@ -1,96 +1,50 @@
--- `models::a_priced` meets its contract: each factor is found or the call is refused by rule 8, and then the formula is worked. Assumes nothing.
+-- `models::a_priced` meets its contract: A is found or the call is refused by rule 8. Assumes nothing.
 use borrow.Author.Needs.{needs}
+use mathlib.Core.Path.{sym, ap, _∙_}
+use lib.Ieee.{Float}
+use Rattle.lists.specs.Refusals.{Outcome, finishing}
+use Rattle.lookups.specs.declared.lookups.Found.{Found}
+use Rattle.lookups.specs.Lookups.{foundOf, needing}
 use Rattle.models.specs.Curves.{aPriced}
-use Rattle.lookups.proofs.Outcomes.{at, missing}
 use Rattle.models.proofs.curves.a_priced.Statement.{statement}
 use Rattle.models.proofs.curves.a_priced.Tie as tie
 
-factor-requires : tie.Need-factor-requires
-factor-requires c κs = search needs
+b-of-requires : tie.Need-b-of-requires
+b-of-requires c κs = search needs
 
-enum-known-p-t : tie.Need-enum-known-p-t
-enum-known-p-t c = search needs
+a-found-requires : tie.Need-a-found-requires
+a-found-requires c κs = search needs
+
+enum-known-a : tie.Need-enum-known-a
+enum-known-a c = search needs
 
 enum-told : tie.Need-enum-told
 enum-told c = search needs
 
 returns : tie.Need-returns
 unfolding aPriced
-returns c = rw (missing _ (c .enum-told .given .1) (c .before .before .factor .ensures))
-
-factor-requires-2 : tie.Need-factor-requires-2
-factor-requires-2 c κs = search needs
-
-enum-known-p-bond : tie.Need-enum-known-p-bond
-enum-known-p-bond c = search needs
-
-enum-told-2 : tie.Need-enum-told-2
-enum-told-2 c = search needs
-
-returns-2 : tie.Need-returns-2
-unfolding aPriced
-returns-2 c =
-    let i = c .before .before .before .before in
-    rw (at _ (i .p-t .given .1) (i .before .before .factor .ensures), missing _ (c .enum-told2 .given .1) (c .before .before .factor2 .ensures))
-
-day-requires : tie.Need-day-requires
-day-requires c κs = search needs
-
-factor-requires-3 : tie.Need-factor-requires-3
-factor-requires-3 c κs = search needs
-
-enum-known-p-plus : tie.Need-enum-known-p-plus
-enum-known-p-plus c = search needs
-
-enum-told-3 : tie.Need-enum-told-3
-enum-told-3 c = search needs
-
-returns-3 : tie.Need-returns-3
-unfolding aPriced
-returns-3 c =
-    let j = c .before .before .before .before .before in
-    let i = j .before .before .before .before in
-    rw (at _ (i .p-t .given .1) (i .before .before .factor .ensures), at _ (j .p-bond .given .1) (j .before .before .factor2 .ensures), ← c .before .before .before .day .ensures, missing _ (c .enum-told3 .given .1) (c .before .before .factor3 .ensures))
-
-b-of-requires : tie.Need-b-of-requires
-b-of-requires c κs = search needs
-
-forward-of-requires : tie.Need-forward-of-requires
-forward-of-requires c κs = search needs
-
-a-of-requires : tie.Need-a-of-requires
-a-of-requires c κs = search needs
+returns c =
+    let f = c .before .before in
+    rw (← f .before .b-of .ensures) (sym (ap (λ (m : Found). needing (foundOf m) finishing) (c .enum-told .given .1)) ∙ f .a-found .ensures finishing)
 
 served-requires : tie.Need-served-requires
 served-requires c κs = search needs
 
-returns-4 : tie.Need-returns-4
+returns-2 : tie.Need-returns-2
 unfolding aPriced
-returns-4 c =
-    let k = c .before .before .before .before .before in
-    let j = k .before .before .before .before .before in
-    let i = j .before .before .before .before in
-    rw (at _ (i .p-t .given .1) (i .before .before .factor .ensures), at _ (j .p-bond .given .1) (j .before .before .factor2 .ensures), ← k .before .before .before .day .ensures, at _ (k .p-plus .given .1) (k .before .before .factor3 .ensures), ← c .before .before .before .b-of .ensures, ← c .before .before .forward-of .ensures, ← c .before .a-of .ensures) (c .served .ensures)
+returns-2 c =
+    let g = c .before .before in
+    let f = g .before .before in
+    rw (← f .before .b-of .ensures) (c .served .ensures ∙ sym (ap (λ (m : Found). needing (foundOf m) finishing) (g .a .given .1)) ∙ f .a-found .ensures finishing)
 
 pub a-priced-spec : {M : Type 1} → statement M
 a-priced-spec =
     tie.close
     (tie.spec
-    factor-requires
-    enum-known-p-t
+    b-of-requires
+    a-found-requires
+    enum-known-a
     enum-told
     returns
-    factor-requires-2
-    enum-known-p-bond
-    enum-told-2
-    returns-2
-    day-requires
-    factor-requires-3
-    enum-known-p-plus
-    enum-told-3
-    returns-3
-    b-of-requires
-    forward-of-requires
-    a-of-requires
     served-requires
-    returns-4)
+    returns-2)

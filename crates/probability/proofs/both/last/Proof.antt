@@ -3,10 +3,17 @@ use mathlib.Core.Path.{ap, ap₂, _∙_}
 use borrow.Author.Needs.{needs}
 use lib.Ieee.{Float, ofBits}
 use Rattle.ieee.specs.Rounded.{_⊗_, _⊘_}
-use Rattle.exponential.specs.Exp.{scaleOf}
+use Rattle.ieee.specs.Numbers.{one}
+use Rattle.exponential.specs.Exp.{turnOf, scaleOf}
 use Rattle.probability.proofs.Turning.{num6, den7, k-back}
 use Rattle.probability.proofs.both.last.Statement.{statement}
 use Rattle.probability.proofs.both.last.Tie as tie
+
+turn-requires : tie.Need-turn-requires
+turn-requires c κs = search needs
+
+turn-requires-2 : tie.Need-turn-requires-2
+turn-requires-2 c κs = search needs
 
 scale-requires : tie.Need-scale-requires
 scale-requires c κs = search needs
@@ -20,7 +27,12 @@ fixed-last-requires-2 c κs = search needs
 returns : tie.Need-returns
 unfolding ofBits
 returns c = λ z a b Z A B.
-    ap₂ (λ (p q : Float). p ⊘ q) (ap₂ (λ (p q : Float). p ⊗ q) (c .before .before .scale .ensures ∙ ap (scaleOf _) (k-back (c .before .before .before .args .k) (c .before .before .before .pre .2))) (c .before .fixed-last .ensures a z _ A Z num6)) (c .fixed-last2 .ensures b z _ B Z den7)
+    let s = c .before .before in
+    let t = s .before in
+    let f = t .before in
+    let g = f .before in
+    let e = s .scale .ensures ∙ ap₂ scaleOf (t .turn2 .ensures ∙ ap (λ (p : Float). turnOf (g .args .r) p one) (f .turn .ensures)) (k-back (g .args .k) (g .pre .2)) in
+    ap₂ (λ (p q : Float). p ⊘ q) (ap₂ (λ (p q : Float). p ⊗ q) e (c .before .fixed-last .ensures a z _ A Z num6)) (c .fixed-last2 .ensures b z _ B Z den7)
 
 pub last-spec : {M : Type 1} → statement M
-last-spec = tie.close (tie.spec scale-requires fixed-last-requires fixed-last-requires-2 returns)
+last-spec = tie.close (tie.spec turn-requires turn-requires-2 scale-requires fixed-last-requires fixed-last-requires-2 returns)

@@ -1,7 +1,8 @@
 -- `probability::quotients` meets its contract: the sizes after each turn leave room for the next, and the turns of each argument put together are what lies above it. Assumes nothing.
 use borrow.Author.Needs.{needs}
 use lib.Dec.{lit<, lit≤}
-use Rattle.probability.proofs.Turning.{Within, begins, room, goes-on, k-small, assembled}
+use Rattle.probability.specs.Turns.{numFixed, denFixed}
+use Rattle.probability.proofs.Turning.{Sizes, begins, room, goes-on, k-small, assembled}
 use Rattle.probability.proofs.both.quotients.Statement.{statement}
 use Rattle.probability.proofs.both.quotients.Tie as tie
 
@@ -20,73 +21,55 @@ reduce-requires-2 c κs = c .before .before .before .pre .3
 begun-requires : tie.Need-begun-requires
 begun-requires c κs = search needs
 
--- ---- the sizes, of the first argument and of the second
+-- ---- the sizes
 
-w0 : (c : tie.After-begun) → Within 20327445318070136 303970716800877168 (c .begun .result .num) (c .begun .result .den)
-w0 c = begins _ _ _ _ _ (c .begun .ensures .0)
+sizes0 : (c : tie.After-begun) → Sizes 0 (c .begun .result .num) (c .begun .result .den) (c .begun .result .num2) (c .begun .result .den2)
+sizes0 c = begins (c .begun .ensures .0) (c .begun .ensures .1)
 
-v0 : (c : tie.After-begun) → Within 20327445318070136 303970716800877168 (c .begun .result .num2) (c .begun .result .den2)
-v0 c = begins _ _ _ _ _ (c .begun .ensures .1)
+sizes1 : (c : tie.After-turn-two) → Sizes 1 (c .turn-two .result .num) (c .turn-two .result .den) (c .turn-two .result .num2) (c .turn-two .result .den2)
+sizes1 c = goes-on 0 (sizes0 (c .before)) (c .turn-two .ensures)
 
-w1 : (c : tie.After-turn-two) → Within 121263282375517032 882743710078718704 (c .turn-two .result .num) (c .turn-two .result .den)
-w1 c = goes-on 20327445318070136 303970716800877168 (c .before .begun .result .num) (c .before .begun .result .den) (w0 (c .before)) 0x166_989b_e8ea_71f0 0x808_36f8_8dea_4e80 _ _ _ _ _ _ _ _ (c .turn-two .ensures .0)
+sizes2 : (c : tie.After-turn-two2) → Sizes 2 (c .turn-two2 .result .num) (c .turn-two2 .result .den) (c .turn-two2 .result .num2) (c .turn-two2 .result .den2)
+sizes2 c = goes-on 1 (sizes1 (c .before)) (c .turn-two2 .ensures)
 
-v1 : (c : tie.After-turn-two) → Within 121263282375517032 882743710078718704 (c .turn-two .result .num2) (c .turn-two .result .den2)
-v1 c = goes-on 20327445318070136 303970716800877168 (c .before .begun .result .num2) (c .before .begun .result .den2) (v0 (c .before)) 0x166_989b_e8ea_71f0 0x808_36f8_8dea_4e80 _ _ _ _ _ _ _ _ (c .turn-two .ensures .1)
+sizes3 : (c : tie.After-turn-two3) → Sizes 3 (c .turn-two3 .result .num) (c .turn-two3 .result .den) (c .turn-two3 .result .num2) (c .turn-two3 .result .den2)
+sizes3 c = goes-on 2 (sizes2 (c .before)) (c .turn-two3 .ensures)
 
-w2 : (c : tie.After-turn-two2) → Within 350909472813107656 1664395056502972912 (c .turn-two2 .result .num) (c .turn-two2 .result .den)
-w2 c = goes-on 121263282375517032 882743710078718704 (c .before .turn-two .result .num) (c .before .turn-two .result .den) (w1 (c .before)) 0x32f_ddfe_550d_e460 0xad8_fbc2_19d2_cd00 _ _ _ _ _ _ _ _ (c .turn-two2 .ensures .0)
+sizes4 : (c : tie.After-turn-two4) → Sizes 4 (c .turn-two4 .result .num) (c .turn-two4 .result .den) (c .turn-two4 .result .num2) (c .turn-two4 .result .den2)
+sizes4 c = goes-on 3 (sizes3 (c .before)) (c .turn-two4 .ensures)
 
-v2 : (c : tie.After-turn-two2) → Within 350909472813107656 1664395056502972912 (c .turn-two2 .result .num2) (c .turn-two2 .result .den2)
-v2 c = goes-on 121263282375517032 882743710078718704 (c .before .turn-two .result .num2) (c .before .turn-two .result .den2) (v1 (c .before)) 0x32f_ddfe_550d_e460 0xad8_fbc2_19d2_cd00 _ _ _ _ _ _ _ _ (c .turn-two2 .ensures .1)
-
-w3 : (c : tie.After-turn-two3) → Within 656369414880450568 2332198376650748912 (c .turn-two3 .result .num) (c .turn-two3 .result .den)
-w3 c = goes-on 350909472813107656 1664395056502972912 (c .before .turn-two2 .result .num) (c .before .turn-two2 .result .den) (w2 (c .before)) 0x43d_3632_ec09_0c40 0x944_8394_dd3c_1000 _ _ _ _ _ _ _ _ (c .turn-two3 .ensures .0)
-
-v3 : (c : tie.After-turn-two3) → Within 656369414880450568 2332198376650748912 (c .turn-two3 .result .num2) (c .turn-two3 .result .den2)
-v3 c = goes-on 350909472813107656 1664395056502972912 (c .before .turn-two2 .result .num2) (c .before .turn-two2 .result .den2) (v2 (c .before)) 0x43d_3632_ec09_0c40 0x944_8394_dd3c_1000 _ _ _ _ _ _ _ _ (c .turn-two3 .ensures .1)
-
-w4 : (c : tie.After-turn-two4) → Within 908749542593331592 2690985315875197872 (c .turn-two4 .result .num) (c .turn-two4 .result .den)
-w4 c = goes-on 656369414880450568 2332198376650748912 (c .before .turn-two3 .result .num) (c .before .turn-two3 .result .den) (w3 (c .before)) 0x380_a263_94b1_a780 0x4fa_aad1_fe85_ddc0 _ _ _ _ _ _ _ _ (c .turn-two4 .ensures .0)
-
-v4 : (c : tie.After-turn-two4) → Within 908749542593331592 2690985315875197872 (c .turn-two4 .result .num2) (c .turn-two4 .result .den2)
-v4 c = goes-on 656369414880450568 2332198376650748912 (c .before .turn-two3 .result .num2) (c .before .turn-two3 .result .den2) (v3 (c .before)) 0x380_a263_94b1_a780 0x4fa_aad1_fe85_ddc0 _ _ _ _ _ _ _ _ (c .turn-two4 .ensures .1)
-
-w5 : (c : tie.After-turn-two5) → Within 1033281726253355688 2802706465437125200 (c .turn-two5 .result .num) (c .turn-two5 .result .den)
-w5 c = goes-on 908749542593331592 2690985315875197872 (c .before .turn-two4 .result .num) (c .before .turn-two4 .result .den) (w4 (c .before)) 0x1ba_6d5c_7a28_cf20 0x18c_e9cb_2989_74a0 _ _ _ _ _ _ _ _ (c .turn-two5 .ensures .0)
-
-v5 : (c : tie.After-turn-two5) → Within 1033281726253355688 2802706465437125200 (c .turn-two5 .result .num2) (c .turn-two5 .result .den2)
-v5 c = goes-on 908749542593331592 2690985315875197872 (c .before .turn-two4 .result .num2) (c .before .turn-two4 .result .den2) (v4 (c .before)) 0x1ba_6d5c_7a28_cf20 0x18c_e9cb_2989_74a0 _ _ _ _ _ _ _ _ (c .turn-two5 .ensures .1)
+sizes5 : (c : tie.After-turn-two5) → Sizes 5 (c .turn-two5 .result .num) (c .turn-two5 .result .den) (c .turn-two5 .result .num2) (c .turn-two5 .result .den2)
+sizes5 c = goes-on 4 (sizes4 (c .before)) (c .turn-two5 .ensures)
 
 turn-two-requires : tie.Need-turn-two-requires
-turn-two-requires c κs = (room 20327445318070136 303970716800877168 (c .begun .result .num) (c .begun .result .den) (w0 c) 0x166_989b_e8ea_71f0 0x808_36f8_8dea_4e80 (lit≤ tt) (lit< tt) (lit≤ tt) (lit< tt), room 20327445318070136 303970716800877168 (c .begun .result .num2) (c .begun .result .den2) (v0 c) 0x166_989b_e8ea_71f0 0x808_36f8_8dea_4e80 (lit≤ tt) (lit< tt) (lit≤ tt) (lit< tt))
+turn-two-requires c κs = room 0 (sizes0 c) (numFixed 1) (denFixed 2) (lit≤ tt) (lit< tt) (lit≤ tt) (lit< tt)
 
 turn-two-requires-2 : tie.Need-turn-two-requires-2
-turn-two-requires-2 c κs = (room 121263282375517032 882743710078718704 (c .turn-two .result .num) (c .turn-two .result .den) (w1 c) 0x32f_ddfe_550d_e460 0xad8_fbc2_19d2_cd00 (lit≤ tt) (lit< tt) (lit≤ tt) (lit< tt), room 121263282375517032 882743710078718704 (c .turn-two .result .num2) (c .turn-two .result .den2) (v1 c) 0x32f_ddfe_550d_e460 0xad8_fbc2_19d2_cd00 (lit≤ tt) (lit< tt) (lit≤ tt) (lit< tt))
+turn-two-requires-2 c κs = room 1 (sizes1 c) (numFixed 2) (denFixed 3) (lit≤ tt) (lit< tt) (lit≤ tt) (lit< tt)
 
 turn-two-requires-3 : tie.Need-turn-two-requires-3
-turn-two-requires-3 c κs = (room 350909472813107656 1664395056502972912 (c .turn-two2 .result .num) (c .turn-two2 .result .den) (w2 c) 0x43d_3632_ec09_0c40 0x944_8394_dd3c_1000 (lit≤ tt) (lit< tt) (lit≤ tt) (lit< tt), room 350909472813107656 1664395056502972912 (c .turn-two2 .result .num2) (c .turn-two2 .result .den2) (v2 c) 0x43d_3632_ec09_0c40 0x944_8394_dd3c_1000 (lit≤ tt) (lit< tt) (lit≤ tt) (lit< tt))
+turn-two-requires-3 c κs = room 2 (sizes2 c) (numFixed 3) (denFixed 4) (lit≤ tt) (lit< tt) (lit≤ tt) (lit< tt)
 
 turn-two-requires-4 : tie.Need-turn-two-requires-4
-turn-two-requires-4 c κs = (room 656369414880450568 2332198376650748912 (c .turn-two3 .result .num) (c .turn-two3 .result .den) (w3 c) 0x380_a263_94b1_a780 0x4fa_aad1_fe85_ddc0 (lit≤ tt) (lit< tt) (lit≤ tt) (lit< tt), room 656369414880450568 2332198376650748912 (c .turn-two3 .result .num2) (c .turn-two3 .result .den2) (v3 c) 0x380_a263_94b1_a780 0x4fa_aad1_fe85_ddc0 (lit≤ tt) (lit< tt) (lit≤ tt) (lit< tt))
+turn-two-requires-4 c κs = room 3 (sizes3 c) (numFixed 4) (denFixed 5) (lit≤ tt) (lit< tt) (lit≤ tt) (lit< tt)
 
 turn-two-requires-5 : tie.Need-turn-two-requires-5
-turn-two-requires-5 c κs = (room 908749542593331592 2690985315875197872 (c .turn-two4 .result .num) (c .turn-two4 .result .den) (w4 c) 0x1ba_6d5c_7a28_cf20 0x18c_e9cb_2989_74a0 (lit≤ tt) (lit< tt) (lit≤ tt) (lit< tt), room 908749542593331592 2690985315875197872 (c .turn-two4 .result .num2) (c .turn-two4 .result .den2) (v4 c) 0x1ba_6d5c_7a28_cf20 0x18c_e9cb_2989_74a0 (lit≤ tt) (lit< tt) (lit≤ tt) (lit< tt))
+turn-two-requires-5 c κs = room 4 (sizes4 c) (numFixed 5) (denFixed 6) (lit≤ tt) (lit< tt) (lit≤ tt) (lit< tt)
 
 -- ---- the ends
 
 last-requires : tie.Need-last-requires
 last-requires c κs =
-    let T = c .before in
-    let r = room 1033281726253355688 2802706465437125200 (T .turn-two5 .result .num) (T .turn-two5 .result .den) (w5 T) 0x6e_1a7a_a5d3_1f94 0x37_0d3d_52e9_8fca (lit≤ tt) (lit< tt) (lit≤ tt) (lit< tt) in
-    let R = T .before .before .before .before .before .before .before in
+    let t = c .before in
+    let r = room 5 (sizes5 t) (numFixed 6) (denFixed 7) (lit≤ tt) (lit< tt) (lit≤ tt) (lit< tt) .0 in
+    let R = t .before .before .before .before .before .before .before in
     (r .1, r .3, k-small (R .reduce .result .k) (R .reduce .ensures .2))
 
 last-requires-2 : tie.Need-last-requires-2
 last-requires-2 c κs =
-    let T = c .before .before .before in
-    let r = room 1033281726253355688 2802706465437125200 (T .turn-two5 .result .num2) (T .turn-two5 .result .den2) (v5 T) 0x6e_1a7a_a5d3_1f94 0x37_0d3d_52e9_8fca (lit≤ tt) (lit< tt) (lit≤ tt) (lit< tt) in
-    let R = T .before .before .before .before .before .before in
+    let t = c .before .before .before in
+    let r = room 5 (sizes5 t) (numFixed 6) (denFixed 7) (lit≤ tt) (lit< tt) (lit≤ tt) (lit< tt) .1 in
+    let R = t .before .before .before .before .before .before in
     (r .1, r .3, k-small (R .reduce2 .result .k) (R .reduce2 .ensures .2))
 
 returns : tie.Need-returns

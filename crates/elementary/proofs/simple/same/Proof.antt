@@ -1,10 +1,10 @@
--- `search::halving::same` meets its contract. Assumes nothing.
+-- `elementary::same` meets its contract: equal numbers that are no zeros are the same value. Assumes nothing.
 use mathlib.Core.Path.{sym, subst}
 use lib.Dec.{T}
 use mathlib.Core.Bool.{true≢false}
-use Rattle.search.proofs.SameValue.{same-tested}
-use Rattle.search.proofs.halving.same.Statement.{statement}
-use Rattle.search.proofs.halving.same.Tie as tie
+use Rattle.elementary.proofs.Unique.{same-tested}
+use Rattle.elementary.proofs.simple.same.Statement.{statement}
+use Rattle.elementary.proofs.simple.same.Tie as tie
 
 returns : tie.Need-returns
 returns c = λ e. absurd (true≢false (sym e))
