@@ -56,8 +56,7 @@ fn puts(
 
 // The price at a sigma: A a coupon, the search, then the puts. `decay` and `deviation`
 // are those of the option time, p_t its factor; c, b, drift and p are the terms' coefficients, B,
-// drifts and factors. `swaptions::terms_priced`, and `objectives::model_price` of a fit, have them of one length of at
-// most 64.
+// drifts and factors, of one length of at most 64.
 pub fn price_at(
     alpha: f64,
     sigma: f64,

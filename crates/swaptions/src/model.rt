@@ -7,7 +7,8 @@ ghost use Rattle.lists.specs.Checks.{inOrder};
 ghost use Rattle.lists.specs.Refusals.{served, reported, firstOf, following};
 ghost use Rattle.lists.specs.Faults.{curveFaults};
 ghost use Rattle.jamshidian.specs.Price.{swaptionOutcome, noValued, finishingSwaption};
-ghost use Rattle.swaptions.specs.Model.{modelRules, termsPriced, modelPriced, modelOutcome};
+ghost use Rattle.jamshidian.specs.Ahead.{priceOn};
+ghost use Rattle.swaptions.specs.Model.{modelRules, modelPriced, modelOutcome};
 ghost use Rattle.swaptions.specs.Demand3.{Rooted, RefusedSo};
 use jamshidian::Root;
 use jamshidian::Swaption;
@@ -15,8 +16,8 @@ use lists::Answer;
 use lists::Faults;
 use lists::Refusal;
 use lists::Test;
-use lookups::Found;
 use search::Bracket;
+use terms::Terms;
 
 // Kind 5: the coupons are payment times and accruals.
 pub fn swaption_price(
@@ -126,8 +127,8 @@ fn nothing() -> Swaption
     )
 }
 
-// The factors, then the terms and the price. `swaption_price_on` has asked the rules: the coupons' lists
-// are of one length of at most 64, and the curve's times strictly rise.
+// The factors and the terms, then the price. The rules have the coupons' lists of one length of at most 64, and
+// the curve's times strictly rising.
 fn model_priced(
     alpha: f64,
     times: &[f64],
@@ -141,55 +142,47 @@ fn model_priced(
     requires { ⌜ (length (now payments) ≤ 64) × (length (now accruals) ≡ length (now payments)) × (inOrder true (now times) ≡ true) ⌝ }
     ensures { λ r. ⌜ swaptionOutcome r ≡ modelPriced alpha (now (times .entry)) (now (factors .entry)) (now (payments .entry)) (now (accruals .entry)) strike t sigma ⌝ }
 {
-    let Found::At(p_t) = lookups::factor(times, factors, t) else {
-        return Swaption::Refused(Refusal::OffCurve);
-    };
-    let Found::At(p_plus) = lookups::factor(times, factors, t + formulas::day()) else {
-        return Swaption::Refused(Refusal::OffCurve);
-    };
     let n = payments.len();
+    let mut c = [0.0; 64];
+    let mut b = [0.0; 64];
     let mut p = [0.0; 64];
-    let fetched = terms::fetch(times, factors, payments, &mut p[..n]);
-    if let Answer::Refused(refusal) = fetched {
-        return Swaption::Refused(refusal);
-    }
-    terms_priced(
+    let worked = terms::swaption_terms(
         alpha,
+        times,
+        factors,
         payments,
         accruals,
         strike,
         t,
-        sigma,
-        p_t,
-        p_plus,
-        &p[..n],
-    )
+        &mut c[..n],
+        &mut b[..n],
+        &mut p[..n],
+    );
+    match worked {
+        Terms::Refused(refusal) => Swaption::Refused(refusal),
+        Terms::Served { p_t, forward } => {
+            terms_priced(alpha, t, sigma, p_t, forward, &c[..n], &b[..n], &p[..n])
+        }
+    }
 }
 
-// The terms and the price, on the factors at t, t + h and the payment times. `model_priced` has the lists of
-// one length of at most 64.
+// The price on the terms, which are of one length of at most 64.
 fn terms_priced(
     alpha: f64,
-    payments: &[f64],
-    accruals: &[f64],
-    strike: f64,
     t: f64,
     sigma: f64,
     p_t: f64,
-    p_plus: f64,
+    forward: f64,
+    c: &[f64],
+    b: &[f64],
     p: &[f64],
 ) -> Swaption
-    requires { ⌜ (length (now payments) ≤ 64) × (length (now accruals) ≡ length (now payments)) × (length (now p) ≡ length (now payments)) ⌝ }
-    ensures { λ r. ⌜ swaptionOutcome r ≡ termsPriced alpha (now (payments .entry)) (now (accruals .entry)) strike t sigma «p_t» «p_plus» (now (p .entry)) ⌝ }
+    requires { ⌜ (length (now c) ≤ 64) × (length (now b) ≡ length (now c)) × (length (now p) ≡ length (now c)) ⌝ }
+    ensures { λ r. ⌜ swaptionOutcome r ≡ following (priceOn alpha t (record { pt = «p_t»; forward = forward; coefficients = now (c .entry); bs = now (b .entry); factors = now (p .entry) }) sigma) finishingSwaption ⌝ }
 {
-    let n = payments.len();
-    let mut c = [0.0; 64];
-    terms::coefficients(strike, accruals, &mut c[..n]);
-    let mut b = [0.0; 64];
-    terms::bs(alpha, t, payments, &mut b[..n]);
+    let n = c.len();
     let mut drift = [0.0; 64];
-    let forward = formulas::forward_of(p_t, p_plus);
-    terms::drifts(forward, p_t, &b[..n], p, &mut drift[..n]);
+    terms::drifts(forward, p_t, b, p, &mut drift[..n]);
     let decay = formulas::decay_of(alpha, t);
     let deviation = formulas::deviation_of(alpha, t);
     let swaption = jamshidian::price_at(
@@ -198,8 +191,8 @@ fn terms_priced(
         decay,
         deviation,
         p_t,
-        &c[..n],
-        &b[..n],
+        c,
+        b,
         &drift[..n],
         p,
     );

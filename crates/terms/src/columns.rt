@@ -16,8 +16,7 @@ fn coefficient(last: bool, accrual: f64, strike: f64) -> f64
     }
 }
 
-// The coefficients of the coupons. `swaptions::terms_priced`, `valuations::swaption_priced` and
-// `calibration::swaption_worked` lend a place for each.
+// The coefficients of the coupons; a place for each is lent.
 pub fn coefficients(strike: f64, accruals: &[f64], out: &mut [f64])
     requires { ⌜ length (now out) ≡ length (now accruals) ⌝ }
     ensures { λ _. ⌜ now (out .exit) ≡ coefficientsOf strike (now (accruals .entry)) ⌝ }
@@ -29,8 +28,7 @@ pub fn coefficients(strike: f64, accruals: &[f64], out: &mut [f64])
     }
 }
 
-// B from t to each payment time. The same three lend a place for each: `swaptions::terms_priced`,
-// `valuations::swaption_priced` and `calibration::swaption_worked`.
+// B from t to each payment time; a place for each is lent.
 pub fn bs(alpha: f64, t: f64, payments: &[f64], out: &mut [f64])
     requires { ⌜ length (now out) ≡ length (now payments) ⌝ }
     ensures { λ _. ⌜ now (out .exit) ≡ bsOf alpha t (now (payments .entry)) ⌝ }
@@ -42,8 +40,8 @@ pub fn bs(alpha: f64, t: f64, payments: &[f64], out: &mut [f64])
     }
 }
 
-// Of each ln A what does not depend on sigma. `swaptions::terms_priced` and `calibration::swaption_worked` have
-// worked `bs` on the coupons whose factors they are given.
+// Of each ln A what does not depend on sigma, from B and the factor of each coupon: whoever has worked the terms
+// has both lists of one length.
 pub fn drifts(forward: f64, p_t: f64, b: &[f64], p: &[f64], out: &mut [f64])
     requires { ⌜ (length (now out) ≡ length (now b)) × (length (now p) ≡ length (now b)) ⌝ }
     ensures { λ _. ⌜ now (out .exit) ≡ driftsOf forward «p_t» (now (b .entry)) (now (p .entry)) ⌝ }
@@ -67,8 +65,7 @@ pub fn affines(alpha: f64, sigma: f64, decay: f64, b: &[f64], drift: &[f64], out
     }
 }
 
-// The weight of each term in the coupon sum, coefficient × A. `critical_rate` and `valuations::priced_by` are given
-// an A for each coefficient.
+// The weight of each term in the coupon sum, coefficient × A, with an A for each coefficient.
 pub fn weights(c: &[f64], a: &[f64], out: &mut [f64])
     requires { ⌜ (length (now out) ≡ length (now c)) × (length (now a) ≡ length (now c)) ⌝ }
     ensures { λ _. ⌜ now (out .exit) ≡ weightsOf (now (c .entry)) (now (a .entry)) ⌝ }

@@ -9,9 +9,8 @@ use lists::Answer;
 use lists::Refusal;
 use lookups::Found;
 
-// Fetches the factor at every payment time, or says why one is not there. `swaptions::model_priced`,
-// `valuations::swaption_priced` and `calibration::swaption_fitted` lend a place for each, and hand on that the
-// curve's times strictly rise. Beside a refusal the list holds what was fetched before it.
+// Fetches the factor at every payment time, or says why one is not there. A place for each is lent, and behind
+// rule 4 the curve's times strictly rise. Beside a refusal the list holds what was fetched before it.
 pub fn fetch(times: &[f64], factors: &[f64], payments: &[f64], out: &mut [f64]) -> Answer
     requires { ⌜ (length (now out) ≡ length (now payments)) × (inOrder true (now times) ≡ true) ⌝ }
     ensures { λ r. ⌜ factorsAt (now (times .entry)) (now (factors .entry)) (now (payments .entry)) ≡ after r (served (now (out .exit))) ⌝ }

@@ -8,7 +8,7 @@ use super::columns;
 use search::Critical;
 
 // No rate changes a term's weight, coefficient × A, so the weights are worked once and the search runs over them.
-// `jamshidian::price_at` and the calls of `critical` have asked rule 1: an A for each coefficient, at most 64.
+// Behind rule 1 there is an A for each coefficient, at most 64.
 pub fn critical_rate(c: &[f64], a: &[f64], b: &[f64]) -> Critical
     requires { ⌜ (length (now c) ≤ 64) × (length (now a) ≡ length (now c)) ⌝ }
     ensures { λ r. ⌜ Searched (couponSum (now (c .entry)) (now (a .entry)) (now (b .entry))) r ⌝ }
