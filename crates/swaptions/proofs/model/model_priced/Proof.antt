@@ -1,5 +1,5 @@
 -- `swaptions::model::model_priced` meets its contract: refused as the terms are, or the price on them. Assumes nothing.
-use mathlib.Core.Path.{sym, _∙_, subst}
+use mathlib.Core.Path.{sym, _∙_}
 use mathlib.Core.List.{List}
 use lib.Ieee.{Float}
 use Rattle.lists.proofs.Lending.{work, lent-is, back-fits, back-is, values-are}
