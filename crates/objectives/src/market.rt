@@ -51,7 +51,7 @@ fn annuity(accruals: &[f64], p: &[f64]) -> f64
 }
 
 // p_t is the factor at the option time, p those at the payment times; the swap ends at the last listed
-// payment. `calibration::swaption_worked` has the lists of one length, and by rule 7 a coupon.
+// payment. Behind rules 1 and 7 the lists are of one length, and there is a coupon.
 pub fn swaption_market(
     quote: Quote,
     strike: f64,

@@ -151,8 +151,7 @@ fn solve_above(
     }
 }
 
-// The residual at 1e-8 comes first. `calibration::swaption_worked` has the lists of one length of at most 64,
-// and those of `calibration::caplet_worked` are empty.
+// The residual at 1e-8 comes first. A swaption's lists are of one length of at most 64, a caplet's are empty.
 pub fn solve(
     instrument: Instrument,
     market: f64,
