@@ -185,17 +185,7 @@ fn terms_priced(
     terms::drifts(forward, p_t, b, p, &mut drift[..n]);
     let decay = formulas::decay_of(alpha, t);
     let deviation = formulas::deviation_of(alpha, t);
-    let swaption = jamshidian::price_at(
-        alpha,
-        sigma,
-        decay,
-        deviation,
-        p_t,
-        c,
-        b,
-        &drift[..n],
-        p,
-    );
+    let swaption = jamshidian::price_at(alpha, sigma, decay, deviation, p_t, c, b, &drift[..n], p);
     finished(swaption)
 }
 

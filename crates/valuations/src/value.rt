@@ -103,7 +103,18 @@ fn terms_priced(
     let mut a = [0.0; 64];
     closedform::affines(state_variance, forward, p_t, b, p, &mut a[..n]);
     let deviation = closedform::deviation(state_variance);
-    priced_by(option, deviation, p_t, c, &a[..n], b, p, own_dfs, notional, side)
+    priced_by(
+        option,
+        deviation,
+        p_t,
+        c,
+        &a[..n],
+        b,
+        p,
+        own_dfs,
+        notional,
+        side,
+    )
 }
 
 // The search, the Newton step, the components. The lists are of one length of at most 64.
