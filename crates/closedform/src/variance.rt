@@ -21,7 +21,7 @@ fn affine(variance: f64, forward: f64, p_t: f64, b: f64, p: f64) -> f64
     exponential::exp(elementary::ln(p / p_t) + forward * b - adjustment)
 }
 
-// A of each term. `valuations::swaption_priced` has the lists of one length.
+// A of each term, from its B and its factor: the lists are of one length.
 pub fn affines(variance: f64, forward: f64, p_t: f64, b: &[f64], p: &[f64], out: &mut [f64])
     requires { ⌜ (length (now out) ≡ length (now b)) × (length (now p) ≡ length (now b)) ⌝ }
     ensures { λ _. ⌜ now (out .exit) ≡ affinesOf variance forward «p_t» (now (b .entry)) (now (p .entry)) ⌝ }

@@ -21,6 +21,8 @@ use Rattle.lists.proofs.Outcomes.{neither}
 use Rattle.lists.proofs.CurveLaws.{curve-rises}
 use Rattle.formulas.specs.HullWhite.{decayOf, deviationOf}
 use Rattle.terms.specs.Terms.{driftsOf}
+use Rattle.search.specs.Values.{rootFinite}
+use Rattle.search.proofs.Answers.{and-root}
 use Rattle.terms.specs.declared.swaption.Terms.{Terms}
 use Rattle.terms.specs.declared.swaption.Terms.the-variants as T
 use Rattle.terms.specs.Swaption.{SwaptionTerms, termsOn, termsOf, termsOutcome}
@@ -90,10 +92,10 @@ module _ (alpha : Float) (ts fs payments accruals : List Float) (strike t sigma 
 
 -- ---- rule 13
 abbrev pub allFinite : Float → Root → Bool
-allFinite v r = let b = r .bracket in finite v && finite (r .rate) && finite (b .lower) && finite (b .upper) && finite (b .«lower_sum») && finite (b .«upper_sum»)
+allFinite v r = finite v && rootFinite (r .rate) (r .bracket)
 
 pub finishes : (s : Swaption) (v : Float) (r : Root) → s ≡ S.Served v r → allFinite v r ≡ true → swaptionOutcome (S.Served v r) ≡ following (swaptionOutcome s) finishingSwaption
-finishes s v r e h = rw (e, h)
+finishes s v r e h = rw (e, ← and-root (finite v) (r .rate) (r .bracket), h)
 
 pub overflows : (s : Swaption) (v : Float) (r : Root) → s ≡ S.Served v r → allFinite v r ≡ false → refused R.Overflow ≡ following (swaptionOutcome s) finishingSwaption
-overflows s v r e h = rw (e, h)
+overflows s v r e h = rw (e, ← and-root (finite v) (r .rate) (r .bracket), h)

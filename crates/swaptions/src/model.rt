@@ -197,13 +197,7 @@ fn finished(swaption: Swaption) -> Swaption
         return swaption;
     };
     let bracket = root.bracket;
-    let finite = elementary::is_finite(value)
-        & elementary::is_finite(root.rate)
-        & elementary::is_finite(bracket.lower)
-        & elementary::is_finite(bracket.upper)
-        & elementary::is_finite(bracket.lower_sum)
-        & elementary::is_finite(bracket.upper_sum);
-    if finite {
+    if elementary::is_finite(value) & search::root_finite(root.rate, bracket) {
         swaption
     } else {
         Swaption::Refused(Refusal::Overflow)

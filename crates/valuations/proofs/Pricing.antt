@@ -1,9 +1,10 @@
 -- What a swaption comes to by the way its pricing went: the terms, the search, the Newton step. Assumes nothing.
 use mathlib.Core.Path.{_≡_, refl, _∙_}
-use mathlib.Core.Bool.{Bool, not}
+use mathlib.Core.Bool.{Bool, not, _&&_, cond}
 use mathlib.Core.List.{List}
 use Prim.Native.Nat.{ℕ}
 use lib.Ieee.{Float}
+use lib.Ieee.Scale.{finite}
 use Rattle.ieee.specs.Rounded.{_⊗_}
 use Rattle.ieee.specs.Numbers.{zero}
 use Rattle.lists.specs.declared.refusals.Refusal.{Refusal}
@@ -16,6 +17,8 @@ use Rattle.search.specs.declared.Bracket.{Bracket}
 use Rattle.search.specs.declared.Critical.{Critical}
 use Rattle.coupons.specs.Sum.{couponSum}
 use Rattle.search.specs.Rate.{criticalOf}
+use Rattle.search.specs.Values.{rootFinite}
+use Rattle.search.proofs.Answers.{and-root}
 use Rattle.terms.specs.declared.swaption.Terms.{Terms}
 use Rattle.terms.specs.declared.swaption.Terms.the-variants as T
 use Rattle.terms.specs.Swaption.{SwaptionTerms, termsOf, termsOutcome}
@@ -25,6 +28,10 @@ use Rattle.closedform.specs.Affine.{deviationOf, affinesOf}
 use Rattle.closedform.specs.Newton.{sumsOf, stepped}
 use Rattle.closedform.specs.Components.{componentsOf}
 use Rattle.valuations.specs.Value.{Valued, finishingValuation, pricedBy, swaptionPriced}
+
+-- ---- rule 13
+pub finishes : (v : Valued) {x y z b : Bool} → x ≡ finite (v .value) → y ≡ finite (v .after-step) → z ≡ rootFinite (v .root .rate) (v .root .bracket) → (x && y && z) ≡ b → cond b (served v) (refused R.Overflow) ≡ finishingValuation v
+finishes v p q r h = rw (← and-root (finite (v .value) && finite (v .after-step)) (v .root .rate) (v .root .bracket), ← p, ← q, ← r, h)
 
 -- ---- the search
 module _ (option : SwaptionType) (deviation pt : Float) (cs affs bs ps owns : List Float) (notional side : Float) where

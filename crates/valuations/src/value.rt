@@ -167,11 +167,7 @@ fn finished(
 {
     let finite = elementary::is_finite(value)
         & elementary::is_finite(stepped)
-        & elementary::is_finite(rate)
-        & elementary::is_finite(bracket.lower)
-        & elementary::is_finite(bracket.upper)
-        & elementary::is_finite(bracket.lower_sum)
-        & elementary::is_finite(bracket.upper_sum);
+        & search::root_finite(rate, bracket);
     if finite {
         Valuation::Served {
             value,
