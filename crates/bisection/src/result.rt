@@ -20,7 +20,8 @@ pub enum Fitted {
     Refused(Refusal),
 }
 
-// Rule 13 looks at every float of the answer.
+// Rule 13 looks at every float of the answer. A fit has no root of a search in it, so `search::root_finite` does not
+// serve here: its ends bear residuals, not coupon sums.
 pub fn finished(fitted: Fitted) -> Fitted
     ensures { λ r. ⌜ fittedOutcome r ≡ following (fittedOutcome fitted) finishingFit ⌝ }
 {

@@ -1,18 +1,24 @@
 -- A fit of the objective on what is worked ahead is a fit of document 01's own, since the two are one at every sigma. Assumes nothing.
-use mathlib.Core.Path.{_≡_, ap, _∙_}
+use mathlib.Core.Path.{_≡_, refl, ap, _∙_}
 use mathlib.Core.List.{List}
 use lib.Ieee.{Float}
-use Rattle.lists.specs.Refusals.{Outcome, following}
-use Rattle.formulas.specs.HullWhite.{forwardOf, bOf, decayOf, deviationOf, optionletStrikeOf}
-use Rattle.terms.specs.Terms.{coefficientsOf, bsOf, driftsOf}
+use Rattle.lists.specs.declared.refusals.Refusal.{Refusal}
+use Rattle.lists.specs.Refusals.{Outcome, refused, following}
+use Rattle.formulas.specs.HullWhite.{bOf, decayOf, deviationOf, optionletStrikeOf}
+use Rattle.terms.specs.declared.swaption.Terms.{Terms}
+use Rattle.terms.specs.declared.swaption.Terms.the-variants as T
+use Rattle.terms.specs.Terms.{driftsOf}
+use Rattle.terms.specs.Swaption.{SwaptionTerms, termsOn, termsOf, termsOutcome}
+use Rattle.terms.proofs.OnTerms.{terms-refused, terms-served}
 use Rattle.bisection.specs.declared.result.Fit.{Fit}
 use Rattle.bisection.specs.Result.{finishingFit}
 use Rattle.bisection.specs.Solve.{solveOf}
 use Rattle.objectives.specs.declared.market.Quote.{Quote}
 use Rattle.objectives.specs.declared.objective.Instrument.the-variants as I
 use Rattle.objectives.specs.Market.{capletMarketOf, swaptionMarketOf}
-use Rattle.objectives.specs.Objective.{capletObjective, swaptionObjective, objectiveOf}
-use Rattle.objectives.proofs.Worked.{caplet-same, swaption-same}
+use Rattle.objectives.specs.Objective.{capletObjective, swaptionObjective, objectiveOf, objectiveOn}
+use Rattle.objectives.proofs.Worked.{caplet-same, swaption-same, swaption-ahead}
+use Rattle.calibration.specs.Fits.{swaptionFitted}
 
 -- rule 13 after a fit of either objective
 finished : {f g : Float → Outcome Float} {o q : Outcome Fit} → ((sigma : Float) → f sigma ≡ g sigma) → o ≡ solveOf f → q ≡ following o finishingFit → q ≡ following (solveOf g) finishingFit
@@ -26,9 +32,24 @@ module _ (quote : Quote) (alpha strike t S vol pt pS : Float) where
       → q ≡ following (solveOf (capletObjective quote alpha strike t S vol pt pS)) finishingFit
   caplet-fit cs bs ds ps p q r m = finished (caplet-same quote alpha strike t S vol pt pS cs bs ds ps p q r m)
 
-module _ (quote : Quote) (alpha strike t vol pt pPlus : Float) (payments accruals ps : List Float) where
-  pub swaption-fit : {cs bs ds : List Float} {forward decay deviation market : Float} {o q : Outcome Fit} → cs ≡ coefficientsOf strike accruals → bs ≡ bsOf alpha t payments → forward ≡ forwardOf pt pPlus → ds ≡ driftsOf forward pt bs ps
-      → decay ≡ decayOf alpha t → deviation ≡ deviationOf alpha t → market ≡ swaptionMarketOf quote strike t vol accruals pt ps
-      → o ≡ solveOf (objectiveOf (I.Swaption alpha decay deviation pt) market cs bs ds ps) → q ≡ following o finishingFit
-      → q ≡ following (solveOf (swaptionObjective quote alpha payments accruals strike t vol pt pPlus ps)) finishingFit
-  swaption-fit c b f d y v m = finished (swaption-same quote alpha strike t vol pt pPlus payments accruals ps c b f d y v m)
+pub swaption-fit : (alpha t pt forward market : Float) (cs bs ps : List Float) {ds : List Float} {decay deviation : Float} {o q : Outcome Fit} → ds ≡ driftsOf forward pt bs ps → decay ≡ decayOf alpha t → deviation ≡ deviationOf alpha t
+    → o ≡ solveOf (objectiveOf (I.Swaption alpha decay deviation pt) market cs bs ds ps) → q ≡ following o finishingFit
+    → q ≡ following (solveOf (objectiveOn alpha t (record { pt = pt; forward = forward; coefficients = cs; bs = bs; factors = ps }) market)) finishingFit
+swaption-fit alpha t pt forward market cs bs ps d y v = finished (swaption-same alpha t pt forward market cs bs ps d y v)
+
+-- the call, by what its terms came to, `r` with the lists beside it
+module _ (quote : Quote) (alpha : Float) (ts fs payments accruals : List Float) (strike t vol : Float) (r : Terms) (cs bs ps : List Float) (is : termsOutcome r cs bs ps ≡ termsOf alpha ts fs payments accruals strike t) where
+  abbrev on : SwaptionTerms → Outcome Fit
+  on w = following (solveOf (objectiveOn alpha t w (swaptionMarketOf quote strike t vol accruals (w .pt) (w .factors)))) finishingFit
+
+  same : (pt pPlus : Float) (qs : List Float) → on (termsOn alpha payments accruals strike t pt pPlus qs) ≡ following (solveOf (swaptionObjective quote alpha payments accruals strike t vol pt pPlus qs)) finishingFit
+  same pt pPlus qs = finished (swaption-ahead quote alpha strike t vol payments accruals pt pPlus qs) refl refl
+
+  pub off-curve : {q : Refusal} → r ≡ T.Refused q → refused q ≡ swaptionFitted quote alpha ts fs payments accruals strike t vol
+  unfolding swaptionFitted
+  off-curve e = terms-refused alpha ts fs payments accruals strike t _ on same r cs bs ps is e
+
+  pub on-curve : {pt forward market : Float} {cs' bs' ps' : List Float} {o : Outcome Fit} → r ≡ T.Served pt forward → cs' ≡ cs → bs' ≡ bs → ps' ≡ ps → market ≡ swaptionMarketOf quote strike t vol accruals pt ps'
+      → o ≡ following (solveOf (objectiveOn alpha t (record { pt = pt; forward = forward; coefficients = cs'; bs = bs'; factors = ps' }) market)) finishingFit → o ≡ swaptionFitted quote alpha ts fs payments accruals strike t vol
+  unfolding swaptionFitted
+  on-curve e c b p m h = h ∙ rw m (terms-served alpha ts fs payments accruals strike t _ on same r cs bs ps is e c b p)

@@ -5,7 +5,6 @@ use lib.Dec.{eqb}
 use lib.ListN.{length}
 use lib.Ieee.{Float, le}
 use lib.Ieee.Scale.{finite}
-use Rattle.ieee.specs.Rounded.{_⊕_}
 use Rattle.ieee.specs.Numbers.{zero}
 use Rattle.lists.specs.declared.curves.Faults.{Faults}
 use Rattle.lists.specs.declared.checks.Test.the-variants.{Above}
@@ -14,8 +13,7 @@ use Rattle.lists.specs.Refusals.{Outcome, Rule, rule, unless, following}
 use Rattle.lists.specs.Checks.{allOf}
 use Rattle.lookups.specs.Lookups.{factorAt, needing}
 use Rattle.lists.specs.Faults.{curveFaults, couponFaults}
-use Rattle.formulas.specs.HullWhite.{h}
-use Rattle.terms.specs.Terms.{factorsAt}
+use Rattle.terms.specs.Swaption.{lookingUp}
 use Rattle.bisection.specs.declared.result.Fit.{Fit}
 use Rattle.bisection.specs.Result.{finishingFit}
 use Rattle.bisection.specs.Solve.{solveOf}
@@ -71,10 +69,8 @@ capletFitOutcome quote alpha ts fs strike t S vol = unless (capletRules (curveFa
 -- a swaption that the rules let through: the factors at t, t + h and the payment times, and the bisection
 unfoldable pub swaptionFitted : Quote → Float → List Float → List Float → List Float → List Float → Float → Float → Float → Outcome Fit
 swaptionFitted quote alpha ts fs payments accruals strike t vol =
-    needing (factorAt ts fs t) (λ pt.
-    needing (factorAt ts fs (t ⊕ h)) (λ pPlus.
-    following (factorsAt ts fs payments) (λ ps.
-    following (solveOf (swaptionObjective quote alpha payments accruals strike t vol pt pPlus ps)) finishingFit)))
+    lookingUp ts fs payments t (λ pt pPlus ps.
+    following (solveOf (swaptionObjective quote alpha payments accruals strike t vol pt pPlus ps)) finishingFit)
 
 unfoldable pub swaptionFitOutcome : Quote → Float → List Float → List Float → List Float → List Float → Float → Float → Float → Outcome Fit
 swaptionFitOutcome quote alpha ts fs payments accruals strike t vol =

@@ -8,7 +8,7 @@ ghost use Rattle.lists.specs.Refusals.{reported, firstOf, following};
 ghost use Rattle.lists.specs.Faults.{curveFaults};
 ghost use Rattle.bisection.specs.Result.{fittedOutcome, noFit, finishingFit};
 ghost use Rattle.bisection.specs.Solve.{solveOf};
-ghost use Rattle.objectives.specs.Objective.{capletObjective, swaptionObjective};
+ghost use Rattle.objectives.specs.Objective.{capletObjective, objectiveOn};
 ghost use Rattle.calibration.specs.Fits.{strikeWrong, capletRules, swaptionRules, capletFitted, capletFitOutcome, swaptionFitted, swaptionFitOutcome};
 ghost use Rattle.calibration.specs.Demand3.{CapletHeld, CapletNeverSo, SwaptionHeld, RefusedSo};
 use bisection::Fitted;
@@ -19,6 +19,7 @@ use lists::Test;
 use lookups::Found;
 use objectives::Instrument;
 use objectives::Quote;
+use terms::Terms;
 
 // Kinds 8 and 9: strike, start, end, quoted volatility.
 pub fn fit_caplet(
@@ -258,8 +259,8 @@ fn swaption_rules(
     lists::and_rule(answer, Refusal::Empty, empty)
 }
 
-// The factors, then the bisection. A caller that has asked the rules has the coupons' lists of one length, from
-// 1 to 64, and a curve whose times strictly rise.
+// The factors and the terms, then the bisection. A caller that has asked the rules has the coupons' lists of one
+// length, from 1 to 64, and a curve whose times strictly rise.
 fn swaption_fitted(
     quote: Quote,
     alpha: f64,
@@ -274,64 +275,56 @@ fn swaption_fitted(
     requires { ⌜ (0 < length (now payments)) × (length (now payments) ≤ 64) × (length (now accruals) ≡ length (now payments)) × (inOrder true (now times) ≡ true) ⌝ }
     ensures { λ r. ⌜ fittedOutcome r ≡ swaptionFitted quote alpha (now (times .entry)) (now (factors .entry)) (now (payments .entry)) (now (accruals .entry)) strike t vol ⌝ }
 {
-    let Found::At(p_t) = lookups::factor(times, factors, t) else {
-        return Fitted::Refused(Refusal::OffCurve);
-    };
-    let Found::At(p_plus) = lookups::factor(times, factors, t + formulas::day()) else {
-        return Fitted::Refused(Refusal::OffCurve);
-    };
     let n = payments.len();
+    let mut c = [0.0; 64];
+    let mut b = [0.0; 64];
     let mut p = [0.0; 64];
-    let fetched = terms::fetch(times, factors, payments, &mut p[..n]);
-    if let Answer::Refused(refusal) = fetched {
-        return Fitted::Refused(refusal);
-    }
-    swaption_worked(
-        quote,
+    let worked = terms::swaption_terms(
         alpha,
+        times,
+        factors,
         payments,
         accruals,
         strike,
         t,
-        vol,
-        p_t,
-        p_plus,
-        &p[..n],
-    )
+        &mut c[..n],
+        &mut b[..n],
+        &mut p[..n],
+    );
+    match worked {
+        Terms::Refused(refusal) => Fitted::Refused(refusal),
+        Terms::Served { p_t, forward } => {
+            let fetched = &p[..n];
+            let price = objectives::swaption_market(quote, strike, t, vol, accruals, p_t, fetched);
+            terms_fitted(alpha, t, price, p_t, forward, &c[..n], &b[..n], fetched)
+        }
+    }
 }
 
-// What does not depend on sigma, once a coupon; then the bisection. A caller behind the rules has the lists of
-// one length, from 1 to 64, and a factor for each payment time.
-fn swaption_worked(
-    quote: Quote,
+// What else does not depend on sigma, once; then the bisection. A caller that has worked the terms has the lists of
+// one length of at most 64.
+fn terms_fitted(
     alpha: f64,
-    payments: &[f64],
-    accruals: &[f64],
-    strike: f64,
     t: f64,
-    vol: f64,
+    price: f64,
     p_t: f64,
-    p_plus: f64,
+    forward: f64,
+    c: &[f64],
+    b: &[f64],
     p: &[f64],
 ) -> Fitted
-    requires { ⌜ (0 < length (now payments)) × (length (now payments) ≤ 64) × (length (now accruals) ≡ length (now payments)) × (length (now p) ≡ length (now payments)) ⌝ }
-    ensures { λ r. ⌜ fittedOutcome r ≡ following (solveOf (swaptionObjective quote alpha (now (payments .entry)) (now (accruals .entry)) strike t vol «p_t» «p_plus» (now (p .entry)))) finishingFit ⌝ }
+    requires { ⌜ (length (now c) ≤ 64) × (length (now b) ≡ length (now c)) × (length (now p) ≡ length (now c)) ⌝ }
+    ensures { λ r. ⌜ fittedOutcome r ≡ following (solveOf (objectiveOn alpha t (record { pt = «p_t»; forward = forward; coefficients = now (c .entry); bs = now (b .entry); factors = now (p .entry) }) price)) finishingFit ⌝ }
 {
-    let n = payments.len();
-    let mut c = [0.0; 64];
-    terms::coefficients(strike, accruals, &mut c[..n]);
-    let mut b = [0.0; 64];
-    terms::bs(alpha, t, payments, &mut b[..n]);
+    let n = c.len();
     let mut drift = [0.0; 64];
-    let forward = formulas::forward_of(p_t, p_plus);
-    terms::drifts(forward, p_t, &b[..n], p, &mut drift[..n]);
+    terms::drifts(forward, p_t, b, p, &mut drift[..n]);
     let swaption = Instrument::Swaption {
         alpha,
         decay: formulas::decay_of(alpha, t),
         deviation: formulas::deviation_of(alpha, t),
         p_t,
     };
-    let price = objectives::swaption_market(quote, strike, t, vol, accruals, p_t, p);
-    let fitted = solver::solve(swaption, price, &c[..n], &b[..n], &drift[..n], p);
+    let fitted = solver::solve(swaption, price, c, b, &drift[..n], p);
     bisection::finished(fitted)
 }

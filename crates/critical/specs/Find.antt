@@ -7,7 +7,6 @@ use native.Mathlib.Omega.{arith}
 use lib.Dec.{ltb, eqb}
 use lib.ListN.{length}
 use lib.Ieee.{Float, le, isNan, ofBits}
-use lib.Ieee.Scale.{finite}
 use Rattle.lists.specs.declared.checks.Test.the-variants.{Finite}
 use Rattle.lists.specs.declared.refusals.Refusal.{Refusal}
 use Rattle.lists.specs.declared.refusals.Refusal.the-variants as R
@@ -17,7 +16,7 @@ use Rattle.lists.specs.Refusals.{Outcome, served, refused, Rule, rule, firstOf,
 use Rattle.lists.specs.Checks.{allOf}
 use Rattle.coupons.specs.Sum.{couponsOnto, couponSum}
 use Rattle.search.specs.Rate.{rungOf, orRung, ladderOf, joined, criticalOf}
-use Rattle.search.specs.Values.{Values, criticalOutcome}
+use Rattle.search.specs.Values.{Values, criticalOutcome, rootFinite}
 use Rattle.critical.specs.declared.find.CriticalRate.{CriticalRate}
 use Rattle.critical.specs.declared.find.CriticalRate.the-variants as C
 
@@ -35,7 +34,7 @@ searchRules cs affs bs =
 
 -- rule 13 looks at the rate, the bracket's ends and their sums
 abbrev pub finiteRoot : Values → Bool
-finiteRoot v = let b = v .bracket in finite (v .rate) && finite (b .lower) && finite (b .upper) && finite (b .«lower_sum») && finite (b .«upper_sum»)
+finiteRoot v = rootFinite (v .rate) (v .bracket)
 
 abbrev pub finishingRate : Values → Outcome Values
 finishingRate v = cond (finiteRoot v) (served v) (refused R.Overflow)

@@ -52,12 +52,7 @@ fn finished(found: Critical) -> CriticalRate
     else {
         return CriticalRate::Refused(Refusal::NoBracket);
     };
-    let finite = elementary::is_finite(rate)
-        & elementary::is_finite(bracket.lower)
-        & elementary::is_finite(bracket.upper)
-        & elementary::is_finite(bracket.lower_sum)
-        & elementary::is_finite(bracket.upper_sum);
-    if finite {
+    if search::root_finite(rate, bracket) {
         CriticalRate::Served {
             rate,
             bracket,

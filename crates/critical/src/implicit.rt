@@ -65,13 +65,7 @@ fn stepped(c: &[f64], a: &[f64], b: &[f64], found: Critical) -> ImplicitRate
 fn finished(stepped: f64, rate: f64, bracket: Bracket, below: u64, above: u64) -> ImplicitRate
     ensures { λ r. ⌜ implicitRateOutcome r ≡ finishingImplicit (record { after-step = stepped; root = record { rate = rate; bracket = bracket; low-rung = below; high-rung = above } }) ⌝ }
 {
-    let finite = elementary::is_finite(rate)
-        & elementary::is_finite(bracket.lower)
-        & elementary::is_finite(bracket.upper)
-        & elementary::is_finite(bracket.lower_sum)
-        & elementary::is_finite(bracket.upper_sum)
-        & elementary::is_finite(stepped);
-    if finite {
+    if search::root_finite(rate, bracket) & elementary::is_finite(stepped) {
         ImplicitRate::Served {
             stepped,
             rate,

@@ -10,6 +10,7 @@ use Rattle.coupons.specs.Sum.{couponSum}
 use Rattle.search.specs.Rate.{criticalOf}
 use Rattle.search.specs.Values.{Values, criticalOutcome}
 use Rattle.terms.specs.Terms.{coefficientsOf, bsOf, asOf, driftsOf, affinesOf, affines-ahead}
+use Rattle.terms.specs.Swaption.{SwaptionTerms, termsOn}
 use Rattle.jamshidian.specs.PricedSum.{sumOf}
 use Rattle.jamshidian.specs.Price.{Valued, putOf, putsOnto, putsOf, priceAt}
 
@@ -33,6 +34,10 @@ priceAhead alpha sigma decay deviation pt cs bs drifts ps =
     let affs = affinesOf alpha sigma decay bs drifts in
     following (criticalOutcome (criticalOf (couponSum cs affs bs))) (λ root. served (record { value = putsAhead sigma deviation pt (root .rate) cs affs bs ps; root = root }))
 
+-- on all the terms of a swaption
+abbrev pub priceOn : Float → Float → SwaptionTerms → Float → Outcome Valued
+priceOn alpha t w sigma = priceAhead alpha sigma (decayOf alpha t) (deviationOf alpha t) (w .pt) (w .coefficients) (w .bs) (driftsOf (w .forward) (w .pt) (w .bs) (w .factors)) (w .factors)
+
 -- ---- the law
 puts-onto : (alpha t sigma forward pt r total : Float) (cs payments ps : List Float)
     → putsAheadOnto total sigma (deviationOf alpha t) pt r cs (asOf alpha t sigma forward pt payments ps) (bsOf alpha t payments) ps ≡ putsOnto total alpha t sigma forward pt r cs payments ps
@@ -48,8 +53,7 @@ unfolding putsAhead putsOf
 puts-ahead alpha t sigma forward pt r cs payments ps = puts-onto alpha t sigma forward pt r zero cs payments ps
 
 pub price-ahead : (alpha : Float) (payments accruals : List Float) (strike t pt pPlus : Float) (ps : List Float) (sigma : Float)
-    → let bs = bsOf alpha t payments in
-    priceAhead alpha sigma (decayOf alpha t) (deviationOf alpha t) pt (coefficientsOf strike accruals) bs (driftsOf (forwardOf pt pPlus) pt bs ps) ps ≡ priceAt alpha payments accruals strike t pt pPlus ps sigma
+    → priceOn alpha t (termsOn alpha payments accruals strike t pt pPlus ps) sigma ≡ priceAt alpha payments accruals strike t pt pPlus ps sigma
 unfolding priceAhead priceAt
 price-ahead alpha payments accruals strike t pt pPlus ps sigma =
     let valued : Float → Values → Outcome Valued = λ v root. served (record { value = v; root = root }) in

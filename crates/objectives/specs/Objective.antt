@@ -4,8 +4,9 @@ use lib.Ieee.{Float}
 use Rattle.ieee.specs.Rounded.{_⊖_}
 use Rattle.lists.specs.Refusals.{Outcome, served, following}
 use Rattle.formulas.specs.HullWhite.{volatilityAt, volatilityOf, bondPutOf, optionletStrikeOf, optionletOf}
+use Rattle.terms.specs.Swaption.{SwaptionTerms}
 use Rattle.jamshidian.specs.Price.{Valued, priceAt}
-use Rattle.jamshidian.specs.Ahead.{priceAhead}
+use Rattle.jamshidian.specs.Ahead.{priceAhead, priceOn}
 use Rattle.objectives.specs.declared.market.Quote.{Quote}
 use Rattle.objectives.specs.declared.objective.Instrument.{Instrument}
 use Rattle.objectives.specs.declared.objective.Instrument.the-variants as I
@@ -39,3 +40,7 @@ modelPriceOf (I.Swaption alpha decay deviation pt) cs bs drifts ps sigma = value
 
 unfoldable pub objectiveOf : Instrument → Float → List Float → List Float → List Float → List Float → Float → Outcome Float
 objectiveOf instrument market cs bs drifts ps sigma = following (modelPriceOf instrument cs bs drifts ps sigma) (λ model. served (model ⊖ market))
+
+-- a swaption's, on all its terms
+unfoldable pub objectiveOn : Float → Float → SwaptionTerms → Float → Float → Outcome Float
+objectiveOn alpha t w market sigma = following (valueAlone (priceOn alpha t w sigma)) (λ model. served (model ⊖ market))

@@ -1,6 +1,8 @@
 -- Document 01's outcome for each case of a search's answer.
+use mathlib.Core.Bool.{Bool, _&&_}
 use Prim.Native.Nat.{ℕ}
 use lib.Ieee.{Float}
+use lib.Ieee.Scale.{finite}
 use Rattle.ieee.specs.Numbers.{zero}
 use Rattle.lists.specs.declared.refusals.Refusal.the-variants as R
 use Rattle.lists.specs.Refusals.{Outcome, served, refused}
@@ -23,3 +25,7 @@ abbrev pub criticalOutcome : Critical → Outcome Values
 criticalOutcome (Critical.Found b i j rate) = served (record { rate = rate; bracket = b; low-rung = i; high-rung = j })
 criticalOutcome Critical.NotANumber = refused R.NanReached
 criticalOutcome Critical.NoBracket = refused R.NoBracket
+
+-- of a root, what rule 13 looks at: the rate, the bracket's ends and their sums
+abbrev pub rootFinite : Float → Bracket → Bool
+rootFinite rate b = finite rate && finite (b .lower) && finite (b .upper) && finite (b .«lower_sum») && finite (b .«upper_sum»)

@@ -1,6 +1,8 @@
 // The critical rate of a list of coupon terms, `find_critical_rate` of the Rust: two ladders of
 // rates, and 200 halvings between their first good rungs. One search serves every kind of swaption.
+ghost use mathlib.Core.Path.{_≡_};
 ghost use Rattle.coupons.specs.Sum.{weightedSum};
+ghost use Rattle.search.specs.Values.{rootFinite};
 ghost use Rattle.search.specs.Facts.{Searched};
 
 mod halving;
@@ -71,4 +73,15 @@ pub fn critical_rate(weights: &[f64], b: &[f64]) -> Critical
         above: j,
         rate: elementary::midpoint(bracket.lower, bracket.upper),
     }
+}
+
+// Whether every float of a root is finite, as rule 13 asks where the root is part of an answer.
+pub fn root_finite(rate: f64, bracket: Bracket) -> bool
+    ensures { λ r. ⌜ r ≡ rootFinite rate bracket ⌝ }
+{
+    elementary::is_finite(rate)
+        & elementary::is_finite(bracket.lower)
+        & elementary::is_finite(bracket.upper)
+        & elementary::is_finite(bracket.lower_sum)
+        & elementary::is_finite(bracket.upper_sum)
 }

@@ -1,5 +1,5 @@
 -- How a call comes out: its rules, its lookups, its search, each where the code took the one arm or the other. Assumes nothing.
-use mathlib.Core.Path.{_≡_, sym, _∙_}
+use mathlib.Core.Path.{_≡_, sym, ap, _∙_}
 use mathlib.Core.Bool.{Bool, true, false, not, _&&_}
 use mathlib.Core.List.{List}
 use Prim.Native.Nat.{_≤_}
@@ -19,13 +19,19 @@ use Rattle.lists.specs.Checks.{inOrder}
 use Rattle.lists.specs.Faults.{curveFaults, couponFaults}
 use Rattle.lists.proofs.Outcomes.{neither}
 use Rattle.lists.proofs.CurveLaws.{curve-rises}
-use Rattle.formulas.specs.HullWhite.{forwardOf, decayOf, deviationOf}
-use Rattle.terms.specs.Terms.{coefficientsOf, bsOf, driftsOf}
+use Rattle.formulas.specs.HullWhite.{decayOf, deviationOf}
+use Rattle.terms.specs.Terms.{driftsOf}
+use Rattle.search.specs.Values.{rootFinite}
+use Rattle.search.proofs.Answers.{and-root}
+use Rattle.terms.specs.declared.swaption.Terms.{Terms}
+use Rattle.terms.specs.declared.swaption.Terms.the-variants as T
+use Rattle.terms.specs.Swaption.{SwaptionTerms, termsOn, termsOf, termsOutcome}
+use Rattle.terms.proofs.OnTerms.{terms-refused, terms-served}
 use Rattle.jamshidian.specs.declared.price.Swaption.{Swaption}
 use Rattle.jamshidian.specs.declared.price.Swaption.the-variants as S
 use Rattle.jamshidian.specs.declared.price.Root.{Root}
-use Rattle.jamshidian.specs.Price.{Valued, swaptionOutcome, noValued, priceAt, finishingSwaption}
-use Rattle.jamshidian.specs.Ahead.{priceAhead, price-ahead}
+use Rattle.jamshidian.specs.Price.{Valued, swaptionOutcome, noValued, finishingSwaption}
+use Rattle.jamshidian.specs.Ahead.{priceAhead, priceOn, price-ahead}
 use Rattle.swaptions.specs.Model.{modelRules, rulesOn, termsPriced, modelPriced, modelOutcome}
 
 -- ---- the rules do not ask where the faults come from
@@ -58,19 +64,38 @@ module _ (alpha : Float) (ts fs payments accruals : List Float) (strike t sigma 
         curve-rises ts fs (none .1 .1 .1 .0),
       )
 
--- ---- the terms, each as its call worked it, and the price on them
-pub terms-are : (alpha strike t sigma pt pPlus : Float) (payments accruals ps : List Float) {cs bs ds : List Float} {forward decay deviation : Float} {o q : Outcome Valued}
-    → cs ≡ coefficientsOf strike accruals → bs ≡ bsOf alpha t payments → forward ≡ forwardOf pt pPlus → ds ≡ driftsOf forward pt bs ps → decay ≡ decayOf alpha t → deviation ≡ deviationOf alpha t
-    → o ≡ priceAhead alpha sigma decay deviation pt cs bs ds ps → q ≡ following o finishingSwaption → q ≡ termsPriced alpha payments accruals strike t sigma pt pPlus ps
+-- ---- the terms, and the price on them
+pub terms-are : (alpha t sigma pt forward : Float) (cs bs ps : List Float) {ds : List Float} {decay deviation : Float} {o q : Outcome Valued}
+    → ds ≡ driftsOf forward pt bs ps → decay ≡ decayOf alpha t → deviation ≡ deviationOf alpha t
+    → o ≡ priceAhead alpha sigma decay deviation pt cs bs ds ps → q ≡ following o finishingSwaption → q ≡ following (priceOn alpha t (record { pt = pt; forward = forward; coefficients = cs; bs = bs; factors = ps }) sigma) finishingSwaption
+terms-are alpha t sigma pt forward cs bs ps d y v o q = rw (← d, ← y, ← v, ← o) q
+
+-- on all the terms it is the price on the factors
+pub terms-priced : (alpha : Float) (payments accruals : List Float) (strike t sigma pt pPlus : Float) (ps : List Float)
+    → following (priceOn alpha t (termsOn alpha payments accruals strike t pt pPlus ps) sigma) finishingSwaption ≡ termsPriced alpha payments accruals strike t sigma pt pPlus ps
 unfolding termsPriced
-terms-are alpha strike t sigma pt pPlus payments accruals ps c b f d y v o q = rw (← price-ahead alpha payments accruals strike t pt pPlus ps sigma, ← c, ← b, ← f, ← d, ← y, ← v, ← o) q
+terms-priced alpha payments accruals strike t sigma pt pPlus ps = ap (λ (o : Outcome Valued). following o finishingSwaption) (price-ahead alpha payments accruals strike t pt pPlus ps sigma)
+
+-- the call, by what its terms came to, `r` with the lists beside it
+module _ (alpha : Float) (ts fs payments accruals : List Float) (strike t sigma : Float) (r : Terms) (cs bs ps : List Float) (is : termsOutcome r cs bs ps ≡ termsOf alpha ts fs payments accruals strike t) where
+  abbrev on : SwaptionTerms → Outcome Valued
+  on w = following (priceOn alpha t w sigma) finishingSwaption
+
+  pub off-curve : {q : Refusal} → r ≡ T.Refused q → refused q ≡ modelPriced alpha ts fs payments accruals strike t sigma
+  unfolding modelPriced
+  off-curve e = terms-refused alpha ts fs payments accruals strike t _ on (terms-priced alpha payments accruals strike t sigma) r cs bs ps is e
+
+  pub on-curve : {pt forward : Float} {cs' bs' ps' : List Float} {o : Outcome Valued} → r ≡ T.Served pt forward → cs' ≡ cs → bs' ≡ bs → ps' ≡ ps
+      → o ≡ on (record { pt = pt; forward = forward; coefficients = cs'; bs = bs'; factors = ps' }) → o ≡ modelPriced alpha ts fs payments accruals strike t sigma
+  unfolding modelPriced
+  on-curve e c b p h = h ∙ terms-served alpha ts fs payments accruals strike t _ on (terms-priced alpha payments accruals strike t sigma) r cs bs ps is e c b p
 
 -- ---- rule 13
 abbrev pub allFinite : Float → Root → Bool
-allFinite v r = let b = r .bracket in finite v && finite (r .rate) && finite (b .lower) && finite (b .upper) && finite (b .«lower_sum») && finite (b .«upper_sum»)
+allFinite v r = finite v && rootFinite (r .rate) (r .bracket)
 
 pub finishes : (s : Swaption) (v : Float) (r : Root) → s ≡ S.Served v r → allFinite v r ≡ true → swaptionOutcome (S.Served v r) ≡ following (swaptionOutcome s) finishingSwaption
-finishes s v r e h = rw (e, h)
+finishes s v r e h = rw (e, ← and-root (finite v) (r .rate) (r .bracket), h)
 
 pub overflows : (s : Swaption) (v : Float) (r : Root) → s ≡ S.Served v r → allFinite v r ≡ false → refused R.Overflow ≡ following (swaptionOutcome s) finishingSwaption
-overflows s v r e h = rw (e, h)
+overflows s v r e h = rw (e, ← and-root (finite v) (r .rate) (r .bracket), h)

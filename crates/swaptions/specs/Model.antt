@@ -5,17 +5,14 @@ use lib.Dec.{eqb}
 use lib.ListN.{length}
 use lib.Ieee.{Float, lt, le}
 use lib.Ieee.Scale.{finite}
-use Rattle.ieee.specs.Rounded.{_⊕_}
 use Rattle.ieee.specs.Numbers.{zero}
 use Rattle.lists.specs.declared.curves.Faults.{Faults}
 use Rattle.lists.specs.declared.checks.Test.the-variants.{Above}
 use Rattle.lists.specs.declared.refusals.Refusal.the-variants as R
 use Rattle.lists.specs.Refusals.{Outcome, served, Rule, rule, unless, following}
 use Rattle.lists.specs.Checks.{allOf}
-use Rattle.lookups.specs.Lookups.{factorAt, needing}
 use Rattle.lists.specs.Faults.{curveFaults, couponFaults}
-use Rattle.formulas.specs.HullWhite.{h}
-use Rattle.terms.specs.Terms.{factorsAt}
+use Rattle.terms.specs.Swaption.{lookingUp}
 use Rattle.jamshidian.specs.Price.{Valued, noValued, priceAt, finishingSwaption}
 
 -- rules 1 to 7, a line a rule; `later`: every payment time is above the option time. Rule 7 lets kind 5 have no coupons
@@ -40,9 +37,7 @@ termsPriced alpha payments accruals strike t sigma pt pPlus ps = following (pric
 -- the factors at t, t + h and the payment times, then the terms and the price
 unfoldable pub modelPriced : Float → List Float → List Float → List Float → List Float → Float → Float → Float → Outcome Valued
 modelPriced alpha ts fs payments accruals strike t sigma =
-    needing (factorAt ts fs t) (λ pt.
-    needing (factorAt ts fs (t ⊕ h)) (λ pPlus.
-    following (factorsAt ts fs payments) (λ ps. termsPriced alpha payments accruals strike t sigma pt pPlus ps)))
+    lookingUp ts fs payments t (λ pt pPlus ps. termsPriced alpha payments accruals strike t sigma pt pPlus ps)
 
 -- "Kind 5 with no coupons is 0 and needs no time; its rungs, rates and sums are 0."
 unfoldable pub modelOutcome : Float → List Float → List Float → List Float → List Float → Float → Float → Float → Outcome Valued

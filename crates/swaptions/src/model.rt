@@ -7,7 +7,8 @@ ghost use Rattle.lists.specs.Checks.{inOrder};
 ghost use Rattle.lists.specs.Refusals.{served, reported, firstOf, following};
 ghost use Rattle.lists.specs.Faults.{curveFaults};
 ghost use Rattle.jamshidian.specs.Price.{swaptionOutcome, noValued, finishingSwaption};
-ghost use Rattle.swaptions.specs.Model.{modelRules, termsPriced, modelPriced, modelOutcome};
+ghost use Rattle.jamshidian.specs.Ahead.{priceOn};
+ghost use Rattle.swaptions.specs.Model.{modelRules, modelPriced, modelOutcome};
 ghost use Rattle.swaptions.specs.Demand3.{Rooted, RefusedSo};
 use jamshidian::Root;
 use jamshidian::Swaption;
@@ -15,8 +16,8 @@ use lists::Answer;
 use lists::Faults;
 use lists::Refusal;
 use lists::Test;
-use lookups::Found;
 use search::Bracket;
+use terms::Terms;
 
 // Kind 5: the coupons are payment times and accruals.
 pub fn swaption_price(
@@ -126,7 +127,7 @@ fn nothing() -> Swaption
     )
 }
 
-// The factors, then the terms and the price. A caller that has asked the rules has the coupons' lists of one
+// The factors and the terms, then the price. A caller that has asked the rules has the coupons' lists of one
 // length of at most 64, and a curve whose times strictly rise.
 fn model_priced(
     alpha: f64,
@@ -141,68 +142,50 @@ fn model_priced(
     requires { ⌜ (length (now payments) ≤ 64) × (length (now accruals) ≡ length (now payments)) × (inOrder true (now times) ≡ true) ⌝ }
     ensures { λ r. ⌜ swaptionOutcome r ≡ modelPriced alpha (now (times .entry)) (now (factors .entry)) (now (payments .entry)) (now (accruals .entry)) strike t sigma ⌝ }
 {
-    let Found::At(p_t) = lookups::factor(times, factors, t) else {
-        return Swaption::Refused(Refusal::OffCurve);
-    };
-    let Found::At(p_plus) = lookups::factor(times, factors, t + formulas::day()) else {
-        return Swaption::Refused(Refusal::OffCurve);
-    };
     let n = payments.len();
+    let mut c = [0.0; 64];
+    let mut b = [0.0; 64];
     let mut p = [0.0; 64];
-    let fetched = terms::fetch(times, factors, payments, &mut p[..n]);
-    if let Answer::Refused(refusal) = fetched {
-        return Swaption::Refused(refusal);
-    }
-    terms_priced(
+    let worked = terms::swaption_terms(
         alpha,
+        times,
+        factors,
         payments,
         accruals,
         strike,
         t,
-        sigma,
-        p_t,
-        p_plus,
-        &p[..n],
-    )
+        &mut c[..n],
+        &mut b[..n],
+        &mut p[..n],
+    );
+    match worked {
+        Terms::Refused(refusal) => Swaption::Refused(refusal),
+        Terms::Served { p_t, forward } => {
+            terms_priced(alpha, t, sigma, p_t, forward, &c[..n], &b[..n], &p[..n])
+        }
+    }
 }
 
-// The terms and the price, on the factors at t, t + h and the payment times. A caller behind the rules has the
-// lists of one length of at most 64.
+// The price on the terms. A caller that has worked them has the lists of one length of at most 64.
 fn terms_priced(
     alpha: f64,
-    payments: &[f64],
-    accruals: &[f64],
-    strike: f64,
     t: f64,
     sigma: f64,
     p_t: f64,
-    p_plus: f64,
+    forward: f64,
+    c: &[f64],
+    b: &[f64],
     p: &[f64],
 ) -> Swaption
-    requires { ⌜ (length (now payments) ≤ 64) × (length (now accruals) ≡ length (now payments)) × (length (now p) ≡ length (now payments)) ⌝ }
-    ensures { λ r. ⌜ swaptionOutcome r ≡ termsPriced alpha (now (payments .entry)) (now (accruals .entry)) strike t sigma «p_t» «p_plus» (now (p .entry)) ⌝ }
+    requires { ⌜ (length (now c) ≤ 64) × (length (now b) ≡ length (now c)) × (length (now p) ≡ length (now c)) ⌝ }
+    ensures { λ r. ⌜ swaptionOutcome r ≡ following (priceOn alpha t (record { pt = «p_t»; forward = forward; coefficients = now (c .entry); bs = now (b .entry); factors = now (p .entry) }) sigma) finishingSwaption ⌝ }
 {
-    let n = payments.len();
-    let mut c = [0.0; 64];
-    terms::coefficients(strike, accruals, &mut c[..n]);
-    let mut b = [0.0; 64];
-    terms::bs(alpha, t, payments, &mut b[..n]);
+    let n = c.len();
     let mut drift = [0.0; 64];
-    let forward = formulas::forward_of(p_t, p_plus);
-    terms::drifts(forward, p_t, &b[..n], p, &mut drift[..n]);
+    terms::drifts(forward, p_t, b, p, &mut drift[..n]);
     let decay = formulas::decay_of(alpha, t);
     let deviation = formulas::deviation_of(alpha, t);
-    let swaption = jamshidian::price_at(
-        alpha,
-        sigma,
-        decay,
-        deviation,
-        p_t,
-        &c[..n],
-        &b[..n],
-        &drift[..n],
-        p,
-    );
+    let swaption = jamshidian::price_at(alpha, sigma, decay, deviation, p_t, c, b, &drift[..n], p);
     finished(swaption)
 }
 
@@ -214,13 +197,7 @@ fn finished(swaption: Swaption) -> Swaption
         return swaption;
     };
     let bracket = root.bracket;
-    let finite = elementary::is_finite(value)
-        & elementary::is_finite(root.rate)
-        & elementary::is_finite(bracket.lower)
-        & elementary::is_finite(bracket.upper)
-        & elementary::is_finite(bracket.lower_sum)
-        & elementary::is_finite(bracket.upper_sum);
-    if finite {
+    if elementary::is_finite(value) & search::root_finite(root.rate, bracket) {
         swaption
     } else {
         Swaption::Refused(Refusal::Overflow)

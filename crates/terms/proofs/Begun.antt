@@ -9,8 +9,9 @@ use Rattle.lists.specs.declared.refusals.Answer.the-variants as A
 use Rattle.lists.specs.Refusals.{Outcome, refused, Rule, firstOf, after, unless}
 use Rattle.lookups.specs.Lookups.{factorAt}
 use Rattle.formulas.specs.HullWhite.{h}
-use Rattle.terms.proofs.Callers.{early, allEarly, Late, past-rules, looking, past-lookups, through-lookups}
+use Rattle.terms.proofs.Callers.{early, allEarly, Late, past-rules, past-lookups, through-lookups}
 use Rattle.terms.specs.Terms.{factorsAt}
+use Rattle.terms.specs.Swaption.{lookingUp}
 use Rattle.terms.specs.Begun.{Begun}
 use Rattle.terms.proofs.Fetched.{off-curve}
 
@@ -20,7 +21,7 @@ module _ {B : Type 0} (rules : List Rule) (ts fs payments : List Float) (t : Flo
   fetch-early q e = rw (off-curve ts fs payments q e) tt
 
   abbrev lookedUp : Outcome B
-  lookedUp = looking (factorAt ts fs t) (factorAt ts fs (t ⊕ h)) (factorsAt ts fs payments) on
+  lookedUp = lookingUp ts fs payments t on
 
   pub record Searches (o : Outcome B) : Type 0 where
     pub begun : Begun rules ts fs payments t

@@ -3,4 +3,5 @@ pub mod Entries
 pub mod Fetching
 pub mod Fetched
 pub mod Callers
+pub mod OnTerms
 pub mod Begun

@@ -1,3 +1,2 @@
--- What the functions' proofs cite: the fronts of arrays, and how a pricing goes.
-pub mod Parts
+-- What the functions' proofs cite: how a pricing goes.
 pub mod Pricing

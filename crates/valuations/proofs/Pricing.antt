@@ -1,40 +1,39 @@
--- What a swaption comes to by the way its pricing went: the search, the Newton step, the lookups. Assumes nothing.
-use mathlib.Core.Path.{_≡_, sym}
-use mathlib.Core.Bool.{Bool, not}
-use mathlib.Core.List.{List, _++_}
+-- What a swaption comes to by the way its pricing went: the terms, the search, the Newton step. Assumes nothing.
+use mathlib.Core.Path.{_≡_, refl, _∙_}
+use mathlib.Core.Bool.{Bool, not, _&&_, cond}
+use mathlib.Core.List.{List}
 use Prim.Native.Nat.{ℕ}
-use lib.ListN.{length, take}
 use lib.Ieee.{Float}
-use Rattle.ieee.specs.Rounded.{_⊕_, _⊗_}
+use lib.Ieee.Scale.{finite}
+use Rattle.ieee.specs.Rounded.{_⊗_}
 use Rattle.ieee.specs.Numbers.{zero}
 use Rattle.lists.specs.declared.refusals.Refusal.{Refusal}
 use Rattle.lists.specs.declared.refusals.Refusal.the-variants as R
 use Rattle.lists.specs.declared.checks.Test.the-variants.{Zero}
 use Rattle.lists.specs.Refusals.{Outcome, served, refused}
-use Rattle.lookups.specs.Lookups.{just, nothing, factorAt}
 use Rattle.lists.specs.Checks.{allOf}
-use Rattle.formulas.specs.HullWhite.{h, forwardOf}
 use Rattle.schedules.specs.Variance.{varianceOf}
 use Rattle.search.specs.declared.Bracket.{Bracket}
 use Rattle.search.specs.declared.Critical.{Critical}
-use Rattle.coupons.specs.Sum.{couponSum, weightsOf, weightedSum}
+use Rattle.coupons.specs.Sum.{couponSum}
 use Rattle.search.specs.Rate.{criticalOf}
-use Rattle.search.specs.Facts.{Searched}
-use Rattle.search.proofs.Answers.{priced}
-use Rattle.terms.specs.Terms.{coefficientsOf, bsOf, factorsAt}
-use Rattle.terms.proofs.Entries.{weights-length}
+use Rattle.search.specs.Values.{rootFinite}
+use Rattle.search.proofs.Answers.{and-root}
+use Rattle.terms.specs.declared.swaption.Terms.{Terms}
+use Rattle.terms.specs.declared.swaption.Terms.the-variants as T
+use Rattle.terms.specs.Swaption.{SwaptionTerms, termsOf, termsOutcome}
+use Rattle.terms.proofs.OnTerms.{terms-refused, terms-served}
 use Rattle.closedform.specs.declared.bond_option.SwaptionType.{SwaptionType}
 use Rattle.closedform.specs.Affine.{deviationOf, affinesOf}
 use Rattle.closedform.specs.Newton.{sumsOf, stepped}
 use Rattle.closedform.specs.Components.{componentsOf}
 use Rattle.valuations.specs.Value.{Valued, finishingValuation, pricedBy, swaptionPriced}
-use Rattle.valuations.proofs.Parts.{front}
+
+-- ---- rule 13
+pub finishes : (v : Valued) {x y z b : Bool} → x ≡ finite (v .value) → y ≡ finite (v .after-step) → z ≡ rootFinite (v .root .rate) (v .root .bracket) → (x && y && z) ≡ b → cond b (served v) (refused R.Overflow) ≡ finishingValuation v
+finishes v p q r h = rw (← and-root (finite (v .value) && finite (v .after-step)) (v .root .rate) (v .root .bracket), ← p, ← q, ← r, h)
 
 -- ---- the search
--- the weights are the front of an array, `ws` with the rest behind it
-pub searched : (ws rest cs affs bs : List Float) {r : Critical} → ws ≡ weightsOf cs affs → length affs ≡ length cs → Searched (weightedSum (take (length cs) (ws ++ rest)) bs) r → criticalOf (couponSum cs affs bs) ≡ r
-searched ws rest cs affs bs {r} e l a = sym (priced cs affs bs (take (length cs) (ws ++ rest)) r (front rest e (weights-length cs affs l)) a .is)
-
 module _ (option : SwaptionType) (deviation pt : Float) (cs affs bs ps owns : List Float) (notional side : Float) where
   pub search-nan : criticalOf (couponSum cs affs bs) ≡ Critical.NotANumber → refused R.NanReached ≡ pricedBy option deviation pt cs affs bs ps owns notional side
   unfolding pricedBy
@@ -57,29 +56,22 @@ module _ (option : SwaptionType) (deviation pt : Float) (cs affs bs ps owns : Li
     unfolding pricedBy
     valued e f g k l = rw (e, f, ← g, ← k) l
 
--- ---- the lookups
-module _ (option : SwaptionType) (alpha : Float) (pls ss ts fs payments accruals owns : List Float) (strike t notional side : Float) where
-  pub off-option : factorAt ts fs t ≡ nothing → refused R.OffCurve ≡ swaptionPriced option alpha pls ss ts fs payments accruals owns strike t notional side
+-- ---- the terms
+module _ (option : SwaptionType) (variance pt forward : Float) (cs bs ps owns : List Float) (notional side : Float) where
+  pub terms-are : {deviation : Float} {affs : List Float} {o : Outcome Valued} → affs ≡ affinesOf variance forward pt bs ps → deviation ≡ deviationOf variance
+      → o ≡ pricedBy option deviation pt cs affs bs ps owns notional side → o ≡ pricedBy option (deviationOf variance) pt cs (affinesOf variance forward pt bs ps) bs ps owns notional side
+  terms-are a d h = rw (← a, ← d) h
+
+-- ---- the call, by what its terms came to, `r` with the lists beside it
+module _ (option : SwaptionType) (alpha : Float) (pls ss ts fs payments accruals owns : List Float) (strike t notional side : Float) (r : Terms) (cs bs ps : List Float) (is : termsOutcome r cs bs ps ≡ termsOf alpha ts fs payments accruals strike t) where
+  abbrev on : Float → SwaptionTerms → Outcome Valued
+  on variance w = pricedBy option (deviationOf variance) (w .pt) (w .coefficients) (affinesOf variance (w .forward) (w .pt) (w .bs) (w .factors)) (w .bs) (w .factors) owns notional side
+
+  pub off-curve : {q : Refusal} → r ≡ T.Refused q → refused q ≡ swaptionPriced option alpha pls ss ts fs payments accruals owns strike t notional side
   unfolding swaptionPriced
-  off-option e = rw e
+  off-curve e = terms-refused alpha ts fs payments accruals strike t _ (on (varianceOf alpha pls ss zero t)) (λ pt pPlus qs. refl) r cs bs ps is e
 
-  module _ {pt day : Float} where
-    pub off-day : factorAt ts fs t ≡ just pt → day ≡ h → factorAt ts fs (t ⊕ day) ≡ nothing → refused R.OffCurve ≡ swaptionPriced option alpha pls ss ts fs payments accruals owns strike t notional side
-    unfolding swaptionPriced
-    off-day e d f = rw (e, ← d, f)
-
-    module _ {pPlus : Float} where
-      pub off-payments : {q : Refusal} → factorAt ts fs t ≡ just pt → day ≡ h → factorAt ts fs (t ⊕ day) ≡ just pPlus → factorsAt ts fs payments ≡ refused q
-          → refused q ≡ swaptionPriced option alpha pls ss ts fs payments accruals owns strike t notional side
-      unfolding swaptionPriced
-      off-payments e d f g = rw (e, ← d, f, g)
-
-      -- the terms as the code has them, each equal to what it is by specs/
-      pub on-curve : {ps ps' cs bs affs : List Float} {variance forward deviation : Float} {o : Outcome Valued}
-          → factorAt ts fs t ≡ just pt → day ≡ h → factorAt ts fs (t ⊕ day) ≡ just pPlus → factorsAt ts fs payments ≡ served ps → ps' ≡ ps
-          → cs ≡ coefficientsOf strike accruals → bs ≡ bsOf alpha t payments → variance ≡ varianceOf alpha pls ss zero t → forward ≡ forwardOf pt pPlus
-          → affs ≡ affinesOf variance forward pt bs ps' → deviation ≡ deviationOf variance
-          → o ≡ pricedBy option deviation pt cs affs bs ps' owns notional side
-          → o ≡ swaptionPriced option alpha pls ss ts fs payments accruals owns strike t notional side
-      unfolding swaptionPriced
-      on-curve e d f g p c b v w a m r = rw (e, ← d, f, g, ← p, ← c, ← b, ← v, ← w, ← a, ← m) r
+  pub on-curve : {pt forward variance : Float} {cs' bs' ps' : List Float} {o : Outcome Valued} → r ≡ T.Served pt forward → variance ≡ varianceOf alpha pls ss zero t → cs' ≡ cs → bs' ≡ bs → ps' ≡ ps
+      → o ≡ on variance (record { pt = pt; forward = forward; coefficients = cs'; bs = bs'; factors = ps' }) → o ≡ swaptionPriced option alpha pls ss ts fs payments accruals owns strike t notional side
+  unfolding swaptionPriced
+  on-curve e v c b p h = h ∙ rw v (terms-served alpha ts fs payments accruals strike t _ (on (varianceOf alpha pls ss zero t)) (λ pt pPlus qs. refl) r cs bs ps is e c b p)

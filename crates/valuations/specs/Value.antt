@@ -3,19 +3,19 @@ use mathlib.Core.Bool.{not, _&&_, cond}
 use mathlib.Core.List.{List}
 use lib.Ieee.{Float}
 use lib.Ieee.Scale.{finite}
-use Rattle.ieee.specs.Rounded.{_⊕_, _⊗_}
+use Rattle.ieee.specs.Rounded.{_⊗_}
 use Rattle.ieee.specs.Numbers.{zero}
 use Rattle.lists.specs.declared.checks.Test.the-variants.{Zero}
 use Rattle.lists.specs.declared.refusals.Refusal.the-variants as R
 use Rattle.lists.specs.Refusals.{Outcome, served, refused, following}
 use Rattle.lists.specs.Checks.{allOf}
-use Rattle.lookups.specs.Lookups.{factorAt, needing}
-use Rattle.formulas.specs.HullWhite.{h, forwardOf}
+use Rattle.formulas.specs.HullWhite.{forwardOf}
 use Rattle.schedules.specs.Variance.{varianceOf}
 use Rattle.coupons.specs.Sum.{couponSum}
 use Rattle.search.specs.Rate.{criticalOf}
 use Rattle.search.specs.Values.{Values, noValues, criticalOutcome}
-use Rattle.terms.specs.Terms.{coefficientsOf, bsOf, factorsAt}
+use Rattle.terms.specs.Terms.{coefficientsOf, bsOf}
+use Rattle.terms.specs.Swaption.{lookingUp}
 use Rattle.closedform.specs.declared.bond_option.SwaptionType.{SwaptionType}
 use Rattle.closedform.specs.Affine.{deviationOf, affinesOf}
 use Rattle.closedform.specs.Newton.{sumsOf, stepped}
@@ -53,9 +53,7 @@ pricedBy option deviation pt cs affs bs ps owns notional side =
 -- the factors at t, t + h and the payment times; the variance of the state from 0 to t; the terms
 unfoldable pub swaptionPriced : SwaptionType → Float → List Float → List Float → List Float → List Float → List Float → List Float → List Float → Float → Float → Float → Float → Outcome Valued
 swaptionPriced option alpha pls ss ts fs payments accruals owns strike t notional side =
-    needing (factorAt ts fs t) (λ pt.
-    needing (factorAt ts fs (t ⊕ h)) (λ pPlus.
-    following (factorsAt ts fs payments) (λ ps.
+    lookingUp ts fs payments t (λ pt pPlus ps.
     let variance = varianceOf alpha pls ss zero t in
     let bs = bsOf alpha t payments in
-    pricedBy option (deviationOf variance) pt (coefficientsOf strike accruals) (affinesOf variance (forwardOf pt pPlus) pt bs ps) bs ps owns notional side)))
+    pricedBy option (deviationOf variance) pt (coefficientsOf strike accruals) (affinesOf variance (forwardOf pt pPlus) pt bs ps) bs ps owns notional side)

@@ -4,15 +4,15 @@ ghost use mathlib.Core.Bool.{true};
 ghost use Prim.Native.Nat.{_≤_};
 ghost use lib.ListN.{length};
 ghost use Rattle.lists.specs.Checks.{inOrder};
+ghost use Rattle.closedform.specs.Affine.{deviationOf, affinesOf};
 ghost use Rattle.valuations.specs.Value.{valuationOutcome, pricedBy, swaptionPriced, finishingValuation};
 use closedform::Step;
 use closedform::SwaptionType;
-use lists::Answer;
 use lists::Refusal;
 use lists::Test;
-use lookups::Found;
 use search::Bracket;
 use search::Critical;
+use terms::Terms;
 
 // The value, the critical rate after and before the Newton step, the final bracket, and the rungs.
 pub enum Valuation {
@@ -27,8 +27,8 @@ pub enum Valuation {
     Refused(Refusal),
 }
 
-// The factors and the terms. A caller that has asked the rules has the coupons' lists of one length of at most
-// 64, and a curve whose times strictly rise.
+// The factors and the terms, then the value. A caller that has asked the rules has the coupons' lists of one length
+// of at most 64, and a curve whose times strictly rise.
 pub fn swaption_priced(
     option: SwaptionType,
     alpha: f64,
@@ -47,34 +47,70 @@ pub fn swaption_priced(
     requires { ⌜ (length (now payments) ≤ 64) × (length (now accruals) ≡ length (now payments)) × (length (now «own_dfs») ≡ length (now payments)) × (inOrder true (now times) ≡ true) ⌝ }
     ensures { λ r. ⌜ valuationOutcome r ≡ swaptionPriced option alpha (now (pillars .entry)) (now (sigmas .entry)) (now (times .entry)) (now (factors .entry)) (now (payments .entry)) (now (accruals .entry)) (now («own_dfs» .entry)) strike t notional side ⌝ }
 {
-    let Found::At(p_t) = lookups::factor(times, factors, t) else {
-        return Valuation::Refused(Refusal::OffCurve);
-    };
-    let Found::At(p_plus) = lookups::factor(times, factors, t + formulas::day()) else {
-        return Valuation::Refused(Refusal::OffCurve);
-    };
     let n = payments.len();
-    let mut p = [0.0; 64];
-    let fetched = terms::fetch(times, factors, payments, &mut p[..n]);
-    if let Answer::Refused(refusal) = fetched {
-        return Valuation::Refused(refusal);
-    }
     let mut c = [0.0; 64];
-    terms::coefficients(strike, accruals, &mut c[..n]);
     let mut b = [0.0; 64];
-    terms::bs(alpha, t, payments, &mut b[..n]);
-    let state_variance = schedules::variance_of(alpha, pillars, sigmas, 0.0, t);
-    let forward = formulas::forward_of(p_t, p_plus);
+    let mut p = [0.0; 64];
+    let worked = terms::swaption_terms(
+        alpha,
+        times,
+        factors,
+        payments,
+        accruals,
+        strike,
+        t,
+        &mut c[..n],
+        &mut b[..n],
+        &mut p[..n],
+    );
+    match worked {
+        Terms::Refused(refusal) => Valuation::Refused(refusal),
+        Terms::Served { p_t, forward } => {
+            let state_variance = schedules::variance_of(alpha, pillars, sigmas, 0.0, t);
+            terms_priced(
+                option,
+                state_variance,
+                p_t,
+                forward,
+                &c[..n],
+                &b[..n],
+                &p[..n],
+                own_dfs,
+                notional,
+                side,
+            )
+        }
+    }
+}
+
+// A of each term, then the value; the lists are of one length of at most 64.
+fn terms_priced(
+    option: SwaptionType,
+    state_variance: f64,
+    p_t: f64,
+    forward: f64,
+    c: &[f64],
+    b: &[f64],
+    p: &[f64],
+    own_dfs: &[f64],
+    notional: f64,
+    side: f64,
+) -> Valuation
+    requires { ⌜ (length (now c) ≤ 64) × (length (now b) ≡ length (now c)) × (length (now p) ≡ length (now c)) × (length (now «own_dfs») ≡ length (now c)) ⌝ }
+    ensures { λ r. ⌜ valuationOutcome r ≡ pricedBy option (deviationOf «state_variance») «p_t» (now (c .entry)) (affinesOf «state_variance» forward «p_t» (now (b .entry)) (now (p .entry))) (now (b .entry)) (now (p .entry)) (now («own_dfs» .entry)) notional side ⌝ }
+{
+    let n = c.len();
     let mut a = [0.0; 64];
-    closedform::affines(state_variance, forward, p_t, &b[..n], &p[..n], &mut a[..n]);
+    closedform::affines(state_variance, forward, p_t, b, p, &mut a[..n]);
+    let deviation = closedform::deviation(state_variance);
     priced_by(
         option,
-        closedform::deviation(state_variance),
+        deviation,
         p_t,
-        &c[..n],
+        c,
         &a[..n],
-        &b[..n],
-        &p[..n],
+        b,
+        p,
         own_dfs,
         notional,
         side,
@@ -98,10 +134,7 @@ fn priced_by(
     requires { ⌜ (length (now c) ≤ 64) × (length (now a) ≡ length (now c)) × (length (now b) ≡ length (now c)) × (length (now p) ≡ length (now c)) × (length (now «own_dfs») ≡ length (now c)) ⌝ }
     ensures { λ r. ⌜ valuationOutcome r ≡ pricedBy option deviation «p_t» (now (c .entry)) (now (a .entry)) (now (b .entry)) (now (p .entry)) (now («own_dfs» .entry)) notional side ⌝ }
 {
-    let n = c.len();
-    let mut w = [0.0; 64];
-    terms::weights(c, a, &mut w[..n]);
-    let found = search::critical_rate(&w[..n], b);
+    let found = terms::critical_rate(c, a, b);
     if let Critical::NotANumber = found {
         return Valuation::Refused(Refusal::NanReached);
     }
@@ -135,11 +168,7 @@ fn finished(
 {
     let finite = elementary::is_finite(value)
         & elementary::is_finite(stepped)
-        & elementary::is_finite(rate)
-        & elementary::is_finite(bracket.lower)
-        & elementary::is_finite(bracket.upper)
-        & elementary::is_finite(bracket.lower_sum)
-        & elementary::is_finite(bracket.upper_sum);
+        & search::root_finite(rate, bracket);
     if finite {
         Valuation::Served {
             value,

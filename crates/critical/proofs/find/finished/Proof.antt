@@ -1,4 +1,5 @@
 -- `critical::find::finished` meets its contract: what the search came to, and rule 13. Assumes nothing.
+use mathlib.Core.Path.{sym, _∙_}
 use Rattle.terms.proofs.Callers.{nothing-found}
 use Rattle.critical.proofs.Outcomes.{finishes, overflows}
 use borrow.Author.Needs.{needs}
@@ -17,26 +18,14 @@ enum-known-found c = search needs
 returns-2 : tie.Need-returns-2
 returns-2 c = rw (nothing-found (c .before .before .args .found) (c .before .match .keys2) (c .match2 .keys2))
 
-is-finite-requires : tie.Need-is-finite-requires
-is-finite-requires c κs = search needs
-
-is-finite-requires-2 : tie.Need-is-finite-requires-2
-is-finite-requires-2 c κs = search needs
-
-is-finite-requires-3 : tie.Need-is-finite-requires-3
-is-finite-requires-3 c κs = search needs
-
-is-finite-requires-4 : tie.Need-is-finite-requires-4
-is-finite-requires-4 c κs = search needs
-
-is-finite-requires-5 : tie.Need-is-finite-requires-5
-is-finite-requires-5 c κs = search needs
+root-finite-requires : tie.Need-root-finite-requires
+root-finite-requires c κs = search needs
 
 returns-3 : tie.Need-returns-3
-returns-3 c = finishes _ (c .before .before .before .before .before .before .before .found .given .1) (rw (← c .before .before .before .before .before .is-finite .ensures, ← c .before .before .before .before .is-finite2 .ensures, ← c .before .before .before .is-finite3 .ensures, ← c .before .before .is-finite4 .ensures, ← c .before .is-finite5 .ensures) (c .if1 .taken))
+returns-3 c = finishes _ (c .before .before .before .found .given .1) (sym (c .before .root-finite .ensures) ∙ c .if1 .taken)
 
 returns-4 : tie.Need-returns-4
-returns-4 c = overflows _ (c .before .before .before .before .before .before .before .found .given .1) (rw (← c .before .before .before .before .before .is-finite .ensures, ← c .before .before .before .before .is-finite2 .ensures, ← c .before .before .before .is-finite3 .ensures, ← c .before .before .is-finite4 .ensures, ← c .before .is-finite5 .ensures) (c .if1 .left))
+returns-4 c = overflows _ (c .before .before .before .found .given .1) (sym (c .before .root-finite .ensures) ∙ c .if1 .left)
 
 pub finished-spec : {M : Type 1} → statement M
 finished-spec =
@@ -46,10 +35,6 @@ finished-spec =
     returns
     enum-known-found
     returns-2
-    is-finite-requires
-    is-finite-requires-2
-    is-finite-requires-3
-    is-finite-requires-4
-    is-finite-requires-5
+    root-finite-requires
     returns-3
     returns-4)

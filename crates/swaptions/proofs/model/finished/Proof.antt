@@ -16,32 +16,14 @@ returns c = rw (c .enum-told .given .1)
 is-finite-requires : tie.Need-is-finite-requires
 is-finite-requires c κs = search needs
 
-is-finite-requires-2 : tie.Need-is-finite-requires-2
-is-finite-requires-2 c κs = search needs
-
-is-finite-requires-3 : tie.Need-is-finite-requires-3
-is-finite-requires-3 c κs = search needs
-
-is-finite-requires-4 : tie.Need-is-finite-requires-4
-is-finite-requires-4 c κs = search needs
-
-is-finite-requires-5 : tie.Need-is-finite-requires-5
-is-finite-requires-5 c κs = search needs
-
-is-finite-requires-6 : tie.Need-is-finite-requires-6
-is-finite-requires-6 c κs = search needs
+root-finite-requires : tie.Need-root-finite-requires
+root-finite-requires c κs = search needs
 
 returns-2 : tie.Need-returns-2
-returns-2 c =
-    let f = c .before in
-    finishes _ _ _ (f .before .before .before .before .before .before .before .before .swaption .given .1)
-    (rw (← f .before .before .before .before .before .is-finite .ensures, ← f .before .before .before .before .is-finite2 .ensures, ← f .before .before .before .is-finite3 .ensures, ← f .before .before .is-finite4 .ensures, ← f .before .is-finite5 .ensures, ← f .is-finite6 .ensures) (c .if1 .taken))
+returns-2 c = finishes _ _ _ (c .before .before .before .before .before .swaption .given .1) (rw (← c .before .before .is-finite .ensures, ← c .before .root-finite .ensures) (c .if1 .taken))
 
 returns-3 : tie.Need-returns-3
-returns-3 c =
-    let f = c .before in
-    overflows _ _ _ (f .before .before .before .before .before .before .before .before .swaption .given .1)
-    (rw (← f .before .before .before .before .before .is-finite .ensures, ← f .before .before .before .before .is-finite2 .ensures, ← f .before .before .before .is-finite3 .ensures, ← f .before .before .is-finite4 .ensures, ← f .before .is-finite5 .ensures, ← f .is-finite6 .ensures) (c .if1 .left))
+returns-3 c = overflows _ _ _ (c .before .before .before .before .before .swaption .given .1) (rw (← c .before .before .is-finite .ensures, ← c .before .root-finite .ensures) (c .if1 .left))
 
 pub finished-spec : {M : Type 1} → statement M
 finished-spec =
@@ -51,10 +33,6 @@ finished-spec =
     enum-told
     returns
     is-finite-requires
-    is-finite-requires-2
-    is-finite-requires-3
-    is-finite-requires-4
-    is-finite-requires-5
-    is-finite-requires-6
+    root-finite-requires
     returns-2
     returns-3)

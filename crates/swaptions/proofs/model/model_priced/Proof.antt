@@ -1,109 +1,108 @@
--- `swaptions::model::model_priced` meets its contract: each factor is found or the call is refused by rule 8, and then the terms are priced. Assumes nothing.
-use mathlib.Core.Path.{sym}
+-- `swaptions::model::model_priced` meets its contract: refused as the terms are, or the price on them. Assumes nothing.
+use mathlib.Core.Path.{sym, _∙_}
 use mathlib.Core.List.{List}
 use lib.Ieee.{Float}
-use Rattle.lookups.proofs.Outcomes.{at, missing}
-use Rattle.terms.proofs.Fetched.{fetch-refused, fetch-all}
-use Rattle.swaptions.specs.Model.{modelPriced}
 use Rattle.lists.proofs.Lending.{work, lent-is, back-fits, back-is, values-are}
+use Rattle.swaptions.proofs.Outcomes.{off-curve, on-curve}
 use borrow.Author.Needs.{needs}
 use Rattle.swaptions.proofs.model.model_priced.Statement.{statement}
 use Rattle.swaptions.proofs.model.model_priced.Tie as tie
 
--- ---- what was written into the lent list
-abbrev ps-of : tie.After-fetch → List Float
-ps-of g = g .fetch .last .1 .1 .1 .0
+-- ---- what was written into the lent lists
+abbrev cs-of : tie.After-swaption-terms → List Float
+cs-of g = g .swaption-terms .last .1 .1 .1 .1 .1 .1 .1 .0
+
+abbrev bs-of : tie.After-swaption-terms → List Float
+bs-of g = g .swaption-terms .last .1 .1 .1 .1 .1 .1 .1 .1 .0
+
+abbrev ps-of : tie.After-swaption-terms → List Float
+ps-of g = g .swaption-terms .last .1 .1 .1 .1 .1 .1 .1 .1 .1 .0
 
 -- ---- the needs
 
-factor-requires : tie.Need-factor-requires
-factor-requires c κs = c .before .before .before .before .pre .2
+array-borrow-prefix-c : tie.Need-array-borrow-prefix-c
+array-borrow-prefix-c c = search needs
 
-enum-known-p-t : tie.Need-enum-known-p-t
-enum-known-p-t c = search needs
+slice-aggregate-swaption-terms : tie.Need-slice-aggregate-swaption-terms
+slice-aggregate-swaption-terms c = lent-is work _ (c .before .before .before .before .before .pre .0)
 
-enum-told : tie.Need-enum-told
-enum-told c = search needs
+array-borrow-prefix-b : tie.Need-array-borrow-prefix-b
+array-borrow-prefix-b c = search needs
 
-returns : tie.Need-returns
-unfolding modelPriced
-returns c = rw (missing _ (c .enum-told .given .1) (c .before .before .factor .ensures))
-
-day-requires : tie.Need-day-requires
-day-requires c κs = search needs
-
-factor-requires-2 : tie.Need-factor-requires-2
-factor-requires-2 c κs = c .before .before .before .before .before .before .before .before .before .pre .2
-
-enum-known-p-plus : tie.Need-enum-known-p-plus
-enum-known-p-plus c = search needs
-
-enum-told-2 : tie.Need-enum-told-2
-enum-told-2 c = search needs
-
-returns-2 : tie.Need-returns-2
-unfolding modelPriced
-returns-2 c = rw (at _ (c .before .before .before .before .before .p-t .given .1) (c .before .before .before .before .before .before .before .factor .ensures), ← c .before .before .before .day .ensures, missing _ (c .enum-told2 .given .1) (c .before .before .factor2 .ensures))
+slice-aggregate-swaption-terms-2 : tie.Need-slice-aggregate-swaption-terms-2
+slice-aggregate-swaption-terms-2 c = lent-is work _ (c .before .before .before .before .before .before .pre .0)
 
 array-borrow-prefix-p : tie.Need-array-borrow-prefix-p
 array-borrow-prefix-p c = search needs
 
-slice-aggregate-fetch : tie.Need-slice-aggregate-fetch
-slice-aggregate-fetch c = lent-is work _ (c .before .before .before .before .before .before .before .before .before .before .before .before .before .before .pre .0)
+slice-aggregate-swaption-terms-3 : tie.Need-slice-aggregate-swaption-terms-3
+slice-aggregate-swaption-terms-3 c = lent-is work _ (c .before .before .before .before .before .before .before .pre .0)
 
-fetch-requires : tie.Need-fetch-requires
-fetch-requires c κs = (sym (lent-is work _ (c .before .before .before .before .before .before .before .before .before .before .before .before .before .before .pre .0)), c .before .before .before .before .before .before .before .before .before .before .before .before .before .before .pre .2)
+swaption-terms-requires : tie.Need-swaption-terms-requires
+swaption-terms-requires c κs =
+    let s = c .before .before .before .before .before .before .before .pre in
+    let l = sym (lent-is work _ (s .0)) in
+    (s .2, s .1, l, l, l)
 
-enum-known-fetched : tie.Need-enum-known-fetched
-enum-known-fetched c = search needs
+enum-known-worked : tie.Need-enum-known-worked
+enum-known-worked c = search needs
 
-returns-3 : tie.Need-returns-3
-unfolding modelPriced
-returns-3 c =
-    let g = c .before .before .before .before in
-    rw (at _ (c .before .before .before .before .before .before .before .before .before .before .before .before .p-t .given .1) (c .before .before .before .before .before .before .before .before .before .before .before .before .before .before .factor .ensures), ← c .before .before .before .before .before .before .before .before .before .before .day .ensures, at _ (c .before .before .before .before .before .before .before .p-plus .given .1) (c .before .before .before .before .before .before .before .before .before .factor2 .ensures), fetch-refused (ps-of g) (c .before .fetched .given .1) (g .fetch .ensures))
+enum-known-worked-2 : tie.Need-enum-known-worked-2
+enum-known-worked-2 c = search needs
 
-enum-told-3 : tie.Need-enum-told-3
-enum-told-3 c = search needs
-
-array-share-prefix-p : tie.Need-array-share-prefix-p
-array-share-prefix-p c = let g = c .before .before .before in back-fits work _ (c .before .before .before .before .before .before .before .before .before .before .before .before .before .before .before .before .before .before .pre .0) (ps-of g) (g .fetch .kept .1 .1 .1 .0)
+array-share-prefix-c : tie.Need-array-share-prefix-c
+array-share-prefix-c c = let g = c .before .before .before .before .before .before in back-fits work _ (g .before .before .before .before .before .before .before .before .pre .0) (cs-of g) (g .swaption-terms .kept .1 .1 .1 .1 .1 .1 .1 .0)
 
 slice-aggregate-terms-priced : tie.Need-slice-aggregate-terms-priced
-slice-aggregate-terms-priced c = let g = c .before .before .before .before in back-is work _ (c .before .before .before .before .before .before .before .before .before .before .before .before .before .before .before .before .before .before .before .pre .0) (ps-of g) (g .fetch .kept .1 .1 .1 .0)
+slice-aggregate-terms-priced c = let g = c .before .before .before .before .before .before .before in back-is work _ (g .before .before .before .before .before .before .before .before .pre .0) (cs-of g) (g .swaption-terms .kept .1 .1 .1 .1 .1 .1 .1 .0)
+
+array-share-prefix-b : tie.Need-array-share-prefix-b
+array-share-prefix-b c = let g = c .before .before .before .before .before .before .before in back-fits work _ (g .before .before .before .before .before .before .before .before .pre .0) (bs-of g) (g .swaption-terms .kept .1 .1 .1 .1 .1 .1 .1 .1 .0)
+
+slice-aggregate-terms-priced-2 : tie.Need-slice-aggregate-terms-priced-2
+slice-aggregate-terms-priced-2 c = let g = c .before .before .before .before .before .before .before .before in back-is work _ (g .before .before .before .before .before .before .before .before .pre .0) (bs-of g) (g .swaption-terms .kept .1 .1 .1 .1 .1 .1 .1 .1 .0)
+
+array-share-prefix-p : tie.Need-array-share-prefix-p
+array-share-prefix-p c = let g = c .before .before .before .before .before .before .before .before in back-fits work _ (g .before .before .before .before .before .before .before .before .pre .0) (ps-of g) (g .swaption-terms .kept .1 .1 .1 .1 .1 .1 .1 .1 .1 .0)
+
+slice-aggregate-terms-priced-3 : tie.Need-slice-aggregate-terms-priced-3
+slice-aggregate-terms-priced-3 c = let g = c .before .before .before .before .before .before .before .before .before in back-is work _ (g .before .before .before .before .before .before .before .before .pre .0) (ps-of g) (g .swaption-terms .kept .1 .1 .1 .1 .1 .1 .1 .1 .1 .0)
 
 terms-priced-requires : tie.Need-terms-priced-requires
 terms-priced-requires c κs =
-    let s = c .before .before .before .before .before .before .before .before .before .before .before .before .before .before .before .before .before .before .before in
-    let g = c .before .before .before .before in
-    (s .pre .0, s .pre .1, sym (back-is work _ (s .pre .0) (ps-of g) (g .fetch .kept .1 .1 .1 .0)))
+    let g = c .before .before .before .before .before .before .before .before .before in
+    let s = g .before .before .before .before .before .before .before .before .pre .0 in
+    let n = back-is work _ s (cs-of g) (g .swaption-terms .kept .1 .1 .1 .1 .1 .1 .1 .0) in
+    (rw (← n) s, sym (back-is work _ s (bs-of g) (g .swaption-terms .kept .1 .1 .1 .1 .1 .1 .1 .1 .0)) ∙ n, sym (back-is work _ s (ps-of g) (g .swaption-terms .kept .1 .1 .1 .1 .1 .1 .1 .1 .1 .0)) ∙ n)
 
-returns-4 : tie.Need-returns-4
-unfolding modelPriced
-returns-4 c =
-    let g = c .before .before .before .before .before in
-    rw (at _ (c .before .before .before .before .before .before .before .before .before .before .before .before .before .p-t .given .1) (c .before .before .before .before .before .before .before .before .before .before .before .before .before .before .before .factor .ensures), ← c .before .before .before .before .before .before .before .before .before .before .before .day .ensures, at _ (c .before .before .before .before .before .before .before .before .p-plus .given .1) (c .before .before .before .before .before .before .before .before .before .before .factor2 .ensures), fetch-all (ps-of g) (c .before .before .enum-told3 .given .1) (g .fetch .ensures), ← values-are work _ (c .before .before .before .before .before .before .before .before .before .before .before .before .before .before .before .before .before .before .before .before .pre .0) (ps-of g) (g .fetch .kept .1 .1 .1 .0)) (c .terms-priced .ensures)
+returns : tie.Need-returns
+returns c = let g = c .before .before .before .before .before .before in off-curve _ _ _ _ _ _ _ _ _ _ _ _ (g .swaption-terms .ensures) (c .before .worked .given .1)
+
+returns-2 : tie.Need-returns-2
+returns-2 c =
+    let g = c .before .before .before .before .before .before .before .before .before .before in
+    let s = g .before .before .before .before .before .before .before .before .pre .0 in
+    on-curve _ _ _ _ _ _ _ _ _ _ _ _ (g .swaption-terms .ensures) (c .before .before .before .before .before .worked2 .given .1) (values-are work _ s (cs-of g) (g .swaption-terms .kept .1 .1 .1 .1 .1 .1 .1 .0)) (values-are work _ s (bs-of g) (g .swaption-terms .kept .1 .1 .1 .1 .1 .1 .1 .1 .0)) (values-are work _ s (ps-of g) (g .swaption-terms .kept .1 .1 .1 .1 .1 .1 .1 .1 .1 .0)) (c .terms-priced .ensures)
 
 pub model-priced-spec : {M : Type 1} → statement M
 model-priced-spec =
     tie.close
     (tie.spec
-    factor-requires
-    enum-known-p-t
-    enum-told
-    returns
-    day-requires
-    factor-requires-2
-    enum-known-p-plus
-    enum-told-2
-    returns-2
+    array-borrow-prefix-c
+    slice-aggregate-swaption-terms
+    array-borrow-prefix-b
+    slice-aggregate-swaption-terms-2
     array-borrow-prefix-p
-    slice-aggregate-fetch
-    fetch-requires
-    enum-known-fetched
-    returns-3
-    enum-told-3
-    array-share-prefix-p
+    slice-aggregate-swaption-terms-3
+    swaption-terms-requires
+    enum-known-worked
+    enum-known-worked-2
+    array-share-prefix-c
     slice-aggregate-terms-priced
+    array-share-prefix-b
+    slice-aggregate-terms-priced-2
+    array-share-prefix-p
+    slice-aggregate-terms-priced-3
     terms-priced-requires
-    returns-4)
+    returns
+    returns-2)

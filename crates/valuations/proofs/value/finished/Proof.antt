@@ -1,4 +1,5 @@
 -- `valuations::value::finished` meets its contract: rule 13 asks whether every float of the answer is finite. Assumes nothing.
+use Rattle.valuations.proofs.Pricing.{finishes}
 use borrow.Author.Needs.{needs}
 use Rattle.valuations.proofs.value.finished.Statement.{statement}
 use Rattle.valuations.proofs.value.finished.Tie as tie
@@ -9,30 +10,16 @@ is-finite-requires c κs = search needs
 is-finite-requires-2 : tie.Need-is-finite-requires-2
 is-finite-requires-2 c κs = search needs
 
-is-finite-requires-3 : tie.Need-is-finite-requires-3
-is-finite-requires-3 c κs = search needs
-
-is-finite-requires-4 : tie.Need-is-finite-requires-4
-is-finite-requires-4 c κs = search needs
-
-is-finite-requires-5 : tie.Need-is-finite-requires-5
-is-finite-requires-5 c κs = search needs
-
-is-finite-requires-6 : tie.Need-is-finite-requires-6
-is-finite-requires-6 c κs = search needs
-
-is-finite-requires-7 : tie.Need-is-finite-requires-7
-is-finite-requires-7 c κs = search needs
+root-finite-requires : tie.Need-root-finite-requires
+root-finite-requires c κs = search needs
 
 returns : tie.Need-returns
-returns c =
-    let f = c .before .before .before in
-    rw (← f .before .before .before .before .is-finite .ensures, ← f .before .before .before .is-finite2 .ensures, ← f .before .before .is-finite3 .ensures, ← f .before .is-finite4 .ensures, ← f .is-finite5 .ensures, ← c .before .before .is-finite6 .ensures, ← c .before .is-finite7 .ensures, c .if1 .taken)
+returns c = finishes _ (c .before .before .before .is-finite .ensures) (c .before .before .is-finite2 .ensures) (c .before .root-finite .ensures) (c .if1 .taken)
 
 returns-2 : tie.Need-returns-2
 returns-2 c =
-    let f = c .before .before .before in
-    rw (← f .before .before .before .before .is-finite .ensures, ← f .before .before .before .is-finite2 .ensures, ← f .before .before .is-finite3 .ensures, ← f .before .is-finite4 .ensures, ← f .is-finite5 .ensures, ← c .before .before .is-finite6 .ensures, ← c .before .is-finite7 .ensures, c .if1 .left)
+    let a = c .before .before .before .before .args in
+    finishes (record { value = a .value; after-step = a .stepped; root = record { rate = a .rate; bracket = a .bracket; low-rung = a .below; high-rung = a .above } }) (c .before .before .before .is-finite .ensures) (c .before .before .is-finite2 .ensures) (c .before .root-finite .ensures) (c .if1 .left)
 
 pub finished-spec : {M : Type 1} → statement M
 finished-spec =
@@ -40,10 +27,6 @@ finished-spec =
     (tie.spec
     is-finite-requires
     is-finite-requires-2
-    is-finite-requires-3
-    is-finite-requires-4
-    is-finite-requires-5
-    is-finite-requires-6
-    is-finite-requires-7
+    root-finite-requires
     returns
     returns-2)
