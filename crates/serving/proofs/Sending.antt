@@ -16,7 +16,7 @@ use Rattle.lines.specs.Lines.{header, refusedLine}
 use Rattle.runfile.specs.Output.{jobLines}
 use Rattle.runfile.specs.Pieces.{piecesOf, pieceOf, job-is, count-is, header-is, refused-is}
 use Rattle.serving.specs.declared.sent.Sent.{Sent}
-use Rattle.serving.specs.Sending.{fileOf, Due, Kept}
+use Rattle.serving.specs.Sending.{fileOf, Due, SameFile}
 
 -- ---- at most 128 jobs, and the header
 few-in : (file : List ℕ) (laid : Laid) → layoutOf file ≡ laid → length (piecesOf file) ≤ 129
@@ -49,7 +49,7 @@ module _ (file : List ℕ) (l : Layout) (e : layoutOf file ≡ Parts l) where
 pub read-is : (s : Sent) (n : ℕ) (bytes : List ℕ) → n ≡ s .length → bytes ≡ s .bytes → fileOf s ≡ take n bytes
 read-is s n bytes e d = rw (e, d) refl
 
-pub same-file : (s t : Sent) → Kept s t → fileOf t ≡ fileOf s
+pub same-file : (s t : Sent) → SameFile s t → fileOf t ≡ fileOf s
 same-file s t h = rw (h .0, h .1) refl
 
 -- what `send` asks of the state's own file, from the file that it is of
@@ -57,5 +57,5 @@ pub due-of : (file : List ℕ) (s : Sent) (due : ℕ) (text : List ℕ) → Due 
     → Due (fileOf s) s due × (due < length (piecesOf (fileOf s))) × (text ≡ pieceOf (fileOf s) due)
 due-of file s due text d h e = rw (d .0) ((refl, d .1, d .2, d .3), h, e)
 
-pub next-due : (file : List ℕ) (s t : Sent) (due next : ℕ) → Due file s due → Kept s t × (t .next ≡ s .next + 1) × (next ≡ t .next) → t .failed ≡ false → Due file t next
+pub next-due : (file : List ℕ) (s t : Sent) (due next : ℕ) → Due file s due → SameFile s t × (t .next ≡ s .next + 1) × (next ≡ t .next) → t .failed ≡ false → Due file t next
 next-due file s t due next d h e = (same-file s t (h .0) ∙ d .0, omega (arith, h .0 .1, d .1), sym (h .2), e)

@@ -4,7 +4,7 @@ ghost use mathlib.Core.Path.{_≡_};
 ghost use Prim.Native.Nat.{_+_, _<_};
 ghost use lib.ListN.{length};
 ghost use Rattle.runfile.specs.Pieces.{piecesOf, pieceOf};
-ghost use Rattle.serving.specs.Sending.{fileOf, Due, Kept};
+ghost use Rattle.serving.specs.Sending.{fileOf, Due, SameFile};
 
 pub struct Sent {
     // One byte more than a run file may have, so that a longer one is seen to be longer.
@@ -16,7 +16,8 @@ pub struct Sent {
     failed: bool,
 }
 
-// All of standard input, of whose output nothing is sent yet.
+// Standard input to its end or to the buffer's, which is past what a file may have; nothing of its output is sent yet. A
+// read that fails ends the input, so a file cut short is served as it stands.
 pub fn receive() -> Sent
     ensures { λ r. ⌜ Due (fileOf r) r 0 ⌝ }
 {
@@ -49,11 +50,10 @@ pub fn failed(sent: Sent) -> bool
 }
 
 // The one call that writes: the piece of the file's output that is due, behind no write that failed. A state may be
-// copied, `due` may not: once a piece is sent, an older state is not due any more. Whoever sends has the piece from
-// what was worked on the same file.
+// copied, `due` may not: once a piece is sent, an older state is not due any more.
 pub fn send(sent: Sent, due: &mut usize, text: &[u8]) -> Sent
     requires { ⌜ Due (fileOf sent) sent (now due) × (now due < length (piecesOf (fileOf sent))) × (now text ≡ pieceOf (fileOf sent) (now due)) ⌝ }
-    ensures { λ r. ⌜ Kept sent r × (r .next ≡ sent .next + 1) × (now (due .exit) ≡ r .next) ⌝ }
+    ensures { λ r. ⌜ SameFile sent r × (r .next ≡ sent .next + 1) × (now (due .exit) ≡ r .next) ⌝ }
 {
     let written = io::write_all(libc::STDOUT_FILENO, text);
     *due += 1;

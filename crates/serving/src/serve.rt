@@ -19,30 +19,30 @@ pub fn serve_input() -> Sent
     let sent = sent::receive();
     let bytes = sent::bytes(sent);
     let n = sent::length(sent);
-    serve_file(&bytes[..n], sent)
+    let mut due = 0;
+    serve_file(&bytes[..n], sent, &mut due)
 }
 
 // From piece 0 on, until all of the file's output is sent, or a write has failed. The state is of the file, and nothing
 // is sent yet.
-fn serve_file(file: &[u8], sent: Sent) -> Sent
-    requires { ⌜ Due (now file) sent 0 ⌝ }
+fn serve_file(file: &[u8], sent: Sent, due: &mut usize) -> Sent
+    requires { ⌜ Due (now file) sent (now due) × (now due ≡ 0) ⌝ }
     ensures { λ r. ⌜ Done (now (file .entry)) r ⌝ }
 {
     let laid = layout::lay_out(file);
     let mut text = [0u8; 128];
-    let mut due = 0;
     match laid {
         Laid::Broken => {
             let n = first_line(true, &mut text);
-            sent::send(sent, &mut due, &text[..n])
+            sent::send(sent, due, &text[..n])
         }
         Laid::Parts(l) => {
             let n = first_line(false, &mut text);
-            let first = sent::send(sent, &mut due, &text[..n]);
+            let first = sent::send(sent, due, &text[..n]);
             if sent::failed(first) {
                 return first;
             }
-            serve_jobs(file, l, first, &mut due)
+            serve_jobs(file, l, first, due)
         }
     }
 }

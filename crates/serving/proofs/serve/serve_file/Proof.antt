@@ -36,8 +36,8 @@ send-requires : tie.Need-send-requires
 send-requires c κs =
     let s = c .before .before .before .before .before .before .before .before in
     let e = sym (c .before .before .before .before .before .before .lay-out .ensures) ∙ c .before .before .before .before .enum-told .given .1 in
-    let j = refusal-due (now (s .args .file)) _ 0 _ _ refl e (c .before .before .first-line .ensures) in
-    due-of (now (s .args .file)) (s .args .sent) 0 _ (s .pre) (j .0) (j .1)
+    let j = refusal-due (now (s .args .file)) _ (now (s .args .due)) _ _ (s .pre .1) e (c .before .before .first-line .ensures) in
+    due-of (now (s .args .file)) (s .args .sent) (now (s .args .due)) _ (s .pre .0) (j .0) (j .1)
 
 enum-known-laid : tie.Need-enum-known-laid
 enum-known-laid c = search needs
@@ -56,8 +56,8 @@ send-requires-2 c κs =
     let g = good (c .before .before) in
     let s = start g in
     let e = sym (g .before .before .lay-out .ensures) ∙ g .laid .given .1 in
-    let j = header-due (now (s .args .file)) _ 0 _ _ refl _ e (c .before .before .first-line2 .ensures) in
-    due-of (now (s .args .file)) (s .args .sent) 0 _ (s .pre) (j .0) (j .1)
+    let j = header-due (now (s .args .file)) _ (now (s .args .due)) _ _ (s .pre .1) _ e (c .before .before .first-line2 .ensures) in
+    due-of (now (s .args .file)) (s .args .sent) (now (s .args .due)) _ (s .pre .0) (j .0) (j .1)
 
 failed-requires : tie.Need-failed-requires
 failed-requires c κs = search needs
@@ -65,7 +65,7 @@ failed-requires c κs = search needs
 returns : tie.Need-returns
 returns c =
     let s = start (good (c .before .before .before .before .before)) in
-    (same-file (s .args .sent) (c .before .before .send2 .result) (c .before .before .send2 .ensures .0) ∙ s .pre .0, inl (sym (c .before .failed .ensures) ∙ c .if1 .taken))
+    (same-file (s .args .sent) (c .before .before .send2 .result) (c .before .before .send2 .ensures .0) ∙ s .pre .0 .0, inl (sym (c .before .failed .ensures) ∙ c .if1 .taken))
 
 serve-jobs-requires : tie.Need-serve-jobs-requires
 serve-jobs-requires c κs =
@@ -73,13 +73,13 @@ serve-jobs-requires c κs =
     let s = start g in
     let e = sym (g .before .before .lay-out .ensures) ∙ g .laid .given .1 in
     let sent = c .before .before .before .send2 .ensures in
-    (e, next-due (now (s .args .file)) (s .args .sent) _ 0 _ (s .pre) sent (sym (c .before .before .failed .ensures) ∙ c .before .if1 .left), omega (arith, sent .1, sent .2, s .pre .2))
+    (e, next-due (now (s .args .file)) (s .args .sent) _ (now (s .args .due)) _ (s .pre .0) sent (sym (c .before .before .failed .ensures) ∙ c .before .if1 .left), omega (arith, sent .1, sent .2, s .pre .0 .2, s .pre .1))
 
 returns-2 : tie.Need-returns-2
 returns-2 c =
     let s = c .before .before .before .before .before .before .before .before .before in
     let e = sym (c .before .before .before .before .before .before .before .lay-out .ensures) ∙ c .before .before .before .before .before .enum-told .given .1 in
-    (same-file (s .args .sent) (c .send .result) (c .send .ensures .0) ∙ s .pre .0, inr (omega (arith, c .send .ensures .1, s .pre .2, ap length (refused-is (now (s .args .file)) e))))
+    (same-file (s .args .sent) (c .send .result) (c .send .ensures .0) ∙ s .pre .0 .0, inr (omega (arith, c .send .ensures .1, s .pre .0 .2, s .pre .1, ap length (refused-is (now (s .args .file)) e))))
 
 returns-3 : tie.Need-returns-3
 returns-3 c = search needs

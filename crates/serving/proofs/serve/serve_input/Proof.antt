@@ -24,8 +24,8 @@ slice-aggregate-serve-file c = sym (length-take-le _ _ (array-share-prefix-bytes
 
 serve-file-requires : tie.Need-serve-file-requires
 serve-file-requires c κs =
-    let read = c .before .before .before .receive in
-    (read-is (read .result) (c .before .length .result) (c .before .before .bytes .result) (c .before .length .ensures) (c .before .before .bytes .ensures), read .ensures .1, read .ensures .2, read .ensures .3)
+    let read = c .before .before .before .before .receive in
+    ((read-is (read .result) (c .before .before .length .result) (c .before .before .before .bytes .result) (c .before .before .length .ensures) (c .before .before .before .bytes .ensures), read .ensures .1, read .ensures .2, read .ensures .3), refl)
 
 returns : tie.Need-returns
 returns c = rw (c .serve-file .ensures .0) (refl, c .serve-file .ensures .1)
