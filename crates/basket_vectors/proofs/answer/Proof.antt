@@ -8,6 +8,19 @@ use borrow.Author.Needs.{needs}
 use Rattle.basket_vectors.proofs.answer.Statement.{statement}
 use Rattle.basket_vectors.proofs.answer.Tie as tie
 
+-- the walk's points that the rest speaks of: the marks, from the last list lent, and the columns of the volatilities, the strikes and the factors, each from the one after it
+abbrev marks : tie.After-vols3 → tie.After-mark
+marks c = c .before .before .before .before .before .before .before .before
+
+abbrev vols : tie.After-mark → tie.After-column7
+vols c = c .before .before .before .before
+
+abbrev strikes : tie.After-column7 → tie.After-column4
+strikes c = c .before .before .before .before .before .before .before .before .before
+
+abbrev factors : tie.After-column4 → tie.After-column2
+factors c = c .before .before .before .before .before .before
+
 slice-aggregate-column : tie.Need-slice-aggregate-column
 slice-aggregate-column c = search needs
 
@@ -82,15 +95,19 @@ slice-aggregate-fit-7 c = search needs
 
 fit-requires : tie.Need-fit-requires
 fit-requires c κs =
-    let s = c .before .before .before .before .before .before .before .before .before .before .before .before .before .before .before .before .before .before .before .before .before .before .before .before .before .before .before .before .before .before .before .before in
+    let m = marks c in
+    let v = vols m in
+    let k = strikes v in
+    let f = factors k in
+    let s = f .before .before .before .before .before in
     let n≤ : s .args .n ≤ 2049 = omega (arith, s .pre .1) in
-    let w1 = c .before .before .before .before .before .before .before .before .before .before .before .before .before .before .before .before .before .before .before .before .before .before .before .before .before .before .before .before .before .before .column in
-    let w2 = c .before .before .before .before .before .before .before .before .before .before .before .before .before .before .before .before .before .before .before .before .before .before .before .before .before .before .before .column2 in
-    let w4 = c .before .before .before .before .before .before .before .before .before .before .before .before .before .before .before .before .before .before .before .before .before .column4 in
-    let w5 = c .before .before .before .before .before .before .before .before .before .before .before .before .before .before .before .before .before .before .column5 in
-    let w6 = c .before .before .before .before .before .before .before .before .before .before .before .before .before .before .before .column6 in
-    let w7 = c .before .before .before .before .before .before .before .before .before .before .before .before .column7 in
-    let marked = c .before .before .before .before .before .before .before .before .mark in
+    let w1 = f .before .before .before .column in
+    let w2 = f .column2 in
+    let w4 = k .column4 in
+    let w5 = v .before .before .before .before .before .before .column5 in
+    let w6 = v .before .before .before .column6 in
+    let w7 = v .column7 in
+    let marked = m .mark in
     ((front zero _ (w1 .last .1 .1 .1 .1 .0) (s .pre .0) (w1 .kept .1 .1 .1 .1 .0), front zero _ (w2 .last .1 .1 .1 .1 .0) (s .pre .0) (w2 .kept .1 .1 .1 .1 .0)), (front false _ (marked .last .1 .0) n≤ (marked .kept .1 .0), front zero _ (w4 .last .1 .1 .1 .1 .0) n≤ (w4 .kept .1 .1 .1 .1 .0), front zero _ (w5 .last .1 .1 .1 .1 .0) n≤ (w5 .kept .1 .1 .1 .1 .0), front zero _ (w6 .last .1 .1 .1 .1 .0) n≤ (w6 .kept .1 .1 .1 .1 .0), front zero _ (w7 .last .1 .1 .1 .1 .0) n≤ (w7 .kept .1 .1 .1 .1 .0)))
 
 returns : tie.Need-returns

@@ -13,6 +13,10 @@ Inv-loop file l curve alpha pillars sigmas times factors payments accruals owns 
 abbrev μ-loop : tie.MeasureT-loop
 μ-loop file l curve alpha pillars sigmas times factors payments accruals owns grid draws written out₀ n-jobs k₀ out k = n-jobs - k
 
+-- the start of the walk, from the ninth list that is lent to it
+abbrev start : tie.After-shared-slice-known9 Inv-loop μ-loop → tie.Start Inv-loop μ-loop
+start c = c .before .before .before .before .before .before .before .before .before
+
 cast-n-jobs : tie.Need-cast-n-jobs Inv-loop μ-loop
 cast-n-jobs c = search needs
 
@@ -20,7 +24,9 @@ loop-holds : tie.Need-loop-holds Inv-loop μ-loop
 loop-holds c = (search needs, refl)
 
 job-lines-requires : tie.Need-job-lines-requires Inv-loop μ-loop
-job-lines-requires c κs = let s = c .before .before .before .before .before .before .before .before .before .before .before .before .before .before .before in ((s .pre .0 .0, c .before .loop-test .taken, omega (arith, s .pre .0 .1, c .before .before .loop .inv .1)), (s .pre .1 .0, s .pre .1 .1))
+job-lines-requires c κs =
+    let s = start (c .before .before .before .before .before .before) in
+    ((s .pre .0 .0, c .before .loop-test .taken, omega (arith, s .pre .0 .1, c .before .before .loop .inv .1)), (s .pre .1 .0, s .pre .1 .1))
 
 slice-reshare-prefix-write-all : tie.Need-slice-reshare-prefix-write-all Inv-loop μ-loop
 slice-reshare-prefix-write-all c = search needs

@@ -16,6 +16,16 @@ Inv-loop file l floats rounds alpha pillars sigmas times factors payments accrua
 abbrev μ-loop : tie.MeasureT-loop
 μ-loop file l floats rounds alpha pillars sigmas times factors payments accruals owns grid draws curve out₀ left₀ out left = left
 
+-- the points of the walk that the rest speaks of: its start, from the middle of the lists and from where all nine are there, and where they are, from the loop's head
+abbrev early : tie.After-list4 Inv-loop μ-loop → tie.Start Inv-loop μ-loop
+early c = c .before .before .before .before .before .before .before
+
+abbrev start : tie.After-list9 Inv-loop μ-loop → tie.Start Inv-loop μ-loop
+start c = early (c .before .before .before .before .before)
+
+abbrev lists : tie.At-loop Inv-loop μ-loop → tie.After-list9 Inv-loop μ-loop
+lists c = c .before .before
+
 alpha-requires : tie.Need-alpha-requires Inv-loop μ-loop
 alpha-requires c κs = let s = c .before .before in kept (now (s .args .file)) (s .args .l) (s .pre .0) .model
 
@@ -35,16 +45,16 @@ list-requires-5 : tie.Need-list-requires-5 Inv-loop μ-loop
 list-requires-5 c κs = let s = c .before .before .before .before .before .before .before in (s .pre .0, s .pre .1, omega arith)
 
 list-requires-6 : tie.Need-list-requires-6 Inv-loop μ-loop
-list-requires-6 c κs = let s = c .before .before .before .before .before .before .before .before in (s .pre .0, s .pre .1, omega arith)
+list-requires-6 c κs = let s = early (c .before) in (s .pre .0, s .pre .1, omega arith)
 
 list-requires-7 : tie.Need-list-requires-7 Inv-loop μ-loop
-list-requires-7 c κs = let s = c .before .before .before .before .before .before .before .before .before in (s .pre .0, s .pre .1, omega arith)
+list-requires-7 c κs = let s = early (c .before .before) in (s .pre .0, s .pre .1, omega arith)
 
 list-requires-8 : tie.Need-list-requires-8 Inv-loop μ-loop
-list-requires-8 c κs = let s = c .before .before .before .before .before .before .before .before .before .before in (s .pre .0, s .pre .1, omega arith)
+list-requires-8 c κs = let s = early (c .before .before .before) in (s .pre .0, s .pre .1, omega arith)
 
 list-requires-9 : tie.Need-list-requires-9 Inv-loop μ-loop
-list-requires-9 c κs = let s = c .before .before .before .before .before .before .before .before .before .before .before in (s .pre .0, s .pre .1, omega arith)
+list-requires-9 c κs = let s = early (c .before .before .before .before) in (s .pre .0, s .pre .1, omega arith)
 
 curve-faults-requires : tie.Need-curve-faults-requires Inv-loop μ-loop
 curve-faults-requires c κs = search needs
@@ -60,9 +70,10 @@ slice-aggregate-each-job c = let h = c .before .before .loop .inv .1 in search (
 
 each-job-requires : tie.Need-each-job-requires Inv-loop μ-loop
 each-job-requires c κs =
-    let b = c .before .before .before in
-    let s = b .before .before .before .before .before .before .before .before .before .before .before .before .before in
-    ((s .pre .0, omega (arith, c .before .before .loop .inv .1)), (b .curve-faults .ensures, lists-are (now (s .args .file)) (s .args .l) _ _ _ _ _ _ _ _ _ _ (b .before .before .before .before .before .before .before .before .before .before .alpha .ensures) (b .before .before .before .before .before .before .before .before .before .list .ensures) (b .before .before .before .before .before .before .before .before .list2 .ensures) (b .before .before .before .before .before .before .before .list3 .ensures) (b .before .before .before .before .before .before .list4 .ensures) (b .before .before .before .before .before .list5 .ensures) (b .before .before .before .before .list6 .ensures) (b .before .before .before .list7 .ensures) (b .before .before .list8 .ensures) (b .before .list9 .ensures)))
+    let b = lists (c .before .before) in
+    let s = start b in
+    let read = lists-are (now (s .args .file)) (s .args .l) _ _ _ _ _ _ _ _ _ _ (b .before .before .before .before .before .before .before .before .before .alpha .ensures) (b .before .before .before .before .before .before .before .before .list .ensures) (b .before .before .before .before .before .before .before .list2 .ensures) (b .before .before .before .before .before .before .list3 .ensures) (b .before .before .before .before .before .list4 .ensures) (b .before .before .before .before .list5 .ensures) (b .before .before .before .list6 .ensures) (b .before .before .list7 .ensures) (b .before .list8 .ensures) (b .list9 .ensures) in
+    ((s .pre .0, omega (arith, c .before .before .loop .inv .1)), (c .before .before .before .curve-faults .ensures, read))
 
 loop-less : tie.Need-loop-less Inv-loop μ-loop
 loop-less c = search needs

@@ -12,10 +12,14 @@ use borrow.Author.Needs.{needs}
 use Rattle.baskets.proofs.call.fit_basket.Statement.{statement}
 use Rattle.baskets.proofs.call.fit_basket.Tie as tie
 
--- ---- the rules, on the call's own lists
-abbrev start : tie.After-basket-rules → tie.Start
-start r = r .before .before .before .before .before .before .before .before .before .before .before .before .before
+-- the start of the walk, from the curve's faults and from where the rules are told
+abbrev early : tie.After-curve-faults → tie.Start
+early c = c .before .before .before .before .before .before .before .before
 
+abbrev start : tie.After-basket-rules → tie.Start
+start c = early (c .before .before .before .before .before)
+
+-- ---- the rules, on the call's own lists
 rules : (r : tie.After-basket-rules) → let a = start r .args in r .basket-rules .result ≡ firstOf (rulesOn (a .alpha) (now (a .times)) (now (a .factors)) (now (a .normals)) (now (a .strikes)) (now (a .starts)) (now (a .ends)) (now (a .vols)))
 rules r = rules-on (start r .args .alpha) (r .before .before .before .before .before .curve-faults .ensures) (r .before .before .before .before .size-wrong .ensures) (r .before .before .before .numbers-wrong .ensures) (r .before .before .times-wrong .ensures) (r .before .domain-wrong .ensures) (r .basket-rules .ensures)
 

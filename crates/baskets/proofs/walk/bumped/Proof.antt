@@ -5,6 +5,13 @@ use borrow.Author.Needs.{needs}
 use Rattle.baskets.proofs.walk.bumped.Statement.{statement}
 use Rattle.baskets.proofs.walk.bumped.Tie as tie
 
+-- the walk's points that the rest speaks of: the start and the fit, from the test of the diagonal's float
+abbrev fitted : tie.After-is-finite → tie.After-caplet-fitted
+fitted c = c .before .before .before .before .before
+
+abbrev start : tie.After-caplet-fitted → tie.Start
+start c = c .before .before .before .before
+
 quote-of-requires : tie.Need-quote-of-requires
 quote-of-requires c κs = search needs
 
@@ -19,8 +26,9 @@ enum-told c = search needs
 
 returns : tie.Need-returns
 returns c =
-    let a = c .before .before .before .before .before .before .args in
-    bump-refused (a .alpha) (now (a .times)) (now (a .factors)) (a .strike) (a .start) (a .end) (a .vol) (a .sigma) (a .normal) (c .before .before .before .quote-of .ensures) _ (c .before .before .caplet-fitted .ensures) (c .enum-told .given .1)
+    let f = c .before .before in
+    let a = start f .args in
+    bump-refused (a .alpha) (now (a .times)) (now (a .factors)) (a .strike) (a .start) (a .end) (a .vol) (a .sigma) (a .normal) (f .before .quote-of .ensures) _ (f .caplet-fitted .ensures) (c .enum-told .given .1)
 
 diagonal-of-requires : tie.Need-diagonal-of-requires
 diagonal-of-requires c κs = search needs
@@ -30,13 +38,15 @@ is-finite-requires c κs = search needs
 
 returns-2 : tie.Need-returns-2
 returns-2 c =
-    let a = c .before .before .before .before .before .before .before .before .before .before .args in
-    bump-kept (a .alpha) (now (a .times)) (now (a .factors)) (a .strike) (a .start) (a .end) (a .vol) (a .sigma) (a .normal) (c .before .before .before .before .before .before .before .quote-of .ensures) _ (c .before .before .before .before .before .before .caplet-fitted .ensures) (c .before .before .before .before .fitted .given .1) (c .before .before .diagonal-of .ensures) (c .before .is-finite .ensures) (c .if1 .taken)
+    let f = fitted (c .before) in
+    let a = start f .args in
+    bump-kept (a .alpha) (now (a .times)) (now (a .factors)) (a .strike) (a .start) (a .end) (a .vol) (a .sigma) (a .normal) (f .before .quote-of .ensures) _ (f .caplet-fitted .ensures) (c .before .before .before .before .fitted .given .1) (c .before .before .diagonal-of .ensures) (c .before .is-finite .ensures) (c .if1 .taken)
 
 returns-3 : tie.Need-returns-3
 returns-3 c =
-    let a = c .before .before .before .before .before .before .before .before .before .before .args in
-    bump-lost (a .alpha) (now (a .times)) (now (a .factors)) (a .strike) (a .start) (a .end) (a .vol) (a .sigma) (a .normal) (c .before .before .before .before .before .before .before .quote-of .ensures) _ (c .before .before .before .before .before .before .caplet-fitted .ensures) (c .before .before .before .before .fitted .given .1) (c .before .before .diagonal-of .ensures) (c .before .is-finite .ensures) (c .if1 .left)
+    let f = fitted (c .before) in
+    let a = start f .args in
+    bump-lost (a .alpha) (now (a .times)) (now (a .factors)) (a .strike) (a .start) (a .end) (a .vol) (a .sigma) (a .normal) (f .before .quote-of .ensures) _ (f .caplet-fitted .ensures) (c .before .before .before .before .fitted .given .1) (c .before .before .diagonal-of .ensures) (c .before .is-finite .ensures) (c .if1 .left)
 
 pub bumped-spec : {M : Type 1} → statement M
 bumped-spec =

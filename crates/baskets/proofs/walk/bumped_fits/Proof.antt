@@ -15,13 +15,20 @@ Inv-loop alpha times factors normals strikes starts ends vols sigmas diagonal₀
 abbrev μ-loop : tie.MeasureT-loop
 μ-loop alpha times factors normals strikes starts ends vols sigmas diagonal₀ statuses₀ i₀ diagonal statuses i = length normals - i
 
+-- the points of the walk that the rest speaks of: where it was called, from the first list to write, and the place of a turn, from its bump
+abbrev called : tie.After-slice-known Inv-loop μ-loop → tie.Start Inv-loop μ-loop
+called c = c .before .before .before .before .before .before .before .before .before
+
+abbrev place : tie.After-bumped Inv-loop μ-loop → tie.After-shared-slice-known9 Inv-loop μ-loop
+place c = c .before .before .before .before .before .before
+
 -- ---- what a turn knows of its place
 next-fits : (t : tie.In-loop Inv-loop μ-loop) → Fits w64 (t .before .loop .i + 1)
 next-fits t = omega arith
 
 -- ---- the needs
 loop-holds : tie.Need-loop-holds Inv-loop μ-loop
-loop-holds c = let p = c .before .before .before .before .before .before .before .before .before .before .pre in start (p .0) (p .1) (p .2) (p .3) (p .4) (p .5) (p .6)
+loop-holds c = let p = called (c .before) .pre in start (p .0) (p .1) (p .2) (p .3) (p .4) (p .5) (p .6)
 
 shared-slice-read-bumped : tie.Need-shared-slice-read-bumped Inv-loop μ-loop
 shared-slice-read-bumped c = search needs
@@ -69,13 +76,13 @@ same-length-2 : tie.Need-same-length-2 Inv-loop μ-loop
 same-length-2 c = search needs
 
 returns : tie.Need-returns Inv-loop μ-loop
-returns c = stop (c .before .before .before .before .before .before .before .before .before .before .loop-test .taken) (c .before .before .before .before .before .before .before .before .before .before .before .loop .inv) (bump-gave-none (c .before .fitted .given .1) (c .before .before .before .bumped .ensures))
+returns c = stop (place (c .before .before .before) .before .loop-test .taken) (place (c .before .before .before) .before .before .loop .inv) (bump-gave-none (c .before .fitted .given .1) (c .before .before .before .bumped .ensures))
 
 enum-known-fitted-2 : tie.Need-enum-known-fitted-2 Inv-loop μ-loop
 enum-known-fitted-2 c = search needs
 
 mul-diagonal-of : tie.Need-mul-diagonal-of Inv-loop μ-loop
-mul-diagonal-of c = mul-bumped (c .before .before .before .before .before .before .before .before .before)
+mul-diagonal-of c = mul-bumped (place (c .before .before .before))
 
 shared-slice-read-diagonal-of : tie.Need-shared-slice-read-diagonal-of Inv-loop μ-loop
 shared-slice-read-diagonal-of c = search needs
@@ -84,7 +91,7 @@ diagonal-of-requires : tie.Need-diagonal-of-requires Inv-loop μ-loop
 diagonal-of-requires c κs = search needs
 
 mul-diagonal : tie.Need-mul-diagonal Inv-loop μ-loop
-mul-diagonal c = mul-bumped (c .before .before .before .before .before .before .before .before .before .before .before)
+mul-diagonal c = mul-bumped (place (c .before .before .before .before .before))
 
 slice-write-diagonal : tie.Need-slice-write-diagonal Inv-loop μ-loop
 slice-write-diagonal c = search needs
@@ -93,19 +100,19 @@ status-of-requires : tie.Need-status-of-requires Inv-loop μ-loop
 status-of-requires c κs = search needs
 
 mul-statuses : tie.Need-mul-statuses Inv-loop μ-loop
-mul-statuses c = mul-bumped (c .before .before .before .before .before .before .before .before .before .before .before .before)
+mul-statuses c = mul-bumped (place (c .before .before .before .before .before .before))
 
 slice-write-statuses : tie.Need-slice-write-statuses Inv-loop μ-loop
 slice-write-statuses c = search needs
 
 add-i : tie.Need-add-i Inv-loop μ-loop
-add-i c = next-fits (c .before .before .before .before .before .before .before .before .before .before .before .before .before)
+add-i c = next-fits (place (c .before .before .before .before .before .before) .before)
 
 loop-less : tie.Need-loop-less Inv-loop μ-loop
 loop-less c = search needs
 
 loop-again : tie.Need-loop-again Inv-loop μ-loop
-loop-again c = turn (c .before .before .before .before .before .before .before .before .before .before .before .before .before .loop-test .taken) (c .before .before .before .before .before .before .before .before .before .before .before .before .before .before .loop .inv) (c .before .diagonal-of .ensures) (c .status-of .ensures) (bump-gave (c .before .before .before .before .fitted2 .given .1) (c .before .before .before .before .before .before .bumped .ensures))
+loop-again c = turn (place (c .before .before .before .before .before .before) .before .loop-test .taken) (place (c .before .before .before .before .before .before) .before .before .loop .inv) (c .before .diagonal-of .ensures) (c .status-of .ensures) (bump-gave (c .before .before .before .before .fitted2 .given .1) (c .before .before .before .before .before .before .bumped .ensures))
 
 same-length-3 : tie.Need-same-length-3 Inv-loop μ-loop
 same-length-3 c = search needs

@@ -16,13 +16,20 @@ Inv-loop alpha times factors normals strikes starts ends vols sigmas₀ statuses
 abbrev μ-loop : tie.MeasureT-loop
 μ-loop alpha times factors normals strikes starts ends vols sigmas₀ statuses₀ halvings₀ residuals₀ i₀ sigmas statuses halvings residuals i = length normals - i
 
+-- the points of the walk that the rest speaks of: where it was called, from the second list to write, and the quote of a turn, from its fit
+abbrev called : tie.After-slice-known2 Inv-loop μ-loop → tie.Start Inv-loop μ-loop
+called c = c .before .before .before .before .before .before .before .before .before
+
+abbrev quoted : tie.After-caplet-fitted Inv-loop μ-loop → tie.After-quote-of Inv-loop μ-loop
+quoted c = c .before .before .before .before .before
+
 -- ---- what a turn knows of its place
 next-fits : (t : tie.In-loop Inv-loop μ-loop) → Fits w64 (t .before .loop .i + 1)
 next-fits t = omega arith
 
 -- ---- the needs
 loop-holds : tie.Need-loop-holds Inv-loop μ-loop
-loop-holds c = let p = c .before .before .before .before .before .before .before .before .before .before .before .pre in start (p .0) (p .1) (p .2) (p .3) (p .4) (p .5) (p .6) (p .7)
+loop-holds c = let p = called (c .before .before) .pre in start (p .0) (p .1) (p .2) (p .3) (p .4) (p .5) (p .6) (p .7)
 
 shared-slice-read-quote-of : tie.Need-shared-slice-read-quote-of Inv-loop μ-loop
 shared-slice-read-quote-of c = search needs
@@ -73,13 +80,16 @@ same-length-4 : tie.Need-same-length-4 Inv-loop μ-loop
 same-length-4 c = search needs
 
 returns : tie.Need-returns Inv-loop μ-loop
-returns c = stop (c .before .before .before .before .before .before .before .before .before .before .loop-test .taken) (c .before .before .before .before .before .before .before .before .before .before .before .loop .inv) (fit-refused _ _ _ _ _ _ _ (c .before .before .before .before .before .before .before .before .quote-of .ensures) _ (c .before .before .before .caplet-fitted .ensures) (c .before .fitted .given .1))
+returns c =
+    let f = c .before .before .before in
+    let q = quoted f in
+    stop (q .before .before .loop-test .taken) (q .before .before .before .loop .inv) (fit-refused _ _ _ _ _ _ _ (q .quote-of .ensures) _ (f .caplet-fitted .ensures) (c .before .fitted .given .1))
 
 enum-known-fitted-2 : tie.Need-enum-known-fitted-2 Inv-loop μ-loop
 enum-known-fitted-2 c = search needs
 
 mul-sigmas : tie.Need-mul-sigmas Inv-loop μ-loop
-mul-sigmas c = mul-caplet-fitted (c .before .before .before .before .before .before .before .before)
+mul-sigmas c = mul-caplet-fitted (quoted (c .before .before .before))
 
 slice-write-sigmas : tie.Need-slice-write-sigmas Inv-loop μ-loop
 slice-write-sigmas c = search needs
@@ -88,34 +98,37 @@ status-of-requires : tie.Need-status-of-requires Inv-loop μ-loop
 status-of-requires c κs = search needs
 
 mul-statuses : tie.Need-mul-statuses Inv-loop μ-loop
-mul-statuses c = mul-caplet-fitted (c .before .before .before .before .before .before .before .before .before)
+mul-statuses c = mul-caplet-fitted (quoted (c .before .before .before .before))
 
 slice-write-statuses : tie.Need-slice-write-statuses Inv-loop μ-loop
 slice-write-statuses c = search needs
 
 int-to-float-halvings : tie.Need-int-to-float-halvings Inv-loop μ-loop
-int-to-float-halvings c = in-float _ (halvings-in _ _ _ _ _ _ _ _ _ (fit-served _ _ _ _ _ _ _ (c .before .before .before .before .before .before .before .before .before .before .quote-of .ensures) _ (c .before .before .before .before .before .caplet-fitted .ensures) (c .before .before .before .fitted2 .given .1)))
+int-to-float-halvings c = let f = c .before .before .before .before .before in in-float _ (halvings-in _ _ _ _ _ _ _ _ _ (fit-served _ _ _ _ _ _ _ (quoted f .quote-of .ensures) _ (f .caplet-fitted .ensures) (c .before .before .before .fitted2 .given .1)))
 
 mul-halvings : tie.Need-mul-halvings Inv-loop μ-loop
-mul-halvings c = mul-caplet-fitted (c .before .before .before .before .before .before .before .before .before .before)
+mul-halvings c = mul-caplet-fitted (quoted (c .before .before .before .before .before))
 
 slice-write-halvings : tie.Need-slice-write-halvings Inv-loop μ-loop
 slice-write-halvings c = search needs
 
 mul-residuals : tie.Need-mul-residuals Inv-loop μ-loop
-mul-residuals c = mul-caplet-fitted (c .before .before .before .before .before .before .before .before .before .before)
+mul-residuals c = mul-caplet-fitted (quoted (c .before .before .before .before .before))
 
 slice-write-residuals : tie.Need-slice-write-residuals Inv-loop μ-loop
 slice-write-residuals c = search needs
 
 add-i : tie.Need-add-i Inv-loop μ-loop
-add-i c = next-fits (c .before .before .before .before .before .before .before .before .before .before .before .before)
+add-i c = next-fits (quoted (c .before .before .before .before .before) .before .before)
 
 loop-less : tie.Need-loop-less Inv-loop μ-loop
 loop-less c = search needs
 
 loop-again : tie.Need-loop-again Inv-loop μ-loop
-loop-again c = turn (c .before .before .before .before .before .before .before .before .before .before .before .before .loop-test .taken) (c .before .before .before .before .before .before .before .before .before .before .before .before .before .loop .inv) (c .before .status-of .ensures) (fit-served _ _ _ _ _ _ _ (c .before .before .before .before .before .before .before .before .before .before .quote-of .ensures) _ (c .before .before .before .before .before .caplet-fitted .ensures) (c .before .before .before .fitted2 .given .1))
+loop-again c =
+    let f = c .before .before .before .before .before in
+    let q = quoted f in
+    turn (q .before .before .loop-test .taken) (q .before .before .before .loop .inv) (c .before .status-of .ensures) (fit-served _ _ _ _ _ _ _ (q .quote-of .ensures) _ (f .caplet-fitted .ensures) (c .before .before .before .fitted2 .given .1))
 
 same-length-5 : tie.Need-same-length-5 Inv-loop μ-loop
 same-length-5 c = search needs

@@ -11,6 +11,10 @@ use borrow.Author.Needs.{needs}
 use Rattle.calls.proofs.outputs.path.Statement.{statement}
 use Rattle.calls.proofs.outputs.path.Tie as tie
 
+-- the start of the walk, from the first number read
+abbrev start : tie.After-float-of → tie.Start
+start c = c .before .before .before
+
 float-of-requires : tie.Need-float-of-requires
 float-of-requires c κs = search needs
 
@@ -36,7 +40,7 @@ slice-relend-prefix-generate : tie.Need-slice-relend-prefix-generate
 slice-relend-prefix-generate c = search needs
 
 slice-aggregate-generate : tie.Need-slice-aggregate-generate
-slice-aggregate-generate c = sym (length-take-le _ _ (c .before .before .before .before .before .before .before .before .before .before .pre))
+slice-aggregate-generate c = sym (length-take-le _ _ (start (c .before .before .before .before .before .before .before) .pre))
 
 generate-requires : tie.Need-generate-requires
 generate-requires c κs = search needs
@@ -58,10 +62,12 @@ same-length c = search needs
 
 returns : tie.Need-returns
 returns c =
-    let a = c .before .before .before .before .before .before .before .before .before .before .before .before .before .before .before .before .before .before .before .args in
     let w = c .before .before .before .before .before .before .before .before in
-    let e : generateOutcome (w .before .before .before .before .before .before .before .before .float-of .result) (now (w .before .before .before .before .before .before .before .part .result)) (now (w .before .before .before .before .before .before .part2 .result)) (now (w .before .before .before .before .before .part3 .result)) (now (w .before .before .before .before .part4 .result)) (now (w .before .before .before .part5 .result)) (now (w .before .before .part6 .result)) (length (take (a .r .room) (now (a .out)))) ≡ generateCall (a .r) (now (a .s)) (a .r .room) =
-    rw (w .before .before .before .before .before .before .before .before .float-of .ensures, w .before .before .before .before .before .before .before .part .ensures, w .before .before .before .before .before .before .part2 .ensures, w .before .before .before .before .before .part3 .ensures, w .before .before .before .before .part4 .ensures, w .before .before .before .part5 .ensures, w .before .before .part6 .ensures, length-take-le (a .r .room) (now (a .out)) (c .before .before .before .before .before .before .before .before .before .before .before .before .before .before .before .before .before .before .before .pre)) in
+    let f = w .before .before .before .before .before .before .before .before in
+    let s = f .before .before .before in
+    let a = s .args in
+    let e : generateOutcome (f .float-of .result) (now (w .before .before .before .before .before .before .before .part .result)) (now (w .before .before .before .before .before .before .part2 .result)) (now (w .before .before .before .before .before .part3 .result)) (now (w .before .before .before .before .part4 .result)) (now (w .before .before .before .part5 .result)) (now (w .before .before .part6 .result)) (length (take (a .r .room) (now (a .out)))) ≡ generateCall (a .r) (now (a .s)) (a .r .room) =
+    rw (f .float-of .ensures, w .before .before .before .before .before .before .before .part .ensures, w .before .before .before .before .before .before .part2 .ensures, w .before .before .before .before .before .part3 .ensures, w .before .before .before .before .part4 .ensures, w .before .before .before .part5 .ensures, w .before .before .part6 .ensures, length-take-le (a .r .room) (now (a .out)) (s .pre)) in
     wrote (a .r) (now (a .s)) _ _ (now (a .out)) _ _ _ _ _ e (c .before .before .before .before .before .number .ensures ∙ ap answerNumber (w .generate .ensures .0)) (w .generate .ensures .1 .0) (c .before .before .before .has .ensures) (c .before .part7 .ensures) (c .holds .ensures)
 
 pub path-spec : {M : Type 1} → statement M

@@ -49,10 +49,11 @@ same-length c = search needs
 
 returns : tie.Need-returns
 returns c =
-    let a = c .before .before .before .before .before .before .before .before .before .before .before .before .before .before .before .before .args in
     let w = c .before .before .before .before .before .before .before .before in
+    let s = w .before .before .before .before .before .before .before .before in
+    let a = s .args in
     let e : transitionOutcome (w .before .before .before .before .before .float-of .result) (now (w .before .before .before .before .part .result)) (now (w .before .before .before .part2 .result)) (a .r .b) (w .before .before .float-of2 .result) (length (take (a .r .room) (now (a .out)))) ≡ transitionCall (a .r) (now (a .s)) (a .r .room) =
-    rw (w .before .before .before .before .before .float-of .ensures, w .before .before .before .before .part .ensures, w .before .before .before .part2 .ensures, w .before .before .float-of2 .ensures, length-take-le (a .r .room) (now (a .out)) (c .before .before .before .before .before .before .before .before .before .before .before .before .before .before .before .before .pre)) in
+    rw (w .before .before .before .before .before .float-of .ensures, w .before .before .before .before .part .ensures, w .before .before .before .part2 .ensures, w .before .before .float-of2 .ensures, length-take-le (a .r .room) (now (a .out)) (s .pre)) in
     wrote (a .r) (now (a .s)) _ _ (now (a .out)) _ _ _ _ _ e (c .before .before .before .before .before .number .ensures ∙ ap answerNumber (w .transition-variances .ensures .0)) (w .transition-variances .ensures .1 .0) (c .before .before .before .has .ensures) (c .before .part3 .ensures) (c .holds .ensures)
 
 pub transitions-spec : {M : Type 1} → statement M

@@ -6,6 +6,16 @@ use borrow.Author.Needs.{needs}
 use Rattle.critical_vectors.proofs.vector.compared.Statement.{statement}
 use Rattle.critical_vectors.proofs.vector.compared.Tie as tie
 
+-- the walk's points that the rest speaks of: the three columns read, each from the next and the third from the first length
+abbrev first : tie.After-column2 → tie.After-column
+first c = c .before .before .before .before
+
+abbrev second : tie.After-column3 → tie.After-column2
+second c = c .before .before .before .before
+
+abbrev third : tie.After-length → tie.After-column3
+third c = c .before .before
+
 slice-aggregate-column : tie.Need-slice-aggregate-column
 slice-aggregate-column c = search needs
 
@@ -37,25 +47,38 @@ array-share-prefix-c : tie.Need-array-share-prefix-c
 array-share-prefix-c c = search needs
 
 slice-aggregate-answered : tie.Need-slice-aggregate-answered
-slice-aggregate-answered c = sym (length-take-le _ _ (front _ (c .before .before .before .before .before .before .before .before .before .before .before .before .before .column .last .1 .1 .1 .1 .0) (c .before .before .before .length .ensures .0) (c .before .before .before .before .before .before .before .before .before .before .before .before .before .column .kept .1 .1 .1 .1 .0)))
+slice-aggregate-answered c =
+    let l = c .before .before .before in
+    let k = first (second (third l)) in
+    sym (length-take-le _ _ (front _ (k .column .last .1 .1 .1 .1 .0) (l .length .ensures .0) (k .column .kept .1 .1 .1 .1 .0)))
 
 array-share-prefix-a : tie.Need-array-share-prefix-a
 array-share-prefix-a c = search needs
 
 slice-aggregate-answered-2 : tie.Need-slice-aggregate-answered-2
-slice-aggregate-answered-2 c = sym (length-take-le _ _ (front _ (c .before .before .before .before .before .before .before .before .before .before .column2 .last .1 .1 .1 .1 .0) (c .before .before .before .length2 .ensures .0) (c .before .before .before .before .before .before .before .before .before .before .column2 .kept .1 .1 .1 .1 .0)))
+slice-aggregate-answered-2 c =
+    let l = c .before .before .before in
+    let k = second (third (l .before)) in
+    sym (length-take-le _ _ (front _ (k .column2 .last .1 .1 .1 .1 .0) (l .length2 .ensures .0) (k .column2 .kept .1 .1 .1 .1 .0)))
 
 array-share-prefix-b : tie.Need-array-share-prefix-b
 array-share-prefix-b c = search needs
 
 slice-aggregate-answered-3 : tie.Need-slice-aggregate-answered-3
-slice-aggregate-answered-3 c = sym (length-take-le _ _ (front _ (c .before .before .before .before .before .before .before .column3 .last .1 .1 .1 .1 .0) (c .before .before .before .length3 .ensures .0) (c .before .before .before .before .before .before .before .column3 .kept .1 .1 .1 .1 .0)))
+slice-aggregate-answered-3 c =
+    let l = c .before .before .before in
+    let k = third (l .before .before) in
+    sym (length-take-le _ _ (front _ (k .column3 .last .1 .1 .1 .1 .0) (l .length3 .ensures .0) (k .column3 .kept .1 .1 .1 .1 .0)))
 
 answered-requires : tie.Need-answered-requires
 answered-requires c κs = search needs
 
 returns : tie.Need-returns
-returns c = of-vector _ _ _ _ _ _ _ _ (c .before .before .before .before .before .before .length .ensures .1) (c .before .before .before .before .before .length2 .ensures .1) (c .before .before .before .before .length3 .ensures .1) (c .before .before .before .before .before .before .before .before .before .before .before .before .before .before .before .before .column .ensures) (c .before .before .before .before .before .before .before .before .before .before .before .before .column2 .ensures) (c .before .before .before .before .before .before .before .before .column3 .ensures) (c .answered .ensures)
+returns c =
+    let l = c .before .before .before .before .before .before in
+    let t = third l in
+    let k = second t in
+    of-vector _ _ _ _ _ _ _ _ (l .length .ensures .1) (c .before .before .before .before .before .length2 .ensures .1) (c .before .before .before .before .length3 .ensures .1) (first k .column .ensures) (k .column2 .ensures) (t .column3 .ensures) (c .answered .ensures)
 
 pub compared-spec : {M : Type 1} → statement M
 compared-spec =

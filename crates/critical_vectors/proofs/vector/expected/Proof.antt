@@ -4,6 +4,13 @@ use borrow.Author.Needs.{needs}
 use Rattle.critical_vectors.proofs.vector.expected.Statement.{statement}
 use Rattle.critical_vectors.proofs.vector.expected.Tie as tie
 
+-- the walk's points that the rest speaks of: the start, from the fourth word, and the fourth word, from the eighth
+abbrev start : tie.After-word4 → tie.Start
+start c = c .before .before .before .before .before .before .before .before
+
+abbrev fourth : tie.After-word8 → tie.After-word4
+fourth c = c .before .before .before .before .before .before .before .before
+
 word-requires : tie.Need-word-requires
 word-requires c κs = search needs
 
@@ -38,25 +45,27 @@ word-requires-6 : tie.Need-word-requires-6
 word-requires-6 c κs = search needs
 
 add-word-6 : tie.Need-add-word-6
-add-word-6 c = omega (arith, c .before .before .before .before .before .before .before .before .before .before .before .before .before .pre)
+add-word-6 c = omega (arith, start (c .before .before .before .before .before) .pre)
 
 word-requires-7 : tie.Need-word-requires-7
-word-requires-7 c κs = omega (arith, c .before .before .before .before .before .before .before .before .before .before .before .before .before .pre)
+word-requires-7 c κs = omega (arith, start (c .before .before .before .before .before) .pre)
 
 add-word-7 : tie.Need-add-word-7
-add-word-7 c = omega (arith, c .before .before .before .before .before .before .before .before .before .before .before .before .before .before .before .pre)
+add-word-7 c = omega (arith, start (c .before .before .before .before .before .before .before) .pre)
 
 word-requires-8 : tie.Need-word-requires-8
-word-requires-8 c κs = omega (arith, c .before .before .before .before .before .before .before .before .before .before .before .before .before .before .before .pre)
+word-requires-8 c κs = omega (arith, start (c .before .before .before .before .before .before .before) .pre)
 
 add-word-8 : tie.Need-add-word-8
-add-word-8 c = omega (arith, c .before .before .before .before .before .before .before .before .before .before .before .before .before .before .before .before .before .pre)
+add-word-8 c = omega (arith, start (fourth (c .before)) .pre)
 
 word-requires-9 : tie.Need-word-requires-9
-word-requires-9 c κs = omega (arith, c .before .before .before .before .before .before .before .before .before .before .before .before .before .before .before .before .before .pre)
+word-requires-9 c κs = omega (arith, start (fourth (c .before)) .pre)
 
 returns : tie.Need-returns
-returns c = rw (c .before .before .before .before .before .before .before .before .before .before .before .before .before .before .before .before .word .ensures, c .before .before .before .before .before .before .before .before .before .before .before .before .before .before .word2 .ensures, c .before .before .before .before .before .before .before .before .before .before .before .before .word3 .ensures, c .before .before .before .before .before .before .before .before .before .before .word4 .ensures, c .before .before .before .before .before .before .before .before .word5 .ensures, c .before .before .before .before .before .before .word6 .ensures, c .before .before .before .before .word7 .ensures, c .before .before .word8 .ensures, c .word9 .ensures)
+returns c =
+    let fifth = c .before .before .before .before .before .before .before .before in
+    rw (fifth .before .before .before .before .before .before .before .before .word .ensures, fifth .before .before .before .before .before .before .word2 .ensures, fifth .before .before .before .before .word3 .ensures, fifth .before .before .word4 .ensures, fifth .word5 .ensures, c .before .before .before .before .before .before .word6 .ensures, c .before .before .before .before .word7 .ensures, c .before .before .word8 .ensures, c .word9 .ensures)
 
 pub expected-spec : {M : Type 1} → statement M
 expected-spec =

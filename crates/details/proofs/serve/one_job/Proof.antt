@@ -5,8 +5,12 @@ use borrow.Author.Needs.{needs}
 use Rattle.details.proofs.serve.one_job.Statement.{statement}
 use Rattle.details.proofs.serve.one_job.Tie as tie
 
+-- the start of the walk, from the ninth list that is lent to it
+abbrev start : tie.After-shared-slice-known9 → tie.Start
+start c = c .before .before .before .before .before .before .before .before .before
+
 nth-job-requires : tie.Need-nth-job-requires
-nth-job-requires c κs = let s = c .before .before .before .before .before .before .before .before .before .before .before in (kept (now (s .args .file)) (s .args .l) (s .pre .0 .0) .jobs .inside, s .pre .0 .1)
+nth-job-requires c κs = let s = start (c .before .before) in (kept (now (s .args .file)) (s .args .l) (s .pre .0 .0) .jobs .inside, s .pre .0 .1)
 
 job-lines-requires : tie.Need-job-lines-requires
 job-lines-requires c κs = search needs

@@ -39,7 +39,9 @@ end-requires-6 c κs = search needs
 
 returns : tie.Need-returns
 unfolding placed
-returns c = rw (c .before .before .before .before .before .before .before .before .before .before .end .ensures, c .before .before .before .before .before .before .before .before .end2 .ensures, c .before .before .before .before .before .before .end3 .ensures, c .before .before .before .before .end4 .ensures, c .before .before .end5 .ensures, c .end6 .ensures)
+returns c =
+    let third = c .before .before .before .before .before .before in
+    rw (third .before .before .before .before .end .ensures, third .before .before .end2 .ensures, third .end3 .ensures, c .before .before .before .before .end4 .ensures, c .before .before .end5 .ensures, c .end6 .ensures)
 
 pub placed-spec : {M : Type 1} → statement M
 placed-spec =

@@ -21,12 +21,16 @@ use Rattle.paths.proofs.Outcomes.{rules-of, grid-fits}
 use Rattle.paths.proofs.path.generate_on.Statement.{statement}
 use Rattle.paths.proofs.path.generate_on.Tie as tie
 
+-- the start of the walk, from the pillars' faults and from where the rules are told
+abbrev early : tie.After-pillar-faults → tie.Start
+early c = c .before .before .before .before .before .before .before .before
+
+abbrev entry : tie.After-path-rules → tie.Start
+entry r = early (r .before .before .before)
+
 -- ---- the working list, and what a call that is let through knows of its grid
 abbrev work : List Float
 work = replicate 1024 zero
-
-abbrev entry : tie.After-path-rules → tie.Start
-entry r = r .before .before .before .before .before .before .before .before .before .before .before
 
 rules : (r : tie.After-path-rules) → let a = entry r .args in
     r .path-rules .result ≡ firstOf (pathRules (pillarFaults (now (a .pillars)) (now (a .sigmas))) (curveFaults (now (a .times)) (now (a .factors))) (gridFaults (now (a .grid)) (now (a .draws))) (eqb (length (now (a .pillars))) 0) (startsBelow (now (a .grid))) (ltb (length (now (a .out))) (length (now (a .grid)))) (a .alpha))

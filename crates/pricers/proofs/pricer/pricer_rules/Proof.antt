@@ -42,8 +42,10 @@ and-rule-requires-7 c κs = search needs
 
 returns : tie.Need-returns
 returns c =
-    let finite = rw (c .before .before .before .before .before .before .before .before .before .before .before .before .before .before .before .before .before .before .before .before .before .is-finite .ensures, c .before .before .before .before .before .before .before .before .before .before .before .before .before .before .before .before .before .before .before .before .is-finite2 .ensures, c .before .before .before .before .before .before .before .before .before .before .before .before .before .before .before .before .before .before .before .is-finite3 .ensures, c .before .before .before .before .before .before .before .before .before .before .before .before .before .before .before .before .before .before .is-finite4 .ensures, c .before .before .before .before .before .before .before .before .before .before .before .before .before .before .before .before .before .is-finite5 .ensures) at (c .before .before .before .before .before .before .before .before .before .and-rule2 .ensures) in
-    asked _ _ (ask (c .before .before .before .before .before .before .before .before .before .before .before .before .before .and-rule .ensures) (ask finite (ask (c .before .before .before .before .before .before .before .before .and-rule3 .ensures) (ask (c .before .before .before .before .before .and-rule4 .ensures) (ask (c .before .before .before .before .and-rule5 .ensures) (ask (c .before .and-rule6 .ensures) (ask (c .and-rule7 .ensures) end)))))))
+    let second = c .before .before .before .before .before .before .before .before .before in
+    let numbers = second .before .before .before .before .before .before .before .before in
+    let finite = rw (numbers .before .before .before .before .is-finite .ensures, numbers .before .before .before .is-finite2 .ensures, numbers .before .before .is-finite3 .ensures, numbers .before .is-finite4 .ensures, numbers .is-finite5 .ensures) at (second .and-rule2 .ensures) in
+    asked _ _ (ask (second .before .before .before .before .and-rule .ensures) (ask finite (ask (c .before .before .before .before .before .before .before .before .and-rule3 .ensures) (ask (c .before .before .before .before .before .and-rule4 .ensures) (ask (c .before .before .before .before .and-rule5 .ensures) (ask (c .before .and-rule6 .ensures) (ask (c .and-rule7 .ensures) end)))))))
 
 pub pricer-rules-spec : {M : Type 1} → statement M
 pricer-rules-spec =

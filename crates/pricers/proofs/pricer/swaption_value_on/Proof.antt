@@ -10,11 +10,18 @@ use borrow.Author.Needs.{needs}
 use Rattle.pricers.proofs.pricer.swaption_value_on.Statement.{statement}
 use Rattle.pricers.proofs.pricer.swaption_value_on.Tie as tie
 
+-- the start of the walk, from the pillars' faults and from where the rules are told
+abbrev early : tie.After-pillar-faults → tie.Start
+early c = c .before .before .before .before .before .before .before .before
+
+abbrev start : tie.After-pricer-rules → tie.Start
+start c = early (c .before .before .before .before .before)
+
 -- ---- the rules, on the call's own lists
-rules : (r : tie.After-pricer-rules) → let a = r .before .before .before .before .before .before .before .before .before .before .before .before .before .args in
+rules : (r : tie.After-pricer-rules) → let a = start r .args in
     r .pricer-rules .result ≡ firstOf (rulesOn (a .alpha) (now (a .pillars)) (now (a .sigmas)) (now (a .times)) (now (a .factors)) (now (a .payments)) (now (a .accruals)) (now (a .own-dfs)) (a .strike) (a .t) (a .notional) (a .side))
 rules r =
-    let s = r .before .before .before .before .before .before .before .before .before .before .before .before .before in
+    let s = start r in
     same-rules _ _ (s .args .alpha) (s .args .strike) (s .args .t) (s .args .notional) (s .args .side) (s .pre) (r .before .before .before .before .before .pillar-faults .ensures) (r .before .before .before .before .coupon-faults .ensures) (r .before .before .before .all .ensures) (r .before .before .own-fits .ensures) (r .before .all2 .ensures) (r .pricer-rules .ensures)
 
 -- ---- the needs
@@ -42,8 +49,9 @@ enum-known-answer c = search needs
 
 returns : tie.Need-returns
 returns c =
-    let a = c .before .before .before .before .before .before .before .before .before .before .before .before .before .before .before .before .args in
-    let o = turned-down (a .option) (a .alpha) (now (a .pillars)) (now (a .sigmas)) (now (a .times)) (now (a .factors)) (now (a .payments)) (now (a .accruals)) (now (a .own-dfs)) (a .strike) (a .t) (a .notional) (a .side) (rules (c .before .before .before)) (c .before .answer .given .1) in
+    let r = c .before .before .before in
+    let a = start r .args in
+    let o = turned-down (a .option) (a .alpha) (now (a .pillars)) (now (a .sigmas)) (now (a .times)) (now (a .factors)) (now (a .payments)) (now (a .accruals)) (now (a .own-dfs)) (a .strike) (a .t) (a .notional) (a .side) (rules r) (c .before .answer .given .1) in
     (o, (rooted (a .option) (a .alpha) (now (a .pillars)) (now (a .sigmas)) (now (a .times)) (now (a .factors)) (now (a .payments)) (now (a .accruals)) (now (a .own-dfs)) (a .strike) (a .t) (a .notional) (a .side) o, (refused-so (a .option) (a .alpha) (now (a .pillars)) (now (a .sigmas)) (now (a .times)) (now (a .factors)) (now (a .payments)) (now (a .accruals)) (now (a .own-dfs)) (a .strike) (a .t) (a .notional) (a .side) o, ap (reported noValued) o)))
 
 enum-told : tie.Need-enum-told
@@ -51,13 +59,15 @@ enum-told c = search needs
 
 swaption-priced-requires : tie.Need-swaption-priced-requires
 swaption-priced-requires c κs =
-    let a = c .before .before .before .before .before .before .before .before .before .before .before .before .before .before .before .args in
-    lists-fit (a .option) (a .alpha) (now (a .pillars)) (now (a .sigmas)) (now (a .times)) (now (a .factors)) (now (a .payments)) (now (a .accruals)) (now (a .own-dfs)) (a .strike) (a .t) (a .notional) (a .side) (rules (c .before .before)) (c .enum-told .given .1)
+    let r = c .before .before in
+    let a = start r .args in
+    lists-fit (a .option) (a .alpha) (now (a .pillars)) (now (a .sigmas)) (now (a .times)) (now (a .factors)) (now (a .payments)) (now (a .accruals)) (now (a .own-dfs)) (a .strike) (a .t) (a .notional) (a .side) (rules r) (c .enum-told .given .1)
 
 returns-2 : tie.Need-returns-2
 returns-2 c =
-    let a = c .before .before .before .before .before .before .before .before .before .before .before .before .before .before .before .before .args in
-    let o = c .swaption-priced .ensures ∙ let-through (a .option) (a .alpha) (now (a .pillars)) (now (a .sigmas)) (now (a .times)) (now (a .factors)) (now (a .payments)) (now (a .accruals)) (now (a .own-dfs)) (a .strike) (a .t) (a .notional) (a .side) (rules (c .before .before .before)) (c .before .enum-told .given .1) in
+    let r = c .before .before .before in
+    let a = start r .args in
+    let o = c .swaption-priced .ensures ∙ let-through (a .option) (a .alpha) (now (a .pillars)) (now (a .sigmas)) (now (a .times)) (now (a .factors)) (now (a .payments)) (now (a .accruals)) (now (a .own-dfs)) (a .strike) (a .t) (a .notional) (a .side) (rules r) (c .before .enum-told .given .1) in
     (o, (rooted (a .option) (a .alpha) (now (a .pillars)) (now (a .sigmas)) (now (a .times)) (now (a .factors)) (now (a .payments)) (now (a .accruals)) (now (a .own-dfs)) (a .strike) (a .t) (a .notional) (a .side) o, (refused-so (a .option) (a .alpha) (now (a .pillars)) (now (a .sigmas)) (now (a .times)) (now (a .factors)) (now (a .payments)) (now (a .accruals)) (now (a .own-dfs)) (a .strike) (a .t) (a .notional) (a .side) o, ap (reported noValued) o)))
 
 pub swaption-value-on-spec : {M : Type 1} → statement M

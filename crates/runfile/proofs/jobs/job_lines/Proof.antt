@@ -12,10 +12,14 @@ use Rattle.runfile.proofs.Written.{path-job, option-job, worked-job, op
 use Rattle.runfile.proofs.jobs.job_lines.Statement.{statement}
 use Rattle.runfile.proofs.jobs.job_lines.Tie as tie
 
--- ---- the request as the lists give it, and the jobs of the file
-abbrev entry : tie.After-nth-job → tie.Start
-entry n = n .before .before .before .before .before .before .before .before .before .before .before .before
+-- the start of the walk, from the ninth list that is lent to it and from the job read
+abbrev early : tie.After-shared-slice-known9 → tie.Start
+early c = c .before .before .before .before .before .before .before .before .before
 
+abbrev entry : tie.After-nth-job → tie.Start
+entry n = early (n .before .before .before)
+
+-- ---- the request as the lists give it, and the jobs of the file
 abbrev jobs : tie.Start → List Job
 jobs s = jobsOf (now (s .args .file)) (s .args .l .jobs)
 
@@ -33,7 +37,7 @@ nth s = jobAt (now (s .args .file)) (s .args .l .jobs .offset + 40 * s .args .k)
 -- ---- the needs
 nth-job-requires : tie.Need-nth-job-requires
 nth-job-requires c κs =
-    let s = c .before .before .before .before .before .before .before .before .before .before .before in
+    let s = early (c .before .before) in
     (kept (now (s .args .file)) (s .args .l) (s .pre .0 .0) .jobs .inside, s .pre .0 .1)
 
 path-lines-requires : tie.Need-path-lines-requires

@@ -29,6 +29,10 @@ loop-holds c = (search needs, refl, c .before .before .before .before .before .b
 abbrev entry : tie.At-loop Inv-loop μ-loop → tie.Start Inv-loop μ-loop
 entry l = l .before .before .before .before .before .before .before .before
 
+-- the turn, from the forward that it found
+abbrev here : tie.After-found-forward Inv-loop μ-loop → tie.In-loop Inv-loop μ-loop
+here c = c .before .before .before .before .before .before .before .before
+
 sizes : (l : tie.At-loop Inv-loop μ-loop) → length (l .loop .out) ≡ length (now (entry l .args .grid))
 sizes l = l .loop .inv .1 ∙ ap length (entry l .pre .0) ∙ decays-length (entry l .args .alpha) zero (now (entry l .args .grid))
 
@@ -105,11 +109,11 @@ mul-state-after-2 : tie.Need-mul-state-after-2 Inv-loop μ-loop
 mul-state-after-2 c = search needs
 
 slice-read-state-after : tie.Need-slice-read-state-after Inv-loop μ-loop
-slice-read-state-after c = in-out (c .before .before .before .before .before .before .before .before .before .before .before)
+slice-read-state-after c = in-out (here (c .before .before .before))
 
 state-after-requires : tie.Need-state-after-requires Inv-loop μ-loop
 state-after-requires c κs =
-    let t = c .before .before .before .before .before .before .before .before .before .before .before in
+    let t = here (c .before .before .before) in
     let l = t .before .loop in
     let a = entry (t .before) .args in
     decay-here (a .alpha) (l .s .t) (now (a .grid)) (l .out) (l .i) (t .loop-test .taken) (in-out t) (l .inv .2)
@@ -118,13 +122,13 @@ shift-of-requires : tie.Need-shift-of-requires Inv-loop μ-loop
 shift-of-requires c κs = search needs
 
 mul-out : tie.Need-mul-out Inv-loop μ-loop
-mul-out c = mul-t (c .before .before .before .before .before .before .before .before .before .before .before .before .before .before)
+mul-out c = mul-t (here (c .before .before .before .before .before .before))
 
 slice-write-out : tie.Need-slice-write-out Inv-loop μ-loop
-slice-write-out c = in-out (c .before .before .before .before .before .before .before .before .before .before .before .before .before .before)
+slice-write-out c = in-out (here (c .before .before .before .before .before .before))
 
 add-i : tie.Need-add-i Inv-loop μ-loop
-add-i c = next-fits (c .before .before .before .before .before .before .before .before .before .before .before .before .before .before)
+add-i c = next-fits (here (c .before .before .before .before .before .before))
 
 loop-less : tie.Need-loop-less Inv-loop μ-loop
 loop-less c = search needs
@@ -132,7 +136,7 @@ loop-less c = search needs
 loop-again : tie.Need-loop-again Inv-loop μ-loop
 loop-again c =
     let g = c .before .before .before .before .before .before in
-    let t = g .before .before .before .before .before .before .before .before in
+    let t = here g in
     let l = t .before .loop in
     let a = entry (t .before) .args in
     let v = at _ (g .before .before .before .before .found .given .1) (g .before .before .before .before .before .before .volatility-near .ensures) in
