@@ -27,7 +27,7 @@ fn fit(
     requires { ⌜ (m ≤ length (now times)) × (m ≤ length (now factors)) ⌝ }
     requires { ⌜ (n ≤ length (now normals)) × (n ≤ length (now strikes)) × (n ≤ length (now starts)) × (n ≤ length (now ends)) × (n ≤ length (now vols)) ⌝ }
 {
-    output::write(baskets::fit_basket(
+    output::write(baskets::calibrate_to_instruments(
         alpha,
         &times[..m],
         &factors[..m],

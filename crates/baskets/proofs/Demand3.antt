@@ -15,11 +15,11 @@ use Rattle.lists.specs.Refusals.{Outcome, served, refused, answerNumber, answer
 use Rattle.lists.proofs.Outcomes.{not-both, served-is}
 use Rattle.terms.proofs.Callers.{past-rules, ends-so, ends-otherwise}
 use Rattle.bisection.specs.declared.result.Fit.{Fit}
-use Rattle.entries.specs.Entries.{Entry, entriesOf, rulesOn}
+use Rattle.entries.specs.Entries.{Entry, entriesOf, basketRulesOn}
 use Rattle.baskets.specs.declared.call.Basket.{Basket}
 use Rattle.baskets.specs.declared.call.BasketFit.{BasketFit}
-use Rattle.baskets.specs.Basket.{fitOf, bump, diagonalOf, statusOf, countOf, Records, withFit, fitsOf, Bumps, bumpOf, withBump, bumpsOf, padded, basketFrom, noBasket, basketTold, fittedBasket, basketOf}
-use Rattle.baskets.specs.Demand3.{PlaceHeld, BasketHeld, BasketNeverSo}
+use Rattle.baskets.specs.Basket.{fitOf, bump, diagonalOf, statusOf, countOf, Records, withFit, fitsOf, Bumps, bumpOf, withBump, bumpsOf, padded, basketFrom, noBasket, basketReported, fittedBasket, basketOf}
+use Rattle.baskets.specs.Demand3.{PlaceHolds, BasketHolds, BasketNeverNoBracket}
 use Rattle.baskets.proofs.Held.{fit-held, fit-never-so}
 
 -- ---- a place of the values is that of the array
@@ -131,7 +131,7 @@ module _ (alpha : Float) (xs fs : List Float) where
           bumped-status-is = p .bumped-status-is;
         }))
 
-  place-held : (e : Entry) (n : ℕ) (rs : Records) (bs : Bumps) (i : ℕ) → Place e rs bs i → PlaceHeld alpha xs fs (basketFrom n rs bs) i e
+  place-held : (e : Entry) (n : ℕ) (rs : Records) (bs : Bumps) (i : ℕ) → Place e rs bs i → PlaceHolds alpha xs fs (basketFrom n rs bs) i e
   place-held e n rs bs i p = record {
     first = fit-held alpha xs fs e (e .vol) (p .fit) (p .is);
     sigma-is = padded-at (rs .sigmas) i ∙ p .sigma-is;
@@ -197,7 +197,7 @@ module _ (alpha : Float) (xs fs : List Float) where
       go (served rs) p k = then rs (bumpsOf alpha xs fs es (rs .sigmas)) refl k
       go (refused r) p k = fits-never-so es (p ∙ (let z : r ≡ R.NoBracket = cc in ap refused z))
 
--- ---- of any answer that tells the outcome defined: `BasketHeld` and `BasketNeverSo`
+-- ---- of any answer that tells the outcome defined: `BasketHolds` and `BasketNeverNoBracket`
 served-so : (o : Outcome Basket) → answerOf o ≡ A.Served → o ≡ served (valueOr noBasket o)
 served-so (served b) h = refl
 served-so (refused q) h = let z : _≡_ {A = ℕ} 0 1 = cc in absurd (let y : ⊥ = omega arith in y)
@@ -210,23 +210,23 @@ module _ (alpha : Float) (xs fs : List Float) (ns : List Bool) (ks ts ends vs : 
   abbrev outcome : Outcome Basket
   outcome = basketOf alpha xs fs ns ks ts ends vs
 
-  held-so : BasketHeld alpha xs fs ns ks ts ends vs (basketTold outcome)
+  held-so : BasketHolds alpha xs fs ns ks ts ends vs (basketReported outcome)
   unfolding basketOf
   held-so h before e behind p =
       let b = valueOr noBasket outcome in
-      let r = past-rules (served b) tt (rulesOn alpha xs fs ns ks ts ends vs) (fittedBasket alpha xs fs (entriesOf ns ks ts ends vs)) tt (served-so outcome h) in
+      let r = past-rules (served b) tt (basketRulesOn alpha xs fs ns ks ts ends vs) (fittedBasket alpha xs fs (entriesOf ns ks ts ends vs)) tt (served-so outcome h) in
       let x = both alpha xs fs (before ++ (e ∷ behind)) b (subst (λ (es : List Entry). fittedBasket alpha xs fs es ≡ served b) p (r .1)) in
-      subst (λ (z : Basket). PlaceHeld alpha xs fs z (length before) e) (x .is) (place-held alpha xs fs e (length (before ++ (e ∷ behind))) (x .records) (x .bumps) (length before) (places alpha xs fs e behind before (x .records) (x .bumps) (x .fitted) (x .bumped)))
+      subst (λ (z : Basket). PlaceHolds alpha xs fs z (length before) e) (x .is) (place-held alpha xs fs e (length (before ++ (e ∷ behind))) (x .records) (x .bumps) (length before) (places alpha xs fs e behind before (x .records) (x .bumps) (x .fitted) (x .bumped)))
 
-  never-so : BasketNeverSo (basketTold outcome)
+  never-so : BasketNeverNoBracket (basketReported outcome)
   unfolding basketOf
   never-so h =
-      let r = past-rules (refused R.NoBracket) tt (rulesOn alpha xs fs ns ks ts ends vs) (fittedBasket alpha xs fs (entriesOf ns ks ts ends vs)) tt (refused-so outcome h) in
+      let r = past-rules (refused R.NoBracket) tt (basketRulesOn alpha xs fs ns ks ts ends vs) (fittedBasket alpha xs fs (entriesOf ns ks ts ends vs)) tt (refused-so outcome h) in
       fitted-never-so alpha xs fs (entriesOf ns ks ts ends vs) (r .1)
 
-  module _ {r : BasketFit} (is : r ≡ basketTold outcome) where
-    pub basket-held : BasketHeld alpha xs fs ns ks ts ends vs r
-    basket-held = subst (λ (z : BasketFit). BasketHeld alpha xs fs ns ks ts ends vs z) (sym is) held-so
+  module _ {r : BasketFit} (is : r ≡ basketReported outcome) where
+    pub basket-held : BasketHolds alpha xs fs ns ks ts ends vs r
+    basket-held = subst (λ (z : BasketFit). BasketHolds alpha xs fs ns ks ts ends vs z) (sym is) held-so
 
-    pub basket-never-so : BasketNeverSo r
-    basket-never-so = subst (λ (z : BasketFit). BasketNeverSo z) (sym is) never-so
+    pub basket-never-so : BasketNeverNoBracket r
+    basket-never-so = subst (λ (z : BasketFit). BasketNeverNoBracket z) (sym is) never-so

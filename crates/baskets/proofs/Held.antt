@@ -23,7 +23,7 @@ use Rattle.objectives.proofs.Finished.{finished-served, finished-wanting}
 use Rattle.calibration.specs.Fits.{capletFitted}
 use Rattle.entries.specs.Entries.{Entry}
 use Rattle.baskets.specs.Basket.{fitOf}
-use Rattle.baskets.specs.Demand3.{FitHeld}
+use Rattle.baskets.specs.Demand3.{EntryFitHolds}
 
 module _ (alpha : Float) (xs fs : List Float) (e : Entry) (vol : Float) where
   abbrev pub objective : Float → Float → Float → Outcome Float
@@ -49,7 +49,7 @@ module _ (alpha : Float) (xs fs : List Float) (e : Entry) (vol : Float) where
   pub assured : (fit : Fit) (b : Begun (served fit)) → Assured (objective (b .pt) (b .pS)) fit
   assured fit b = demand3 .assured (objective (b .pt) (b .pS)) fit (finished-served (solveOf (objective (b .pt) (b .pS))) fit (b .goes-on))
 
-  abbrev pub fit-held : (fit : Fit) → fitOf alpha xs fs e vol ≡ served fit → FitHeld alpha xs fs e vol
+  abbrev pub fit-held : (fit : Fit) → fitOf alpha xs fs e vol ≡ served fit → EntryFitHolds alpha xs fs e vol
   fit-held fit h =
       let b = begun (served fit) not-both h in
       record { fit = fit; is = h; pt = b .pt; pS = b .pS; at-start = b .at-start; at-end = b .at-end; assured = assured fit b }

@@ -18,9 +18,9 @@ use Rattle.lists.specs.Checks.{inOrder}
 use Rattle.lists.specs.Faults.{curveFaults}
 use Rattle.lists.proofs.Outcomes.{neither}
 use Rattle.lists.proofs.CurveLaws.{curve-rises}
-use Rattle.entries.specs.Entries.{Entry, entriesOf, sizeWrong, basketRules, rulesOn}
+use Rattle.entries.specs.Entries.{Entry, entriesOf, sizeWrong, basketRules, basketRulesOn}
 use Rattle.baskets.specs.declared.call.BasketFit.{BasketFit}
-use Rattle.baskets.specs.Basket.{Records, fitsOf, Bumps, bumpsOf, padded, basketTold, fittedBasket, basketOf}
+use Rattle.baskets.specs.Basket.{Records, fitsOf, Bumps, bumpsOf, padded, basketReported, fittedBasket, basketOf}
 
 -- ---- lists of one length have an entry a place
 pub counted : (ns : List Bool) (ks ts ends vs : List Float) → length ks ≡ length ns → length ts ≡ length ns → length ends ≡ length ns → length vs ≡ length ns → length (entriesOf ns ks ts ends vs) ≡ length ns
@@ -34,19 +34,19 @@ counted (n ∷ ns) (k ∷ ks) (t ∷ ts) (e ∷ ends) (v ∷ vs) a b c d = ap su
 
 -- ---- the entries' fits, then their bumped fits
 module _ (alpha : Float) (xs fs : List Float) (es : List Entry) (rs : Records) {fits : Answer} (h : fitsOf alpha xs fs es ≡ after fits (served rs)) where
-  pub fits-refused : {q : Refusal} {r : BasketFit} → fits ≡ A.Refused q → r ≡ basketTold (refused q) → r ≡ basketTold (fittedBasket alpha xs fs es)
+  pub fits-refused : {q : Refusal} {r : BasketFit} → fits ≡ A.Refused q → r ≡ basketReported (refused q) → r ≡ basketReported (fittedBasket alpha xs fs es)
   unfolding fittedBasket
   fits-refused e k = rw (h, e) k
 
   module _ (e : fits ≡ A.Served) {ss : List Float} (p : ss ≡ rs .sigmas) (bs : Bumps) {bumps : Answer} (k : bumpsOf alpha xs fs es ss ≡ after bumps (served bs)) where
-    pub bumps-refused : {q : Refusal} {r : BasketFit} → bumps ≡ A.Refused q → r ≡ basketTold (refused q) → r ≡ basketTold (fittedBasket alpha xs fs es)
+    pub bumps-refused : {q : Refusal} {r : BasketFit} → bumps ≡ A.Refused q → r ≡ basketReported (refused q) → r ≡ basketReported (fittedBasket alpha xs fs es)
     unfolding fittedBasket
     bumps-refused z t =
         let w = ap (bumpsOf alpha xs fs es) (sym p) ∙ k in
         rw (h, e, w, z) t
 
     pub basket-served : {n : ℕ} {a b c d f g : List Float} → bumps ≡ A.Served → length es ≡ n → a ≡ padded (rs .sigmas) → b ≡ padded (rs .statuses) → c ≡ padded (rs .halvings) → d ≡ padded (rs .residuals) → f ≡ padded (bs .diagonal) → g ≡ padded (bs .statuses)
-        → _≡_ {A = BasketFit} (record { answer = A.Served; basket = record { count = n; sigmas = a; statuses = b; halvings = c; residuals = d; diagonal = f; «bumped_statuses» = g } }) (basketTold (fittedBasket alpha xs fs es))
+        → _≡_ {A = BasketFit} (record { answer = A.Served; basket = record { count = n; sigmas = a; statuses = b; halvings = c; residuals = d; diagonal = f; «bumped_statuses» = g } }) (basketReported (fittedBasket alpha xs fs es))
     unfolding fittedBasket
     basket-served z m p1 p2 p3 p4 p5 p6 =
         let w = ap (bumpsOf alpha xs fs es) (sym p) ∙ k in
@@ -57,19 +57,19 @@ pub rules-on : {curve curve' : Faults} {size size' numbers numbers' times times'
     → answer ≡ firstOf (basketRules curve alpha size numbers times domain) → answer ≡ firstOf (basketRules curve' alpha size' numbers' times' domain')
 rules-on alpha p q r s t h = rw (← p, ← q, ← r, ← s, ← t) h
 
-module _ (alpha : Float) (xs fs : List Float) (ns : List Bool) (ks ts ends vs : List Float) {answer : Answer} (h : answer ≡ firstOf (rulesOn alpha xs fs ns ks ts ends vs)) where
-  pub turned-down : {q : Refusal} {r : BasketFit} → answer ≡ A.Refused q → r ≡ basketTold (refused q) → r ≡ basketTold (basketOf alpha xs fs ns ks ts ends vs)
+module _ (alpha : Float) (xs fs : List Float) (ns : List Bool) (ks ts ends vs : List Float) {answer : Answer} (h : answer ≡ firstOf (basketRulesOn alpha xs fs ns ks ts ends vs)) where
+  pub turned-down : {q : Refusal} {r : BasketFit} → answer ≡ A.Refused q → r ≡ basketReported (refused q) → r ≡ basketReported (basketOf alpha xs fs ns ks ts ends vs)
   unfolding basketOf
   turned-down e k = rw (← h, e) k
 
-  pub let-through : {r : BasketFit} → answer ≡ A.Served → r ≡ basketTold (fittedBasket alpha xs fs (entriesOf ns ks ts ends vs)) → r ≡ basketTold (basketOf alpha xs fs ns ks ts ends vs)
+  pub let-through : {r : BasketFit} → answer ≡ A.Served → r ≡ basketReported (fittedBasket alpha xs fs (entriesOf ns ks ts ends vs)) → r ≡ basketReported (basketOf alpha xs fs ns ks ts ends vs)
   unfolding basketOf
   let-through e k = rw (← h, e) k
 
   -- by rule 1 the lists are of one length of at most 64; by rule 4 the curve's times strictly rise
   pub lists-fit : answer ≡ A.Served → (length ns ≤ 64) × (length ks ≡ length ns) × (length ts ≡ length ns) × (length ends ≡ length ns) × (length vs ≡ length ns) × (inOrder true xs ≡ true)
   lists-fit e =
-      let none = none-applies (rulesOn alpha xs fs ns ks ts ends vs) .0 (sym h ∙ e) in
+      let none = none-applies (basketRulesOn alpha xs fs ns ks ts ends vs) .0 (sym h ∙ e) in
       let size = neither (curveFaults xs fs .size) (sizeWrong ns ks ts ends vs) (none .0) in
       let s = sizes (size .1) in
       (s .0, s .1, s .2, s .3, s .4, curve-rises xs fs (none .1 .1 .1 .0))

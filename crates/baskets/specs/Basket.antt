@@ -13,7 +13,7 @@ use Rattle.lists.specs.declared.refusals.Refusal.the-variants as R
 use Rattle.lists.specs.Refusals.{Outcome, served, refused, answerOf, valueOr, unless, following}
 use Rattle.bisection.specs.declared.result.Fit.{Fit}
 use Rattle.calibration.specs.Fits.{capletFitted}
-use Rattle.entries.specs.Entries.{Entry, entriesOf, rulesOn}
+use Rattle.entries.specs.Entries.{Entry, entriesOf, basketRulesOn}
 use Rattle.baskets.specs.declared.call.Basket.{Basket}
 use Rattle.baskets.specs.declared.call.BasketFit.{BasketFit}
 
@@ -103,8 +103,8 @@ abbrev pub noBasket : Basket
 noBasket = basketFrom 0 noRecords noBumps
 
 -- what is told of an outcome
-abbrev pub basketTold : Outcome Basket → BasketFit
-basketTold o = record { answer = answerOf o; basket = valueOr noBasket o }
+abbrev pub basketReported : Outcome Basket → BasketFit
+basketReported o = record { answer = answerOf o; basket = valueOr noBasket o }
 
 unfoldable pub fittedBasket : Float → List Float → List Float → List Entry → Outcome Basket
 fittedBasket alpha xs fs es =
@@ -112,4 +112,4 @@ fittedBasket alpha xs fs es =
     following (bumpsOf alpha xs fs es (rs .sigmas)) (λ bs. served (basketFrom (length es) rs bs)))
 
 unfoldable pub basketOf : Float → List Float → List Float → List Bool → List Float → List Float → List Float → List Float → Outcome Basket
-basketOf alpha xs fs ns ks ts ends vs = unless (rulesOn alpha xs fs ns ks ts ends vs) (fittedBasket alpha xs fs (entriesOf ns ks ts ends vs))
+basketOf alpha xs fs ns ks ts ends vs = unless (basketRulesOn alpha xs fs ns ks ts ends vs) (fittedBasket alpha xs fs (entriesOf ns ks ts ends vs))

@@ -20,7 +20,7 @@ use Rattle.baskets.specs.declared.call.BasketFit.{BasketFit}
 use Rattle.baskets.specs.Basket.{fitOf, bump, statusOf, countOf, diagonalOf}
 
 -- an entry's fit at a quoted volatility
-pub record FitHeld (alpha : Float) (xs fs : List Float) (e : Entry) (vol : Float) : Type 0 where
+pub record EntryFitHolds (alpha : Float) (xs fs : List Float) (e : Entry) (vol : Float) : Type 0 where
   pub fit : Fit
   pub is : fitOf alpha xs fs e vol ≡ served fit
   pub pt : Float
@@ -30,21 +30,21 @@ pub record FitHeld (alpha : Float) (xs fs : List Float) (e : Entry) (vol : Float
   pub assured : Assured (capletObjective (e .quote) alpha (e .strike) (e .start) (e .end) vol pt pS) fit
 
 -- place i of a served basket, which is of the entry e
-pub record PlaceHeld (alpha : Float) (xs fs : List Float) (b : Basket) (i : ℕ) (e : Entry) : Type 0 where
-  pub first : FitHeld alpha xs fs e (e .vol)
+pub record PlaceHolds (alpha : Float) (xs fs : List Float) (b : Basket) (i : ℕ) (e : Entry) : Type 0 where
+  pub first : EntryFitHolds alpha xs fs e (e .vol)
   pub sigma-is : getD (b .sigmas) i zero ≡ first .fit .sigma
   pub status-is : getD (b .statuses) i zero ≡ statusOf (first .fit .converged)
   pub halvings-are : getD (b .halvings) i zero ≡ countOf (first .fit .halvings)
   pub residual-is : getD (b .residuals) i zero ≡ first .fit .residual
-  pub bumped : FitHeld alpha xs fs e (e .vol ⊕ bump)
+  pub bumped : EntryFitHolds alpha xs fs e (e .vol ⊕ bump)
   pub diagonal-is : getD (b .diagonal) i zero ≡ diagonalOf (bumped .fit .sigma) (first .fit .sigma)
   pub bumped-status-is : getD (b .«bumped_statuses») i zero ≡ statusOf (bumped .fit .converged)
 
 -- every place of a served basket
-abbrev pub BasketHeld : Float → List Float → List Float → List Bool → List Float → List Float → List Float → List Float → BasketFit → Type 0
-BasketHeld alpha xs fs ns ks ts ends vs r =
-    r .answer ≡ A.Served → (before : List Entry) (e : Entry) (behind : List Entry) → entriesOf ns ks ts ends vs ≡ before ++ (e ∷ behind) → PlaceHeld alpha xs fs (r .basket) (length before) e
+abbrev pub BasketHolds : Float → List Float → List Float → List Bool → List Float → List Float → List Float → List Float → BasketFit → Type 0
+BasketHolds alpha xs fs ns ks ts ends vs r =
+    r .answer ≡ A.Served → (before : List Entry) (e : Entry) (behind : List Entry) → entriesOf ns ks ts ends vs ≡ before ++ (e ∷ behind) → PlaceHolds alpha xs fs (r .basket) (length before) e
 
 -- a basket of caplets has no search, so it is never refused for want of a bracket
-abbrev pub BasketNeverSo : BasketFit → Type 0
-BasketNeverSo r = r .answer ≡ A.Refused R.NoBracket → ⊥
+abbrev pub BasketNeverNoBracket : BasketFit → Type 0
+BasketNeverNoBracket r = r .answer ≡ A.Refused R.NoBracket → ⊥

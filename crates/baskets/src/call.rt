@@ -6,8 +6,8 @@ ghost use lib.ListN.{length};
 ghost use Rattle.lists.specs.Checks.{inOrder};
 ghost use Rattle.lists.specs.Refusals.{answerNumber, reported, refused};
 ghost use Rattle.entries.specs.Entries.{entriesOf};
-ghost use Rattle.baskets.specs.Basket.{noBasket, basketTold, fittedBasket, basketOf};
-ghost use Rattle.baskets.specs.Demand3.{BasketHeld, BasketNeverSo};
+ghost use Rattle.baskets.specs.Basket.{noBasket, basketReported, fittedBasket, basketOf};
+ghost use Rattle.baskets.specs.Demand3.{BasketHolds, BasketNeverNoBracket};
 use super::walk;
 use lists::Answer;
 use lists::Refusal;
@@ -45,7 +45,7 @@ fn no_basket() -> Basket
 }
 
 fn turned_down(refusal: Refusal) -> BasketFit
-    ensures { λ r. ⌜ r ≡ basketTold (refused refusal) ⌝ }
+    ensures { λ r. ⌜ r ≡ basketReported (refused refusal) ⌝ }
 {
     BasketFit {
         answer: Answer::Refused(refusal),
@@ -55,7 +55,7 @@ fn turned_down(refusal: Refusal) -> BasketFit
 
 // Entries are lent as lists of one length: whether the quote is a normal one, strike, start, end, quoted
 // volatility.
-pub fn fit_basket(
+pub fn calibrate_to_instruments(
     alpha: f64,
     times: &[f64],
     factors: &[f64],
@@ -65,9 +65,9 @@ pub fn fit_basket(
     ends: &[f64],
     vols: &[f64],
 ) -> BasketFit
-    ensures answer { λ r. ⌜ r ≡ basketTold (basketOf alpha (now (times .entry)) (now (factors .entry)) (now (normals .entry)) (now (strikes .entry)) (now (starts .entry)) (now (ends .entry)) (now (vols .entry))) ⌝ }
-    ensures held { λ r. ⌜ BasketHeld alpha (now (times .entry)) (now (factors .entry)) (now (normals .entry)) (now (strikes .entry)) (now (starts .entry)) (now (ends .entry)) (now (vols .entry)) r ⌝ }
-    ensures bracket { λ r. ⌜ BasketNeverSo r ⌝ }
+    ensures answer { λ r. ⌜ r ≡ basketReported (basketOf alpha (now (times .entry)) (now (factors .entry)) (now (normals .entry)) (now (strikes .entry)) (now (starts .entry)) (now (ends .entry)) (now (vols .entry))) ⌝ }
+    ensures held { λ r. ⌜ BasketHolds alpha (now (times .entry)) (now (factors .entry)) (now (normals .entry)) (now (strikes .entry)) (now (starts .entry)) (now (ends .entry)) (now (vols .entry)) r ⌝ }
+    ensures bracket { λ r. ⌜ BasketNeverNoBracket r ⌝ }
     ensures number { λ r. ⌜ answerNumber (r .answer) ≡ reported noBasket (basketOf alpha (now (times .entry)) (now (factors .entry)) (now (normals .entry)) (now (strikes .entry)) (now (starts .entry)) (now (ends .entry)) (now (vols .entry))) .answer ⌝ }
 {
     let curve = lists::curve_faults(times, factors);
@@ -98,7 +98,7 @@ fn fitted_basket(
     vols: &[f64],
 ) -> BasketFit
     requires { ⌜ (length (now normals) ≤ 64) × (length (now strikes) ≡ length (now normals)) × (length (now starts) ≡ length (now normals)) × (length (now ends) ≡ length (now normals)) × (length (now vols) ≡ length (now normals)) × (inOrder true (now times) ≡ true) ⌝ }
-    ensures { λ r. ⌜ r ≡ basketTold (fittedBasket alpha (now (times .entry)) (now (factors .entry)) (entriesOf (now (normals .entry)) (now (strikes .entry)) (now (starts .entry)) (now (ends .entry)) (now (vols .entry)))) ⌝ }
+    ensures { λ r. ⌜ r ≡ basketReported (fittedBasket alpha (now (times .entry)) (now (factors .entry)) (entriesOf (now (normals .entry)) (now (strikes .entry)) (now (starts .entry)) (now (ends .entry)) (now (vols .entry)))) ⌝ }
 {
     let n = normals.len();
     let mut sigmas = [0.0; 64];

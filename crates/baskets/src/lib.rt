@@ -4,4 +4,4 @@ mod walk;
 
 pub use call::Basket;
 pub use call::BasketFit;
-pub use call::fit_basket;
+pub use call::calibrate_to_instruments;

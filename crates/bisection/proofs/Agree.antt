@@ -6,7 +6,7 @@ use lib.Ieee.{Float}
 use Rattle.lists.specs.Refusals.{Outcome, following}
 use Rattle.bisection.specs.declared.halving.Ends.{Ends}
 use Rattle.bisection.specs.declared.result.Fit.{Fit}
-use Rattle.bisection.specs.Solve.{lowest, highest, residualAt, movedTo, halvingsFrom, endsOf, solveOf}
+use Rattle.bisection.specs.Solve.{lowest, highest, residualAt, endsMovedTo, halvingsFrom, endsOf, solveOf}
 use Rattle.bisection.specs.Tried.{triedFrom, triedOf}
 use Rattle.bisection.proofs.Steps.{mid, Met, stopped, close, away, met, last-stopped, last-served, halving-stopped, halving-close, halving-away, tried-last, tried-stopped, tried-close, tried-away, Begun, low-stopped, high-stopped, alike, apart, begun, solve-low, solve-high, solve-alike, solve-apart, tried-low, tried-high, tried-alike, tried-apart}
 
@@ -54,7 +54,7 @@ module _ (f g : Float → Outcome Float) where
           (halving-close f made e left p q ∙ sym (halving-close g made e left p' q), tried-close f e left p q ∙ sym (tried-close g e left p' q))
       go ih (away v p q) =
           let p' = residual-same (mid e) (head (tried-away f e left p q) a) p in
-          let s = ih (movedTo e (mid e) v) (tail (tried-away f e left p q) a) in (
+          let s = ih (endsMovedTo e (mid e) v) (tail (tried-away f e left p q) a) in (
             halving-away f made e left p q ∙ s .0 ∙ sym (halving-away g made e left p' q),
             tried-away f e left p q ∙ ap (λ (xs : List Float). mid e ∷ xs) (s .1) ∙ sym (tried-away g e left p' q),
           )

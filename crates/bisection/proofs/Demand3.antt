@@ -17,9 +17,9 @@ use Rattle.search.specs.Halving.{Halvings, none, one-more, raised, lowered}
 use Rattle.search.proofs.HalvingLaw.{halving-law}
 use Rattle.bisection.specs.declared.halving.Ends.{Ends}
 use Rattle.bisection.specs.declared.result.Fit.{Fit}
-use Rattle.bisection.specs.Solve.{lowest, highest, sameSign, closeEnough, residualAt, movedTo, halvingsFrom, endsOf, solveOf}
+use Rattle.bisection.specs.Solve.{lowest, highest, sameSign, closeEnough, residualAt, endsMovedTo, halvingsFrom, endsOf, solveOf}
 use Rattle.bisection.specs.Tried.{triedFrom, triedOf}
-use Rattle.bisection.specs.Demand3.{Converged, Unconverged, entryOf, Served, Assured, TriedUnbracketed, Demand3}
+use Rattle.bisection.specs.Demand3.{Converged, Unconverged, entryOf, Served, Assured, TriedUnbracketed, FitDemand3}
 use Rattle.bisection.proofs.Agree.{same}
 use Rattle.bisection.proofs.Signs.{differ-turn, differ-from}
 use Rattle.bisection.proofs.Steps.{mid, Number, residual-served, residual-unbracketed, unbracketed-residual, sign-is-no-want, found, unfound, Met, stopped, close, away, met, last-stopped, last-served, halving-stopped, halving-close, halving-away, tried-last, tried-stopped, tried-close, tried-away, Begun, low-stopped, high-stopped, alike, apart, begun, solve-low, solve-high, solve-alike, solve-apart, tried-low, tried-high, tried-alike, tried-apart}
@@ -41,8 +41,8 @@ module _ (f : Float → Outcome Float) where
     at-high : Number (f (e .high)) (e .«high_residual»)
     signs : T (not (sameSign (e .«low_residual») (e .«high_residual»)))
 
-  moved : (made : ℕ) (e : Ends) (v : Float) → Kept made e → Number (f (mid e)) v → Kept (suc made) (movedTo e (mid e) v)
-  unfolding movedTo
+  moved : (made : ℕ) (e : Ends) (v : Float) → Kept made e → Number (f (mid e)) v → Kept (suc made) (endsMovedTo e (mid e) v)
+  unfolding endsMovedTo
   moved made e v k n = go (sameSign v (e .«low_residual»)) refl
     where
       go : (t : Bool) → sameSign v (e .«low_residual») ≡ t
@@ -103,7 +103,7 @@ module _ (f : Float → Outcome Float) where
       go : ((e : Ends) (fit : Fit) → left + suc made ≡ 200 → Kept (suc made) e → halvingsFrom f left (suc made) e ≡ served fit → Ended fit) → Met f e → Ended fit
       go ih (stopped r p) = absurd (not-both (sym (halving-stopped f made e left p) ∙ h))
       go ih (close v p q) = subst Ended (served-is (sym (halving-close f made e left p q) ∙ h)) (ended-found made e v (room l) k (residual-served f (mid e) p) q)
-      go ih (away v p q) = ih (movedTo e (mid e) v) fit (less l) (moved made e v k (residual-served f (mid e) p)) (sym (halving-away f made e left p q) ∙ h)
+      go ih (away v p q) = ih (endsMovedTo e (mid e) v) fit (less l) (moved made e v k (residual-served f (mid e) p)) (sym (halving-away f made e left p q) ∙ h)
 
   -- ---- every sigma tried by a fit that is served was served
   served-at : {s sigma v : Float} → s ≡ sigma → residualAt f sigma ≡ served v → Served f s
@@ -129,9 +129,9 @@ module _ (f : Float → Outcome Float) where
       go ih (close v p q) = served-at (List·Memᴰ·eq-of-singleton (member (tried-close f e left p q) m)) p
       go ih (away v p q) = one (List·Memᴰ·cases-cons (member (tried-away f e left p q) m))
         where
-          one : (s ≡ mid e) ⊎ List·Memᴰ s (triedFrom f left (movedTo e (mid e) v)) → Served f s
+          one : (s ≡ mid e) ⊎ List·Memᴰ s (triedFrom f left (endsMovedTo e (mid e) v)) → Served f s
           one (inl z) = served-at z p
-          one (inr t) = ih (movedTo e (mid e) v) fit (sym (halving-away f made e left p q) ∙ h) s t
+          one (inr t) = ih (endsMovedTo e (mid e) v) fit (sym (halving-away f made e left p q) ∙ h) s t
 
   -- ---- the sigma returned was tried
   last-tried : (left made : ℕ) (e : Ends) (fit : Fit) → halvingsFrom f left made e ≡ served fit → List·Memᴰ (fit .sigma) (triedFrom f left e)
@@ -149,7 +149,7 @@ module _ (f : Float → Outcome Float) where
       go : ((e : Ends) (fit : Fit) → halvingsFrom f left (suc made) e ≡ served fit → List·Memᴰ (fit .sigma) (triedFrom f left e)) → Met f e → List·Memᴰ (fit .sigma) (triedFrom f (suc left) e)
       go ih (stopped r p) = absurd (not-both (sym (halving-stopped f made e left p) ∙ h))
       go ih (close v p q) = member (sym (tried-close f e left p q)) (List·Memᴰ·head (ap (λ (x : Fit). x .sigma) (served-is (sym h ∙ halving-close f made e left p q))))
-      go ih (away v p q) = member (sym (tried-away f e left p q)) (List·Memᴰ·tail (ih (movedTo e (mid e) v) fit (sym (halving-away f made e left p q) ∙ h)))
+      go ih (away v p q) = member (sym (tried-away f e left p q)) (List·Memᴰ·tail (ih (endsMovedTo e (mid e) v) fit (sym (halving-away f made e left p q) ∙ h)))
 
   -- ---- and it is the last entry of the sigmas tried from the ends e, `made` halvings having been made
   record Placed (made : ℕ) (xs : List Float) (fit : Fit) : Type 0 where
@@ -195,7 +195,7 @@ module _ (f : Float → Outcome Float) where
       go : ((e : Ends) (fit : Fit) → left + suc made ≡ 200 → halvingsFrom f left (suc made) e ≡ served fit → Placed (suc made) (triedFrom f left e) fit) → Met f e → Placed made (triedFrom f (suc left) e) fit
       go ih (stopped r p) = absurd (not-both (sym (halving-stopped f made e left p) ∙ h))
       go ih (close v p q) = subst (λ (x : Fit). Placed made (triedFrom f (suc left) e) x) (served-is (sym (halving-close f made e left p q) ∙ h)) (placed-only made e (tried-close f e left p q) refl (entry-found made e v))
-      go ih (away v p q) = placed-later made (tried-away f e left p q) (ih (movedTo e (mid e) v) fit (less l) (sym (halving-away f made e left p q) ∙ h))
+      go ih (away v p q) = placed-later made (tried-away f e left p q) (ih (endsMovedTo e (mid e) v) fit (less l) (sym (halving-away f made e left p q) ∙ h))
 
   -- ---- refused for want of a bracket: so was the last sigma tried
   record Wanting (xs : List Float) : Type 0 where
@@ -224,7 +224,7 @@ module _ (f : Float → Outcome Float) where
       go : ((e : Ends) → halvingsFrom f left (suc made) e ≡ refused R.NoBracket → Wanting (triedFrom f left e)) → Met f e → Wanting (triedFrom f (suc left) e)
       go ih (stopped r p) = wanting-here (tried-stopped f e left p) p (halving-stopped f made e left p) h
       go ih (close v p q) = served-not (sym (halving-close f made e left p q) ∙ h)
-      go ih (away v p q) = later (tried-away f e left p q) (ih (movedTo e (mid e) v) (sym (halving-away f made e left p q) ∙ h))
+      go ih (away v p q) = later (tried-away f e left p q) (ih (endsMovedTo e (mid e) v) (sym (halving-away f made e left p q) ∙ h))
 
   -- ---- and a sigma refused for want of a bracket is the last one tried, and the call's refusal
   want-at : {s sigma : Float} → s ≡ sigma → f s ≡ refused R.NoBracket → residualAt f sigma ≡ refused R.NoBracket
@@ -242,9 +242,9 @@ module _ (f : Float → Outcome Float) where
       go ih (close v p q) = no-want (List·Memᴰ·eq-of-singleton (member (tried-close f e left p q) m)) h p
       go ih (away v p q) = one (List·Memᴰ·cases-cons (member (tried-away f e left p q) m))
         where
-          one : (s ≡ mid e) ⊎ List·Memᴰ s (triedFrom f left (movedTo e (mid e) v)) → halvingsFrom f (suc left) made e ≡ refused R.NoBracket
+          one : (s ≡ mid e) ⊎ List·Memᴰ s (triedFrom f left (endsMovedTo e (mid e) v)) → halvingsFrom f (suc left) made e ≡ refused R.NoBracket
           one (inl z) = no-want z h p
-          one (inr t) = halving-away f made e left p q ∙ ih (movedTo e (mid e) v) s t h
+          one (inr t) = halving-away f made e left p q ∙ ih (endsMovedTo e (mid e) v) s t h
 
   -- ---- the whole fit
   started : (a b : Float) → residualAt f lowest ≡ served a → residualAt f highest ≡ served b → sameSign a b ≡ false → Kept 0 (endsOf a b)
@@ -331,5 +331,5 @@ module _ (f : Float → Outcome Float) where
   no-bracket : (solveOf f ≡ refused R.NoBracket) ↔ TriedUnbracketed f
   no-bracket = (λ h. let w = solve-wanting h in record { sigma = w .sigma; tried = w .tried; there = w .there }, λ t. solve-wanted (t .sigma) (t .tried) (t .there))
 
-pub demand3 : Demand3
+pub demand3 : FitDemand3
 demand3 = record { assured = λ f fit h. assured f fit h; no-bracket = λ f. no-bracket f; same = λ f g h. same f g h }

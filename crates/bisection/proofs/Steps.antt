@@ -13,7 +13,7 @@ use Rattle.lists.specs.Refusals.{Outcome, served, refused, following}
 use Rattle.lists.proofs.Outcomes.{not-both, served-is}
 use Rattle.bisection.specs.declared.halving.Ends.{Ends}
 use Rattle.bisection.specs.declared.result.Fit.{Fit}
-use Rattle.bisection.specs.Solve.{lowest, highest, sameSign, closeEnough, residualAt, movedTo, unconvergedAt, halvingsFrom, endsOf, solveOf}
+use Rattle.bisection.specs.Solve.{lowest, highest, sameSign, closeEnough, residualAt, endsMovedTo, unconvergedAt, halvingsFrom, endsOf, solveOf}
 use Rattle.bisection.specs.Tried.{onward, triedFrom, triedOf}
 
 abbrev pub mid : Ends → Float
@@ -105,7 +105,7 @@ module _ (f : Float → Outcome Float) (made : ℕ) (e : Ends) where
   -- one more
   module _ (left : ℕ) where
     abbrev further : Float → Outcome Fit
-    further v = cond (closeEnough v) (served (found made e v)) (halvingsFrom f left (suc made) (movedTo e (mid e) v))
+    further v = cond (closeEnough v) (served (found made e v)) (halvingsFrom f left (suc made) (endsMovedTo e (mid e) v))
 
     pub halving-stopped : {r : Refusal} → residualAt f (mid e) ≡ refused r → halvingsFrom f (suc left) made e ≡ refused r
     unfolding halvingsFrom
@@ -115,13 +115,13 @@ module _ (f : Float → Outcome Float) (made : ℕ) (e : Ends) where
     unfolding halvingsFrom
     halving-close {v} p q =
         ap (λ (o : Outcome Float). following o further) p
-        ∙ ap (λ (t : Bool). cond t (served (found made e v)) (halvingsFrom f left (suc made) (movedTo e (mid e) v))) q
+        ∙ ap (λ (t : Bool). cond t (served (found made e v)) (halvingsFrom f left (suc made) (endsMovedTo e (mid e) v))) q
 
-    pub halving-away : {v : Float} → residualAt f (mid e) ≡ served v → closeEnough v ≡ false → halvingsFrom f (suc left) made e ≡ halvingsFrom f left (suc made) (movedTo e (mid e) v)
+    pub halving-away : {v : Float} → residualAt f (mid e) ≡ served v → closeEnough v ≡ false → halvingsFrom f (suc left) made e ≡ halvingsFrom f left (suc made) (endsMovedTo e (mid e) v)
     unfolding halvingsFrom
     halving-away {v} p q =
         ap (λ (o : Outcome Float). following o further) p
-        ∙ ap (λ (t : Bool). cond t (served (found made e v)) (halvingsFrom f left (suc made) (movedTo e (mid e) v))) q
+        ∙ ap (λ (t : Bool). cond t (served (found made e v)) (halvingsFrom f left (suc made) (endsMovedTo e (mid e) v))) q
 
 -- ---- what it tries
 module _ (f : Float → Outcome Float) (e : Ends) where
@@ -131,7 +131,7 @@ module _ (f : Float → Outcome Float) (e : Ends) where
 
   module _ (left : ℕ) where
     abbrev rest : Float → List Float
-    rest v = cond (closeEnough v) [] (triedFrom f left (movedTo e (mid e) v))
+    rest v = cond (closeEnough v) [] (triedFrom f left (endsMovedTo e (mid e) v))
 
     pub tried-stopped : {r : Refusal} → residualAt f (mid e) ≡ refused r → triedFrom f (suc left) e ≡ mid e ∷ []
     unfolding triedFrom
@@ -139,11 +139,11 @@ module _ (f : Float → Outcome Float) (e : Ends) where
 
     pub tried-close : {v : Float} → residualAt f (mid e) ≡ served v → closeEnough v ≡ true → triedFrom f (suc left) e ≡ mid e ∷ []
     unfolding triedFrom
-    tried-close {v} p q = ap (λ (o : Outcome Float). mid e ∷ onward o rest) p ∙ ap (λ (t : Bool). mid e ∷ cond t [] (triedFrom f left (movedTo e (mid e) v))) q
+    tried-close {v} p q = ap (λ (o : Outcome Float). mid e ∷ onward o rest) p ∙ ap (λ (t : Bool). mid e ∷ cond t [] (triedFrom f left (endsMovedTo e (mid e) v))) q
 
-    pub tried-away : {v : Float} → residualAt f (mid e) ≡ served v → closeEnough v ≡ false → triedFrom f (suc left) e ≡ mid e ∷ triedFrom f left (movedTo e (mid e) v)
+    pub tried-away : {v : Float} → residualAt f (mid e) ≡ served v → closeEnough v ≡ false → triedFrom f (suc left) e ≡ mid e ∷ triedFrom f left (endsMovedTo e (mid e) v)
     unfolding triedFrom
-    tried-away {v} p q = ap (λ (o : Outcome Float). mid e ∷ onward o rest) p ∙ ap (λ (t : Bool). mid e ∷ cond t [] (triedFrom f left (movedTo e (mid e) v))) q
+    tried-away {v} p q = ap (λ (o : Outcome Float). mid e ∷ onward o rest) p ∙ ap (λ (t : Bool). mid e ∷ cond t [] (triedFrom f left (endsMovedTo e (mid e) v))) q
 
 -- ---- the two first sigmas
 module _ (f : Float → Outcome Float) where
@@ -208,6 +208,6 @@ module _ (f : Float → Outcome Float) where
 
 -- a halving that leaves everything as it was is followed by none that does not: code that stops there answers as all 200 would
 pub stays : (f : Float → Outcome Float) (left made : ℕ) (e : Ends) (v : Float) → residualAt f (midpointOf (e .low) (e .high)) ≡ served v → closeEnough v ≡ false
-    → movedTo e (midpointOf (e .low) (e .high)) v ≡ e → halvingsFrom f left made e ≡ unconvergedAt f e
+    → endsMovedTo e (midpointOf (e .low) (e .high)) v ≡ e → halvingsFrom f left made e ≡ unconvergedAt f e
 stays f zero made e v p q r = unfold halvingsFrom in refl
 stays f (suc left) made e v p q r = halving-away f made e left p q ∙ ap (λ (x : Ends). halvingsFrom f left (suc made) x) r ∙ stays f left (suc made) e v p q r

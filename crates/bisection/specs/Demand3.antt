@@ -69,7 +69,7 @@ pub record TriedUnbracketed (f : Float → Outcome Float) : Type 0 where
   pub there : f sigma ≡ refused R.NoBracket
 
 -- every fit, whatever its objective
-pub record Demand3 : Type 1 where
+pub record FitDemand3 : Type 1 where
   pub assured : (f : Float → Outcome Float) (fit : Fit) → solveOf f ≡ served fit → Assured f fit
   pub no-bracket : (f : Float → Outcome Float) → (solveOf f ≡ refused R.NoBracket) ↔ TriedUnbracketed f
   -- a fit rests on the sigmas that it tries and on nothing else: an objective that agrees there has the same fit, and tries the same sigmas

@@ -32,8 +32,8 @@ unfoldable pub residualAt : (Float → Outcome Float) → Float → Outcome Floa
 residualAt f sigma = following (f sigma) (λ v. cond (isNan v) (refused R.NanReached) (served v))
 
 -- the midpoint sigma and its residual are put for the lower end where the signs are the same there, else for the upper one
-unfoldable pub movedTo : Ends → Float → Float → Ends
-movedTo e sigma residual =
+unfoldable pub endsMovedTo : Ends → Float → Float → Ends
+endsMovedTo e sigma residual =
     cond (sameSign residual (e .«low_residual»)) (record { low = sigma; high = e .high; «low_residual» = residual; «high_residual» = e .«high_residual» })
     (record { low = e .low; high = sigma; «low_residual» = e .«low_residual»; «high_residual» = residual })
 
@@ -46,7 +46,7 @@ unfoldable pub halvingsFrom : (Float → Outcome Float) → ℕ → ℕ → Ends
 halvingsFrom f zero made e = unconvergedAt f e
 halvingsFrom f (suc left) made e =
     let sigma = midpointOf (e .low) (e .high) in
-    following (residualAt f sigma) (λ v. cond (closeEnough v) (served (record { sigma = sigma; converged = true; halvings = suc made; residual = v; ends = e })) (halvingsFrom f left (suc made) (movedTo e sigma v)))
+    following (residualAt f sigma) (λ v. cond (closeEnough v) (served (record { sigma = sigma; converged = true; halvings = suc made; residual = v; ends = e })) (halvingsFrom f left (suc made) (endsMovedTo e sigma v)))
 
 abbrev pub endsOf : Float → Float → Ends
 endsOf a b = record { low = lowest; high = highest; «low_residual» = a; «high_residual» = b }

@@ -6,7 +6,7 @@ use lib.Ieee.{Float}
 use Rattle.elementary.specs.Simple.{midpointOf}
 use Rattle.lists.specs.Refusals.{Outcome, served, refused}
 use Rattle.bisection.specs.declared.halving.Ends.{Ends}
-use Rattle.bisection.specs.Solve.{lowest, highest, sameSign, closeEnough, residualAt, movedTo, endsOf}
+use Rattle.bisection.specs.Solve.{lowest, highest, sameSign, closeEnough, residualAt, endsMovedTo, endsOf}
 
 -- what is tried after a residual; nothing after a refusal
 abbrev pub onward : Outcome Float → (Float → List Float) → List Float
@@ -17,7 +17,7 @@ unfoldable pub triedFrom : (Float → Outcome Float) → ℕ → Ends → List F
 triedFrom f zero e = midpointOf (e .low) (e .high) ∷ []
 triedFrom f (suc left) e =
     let sigma = midpointOf (e .low) (e .high) in
-    sigma ∷ onward (residualAt f sigma) (λ v. cond (closeEnough v) [] (triedFrom f left (movedTo e sigma v)))
+    sigma ∷ onward (residualAt f sigma) (λ v. cond (closeEnough v) [] (triedFrom f left (endsMovedTo e sigma v)))
 
 unfoldable pub triedOf : (Float → Outcome Float) → List Float
 triedOf f =

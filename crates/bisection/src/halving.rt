@@ -2,7 +2,7 @@
 // whether anything can still move.
 ghost use mathlib.Core.Path.{_≡_};
 ghost use mathlib.Core.Bool.{true};
-ghost use Rattle.bisection.specs.Solve.{sameSign, closeEnough, movedTo};
+ghost use Rattle.bisection.specs.Solve.{sameSign, closeEnough, endsMovedTo};
 use elementary::same;
 
 // The last two ends with their residuals.
@@ -29,7 +29,7 @@ pub fn is_close(residual: f64) -> bool
 
 // The midpoint is put for the end whose residual has its sign.
 pub fn moved(ends: Ends, sigma: f64, residual: f64) -> Ends
-    ensures { λ r. ⌜ r ≡ movedTo ends sigma residual ⌝ }
+    ensures { λ r. ⌜ r ≡ endsMovedTo ends sigma residual ⌝ }
 {
     if same_sign(residual, ends.low_residual) {
         Ends {

@@ -20,7 +20,7 @@ use Rattle.objectives.specs.Objective.{capletObjective, swaptionObjective}
 use Rattle.objectives.proofs.Searches.{value-there, root-there, want-there, unbracketed-there, bracket-wanted}
 use Rattle.objectives.proofs.Finished.{finished-served, finished-wanting}
 use Rattle.calibration.specs.Fits.{capletRules, swaptionRulesOn, capletFitted, capletFitOutcome, swaptionFitted, swaptionFitOutcome}
-use Rattle.calibration.specs.Demand3.{CapletAssured, FitBegun, RootAt, SwaptionAssured, WantsBracket}
+use Rattle.calibration.specs.Demand3.{CapletFitAssured, FitBegun, RootAt, SwaptionFitAssured, FitWantsBracket}
 
 -- ---- caplets
 module _ (quote : Quote) (alpha : Float) (ts fs : List Float) (strike t S vol : Float) where
@@ -47,9 +47,9 @@ module _ (quote : Quote) (alpha : Float) (ts fs : List Float) (strike t S vol : 
   unfolding capletObjective
   never pt pS sigma e = not-both (sym e)
 
-  -- of any answer whose outcome is the one defined: `CapletHeld` and `CapletNeverSo`
+  -- of any answer whose outcome is the one defined: `CapletFitHolds` and `CapletFitNeverNoBracket`
   module _ {o : Outcome Fit} (is : o ≡ capletFitOutcome quote alpha ts fs strike t S vol) where
-    pub caplet-held : (fit : Fit) → o ≡ served fit → CapletAssured quote alpha ts fs strike t S vol fit
+    pub caplet-held : (fit : Fit) → o ≡ served fit → CapletFitAssured quote alpha ts fs strike t S vol fit
     caplet-held fit e =
         let b = caplet-begun (served fit) tt (sym is ∙ e) in
         let f = capletObjective quote alpha strike t S vol (b .pt) (b .pS) in
@@ -92,9 +92,9 @@ module _ (quote : Quote) (alpha : Float) (ts fs payments accruals : List Float) 
       let r = value-there quote alpha payments accruals strike t vol (b .pt) (b .pPlus) (b .ps) sigma e in
       record { valued = r .0; price = r .1; located = root-there quote alpha payments accruals strike t vol (b .pt) (b .pPlus) (b .ps) sigma (r .0) (r .1) }
 
-  -- of any answer whose outcome is the one defined: `SwaptionHeld` and `RefusedSo`
+  -- of any answer whose outcome is the one defined: `SwaptionFitHolds` and `SwaptionFitNoBracketExactly`
   module _ {o : Outcome Fit} (is : o ≡ swaptionFitOutcome quote alpha ts fs payments accruals strike t vol) where
-    pub swaption-held : (fit : Fit) → o ≡ served fit → SwaptionAssured quote alpha ts fs payments accruals strike t vol fit
+    pub swaption-held : (fit : Fit) → o ≡ served fit → SwaptionFitAssured quote alpha ts fs payments accruals strike t vol fit
     swaption-held fit e =
         let s = fits (served fit) tt (sym is ∙ e) in
         let b = s .begun in
@@ -102,10 +102,10 @@ module _ (quote : Quote) (alpha : Float) (ts fs payments accruals : List Float) 
         let a = demand3 .assured f fit (finished-served (solveOf f) fit (s .goes-on)) in
         record { begun = b; assured = a; every-search = λ sigma m. let x = a .every sigma m in root-at b sigma (x .residual) (x .there) }
 
-    pub swaption-refused-so : (o ≡ refused R.NoBracket) ↔ WantsBracket quote alpha ts fs payments accruals strike t vol
+    pub swaption-refused-so : (o ≡ refused R.NoBracket) ↔ FitWantsBracket quote alpha ts fs payments accruals strike t vol
     swaption-refused-so = (there, back)
       where
-        there : o ≡ refused R.NoBracket → WantsBracket quote alpha ts fs payments accruals strike t vol
+        there : o ≡ refused R.NoBracket → FitWantsBracket quote alpha ts fs payments accruals strike t vol
         there e =
             let s = fits (refused R.NoBracket) tt (sym is ∙ e) in
             let b = s .begun in
@@ -118,7 +118,7 @@ module _ (quote : Quote) (alpha : Float) (ts fs payments accruals : List Float) 
               unbracketed = unbracketed-there quote alpha payments accruals strike t vol (b .pt) (b .pPlus) (b .ps) (w .sigma) (want-there quote alpha payments accruals strike t vol (b .pt) (b .pPlus) (b .ps) (w .sigma) (w .there));
             }
 
-        back : WantsBracket quote alpha ts fs payments accruals strike t vol → o ≡ refused R.NoBracket
+        back : FitWantsBracket quote alpha ts fs payments accruals strike t vol → o ≡ refused R.NoBracket
         back w =
             let b = w .begun in
             let f = objectiveOn (b .pt) (b .pPlus) (b .ps) in

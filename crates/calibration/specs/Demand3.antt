@@ -11,8 +11,8 @@ use Rattle.lists.specs.Faults.{curveFaults}
 use Rattle.search.specs.Reached.{Unbracketed}
 use Rattle.search.specs.Facts.{Located}
 use Rattle.terms.specs.Begun.{Begun}
-use Rattle.jamshidian.specs.Price.{Valued, priceAt}
-use Rattle.jamshidian.specs.PricedSum.{sumOf}
+use Rattle.jamshidian.specs.Price.{ModelValued, priceAt}
+use Rattle.jamshidian.specs.PricedSum.{modelSumOf}
 use Rattle.bisection.specs.declared.result.Fit.{Fit}
 use Rattle.bisection.specs.declared.result.Fitted.{Fitted}
 use Rattle.bisection.specs.Result.{fittedOutcome}
@@ -24,7 +24,7 @@ use Rattle.calibration.specs.Fits.{capletRules, swaptionRulesOn}
 
 -- ---- caplets
 module _ (quote : Quote) (alpha : Float) (ts fs : List Float) (strike t S vol : Float) where
-  pub record CapletAssured (fit : Fit) : Type 0 where
+  pub record CapletFitAssured (fit : Fit) : Type 0 where
     pub passed : firstOf (capletRules (curveFaults ts fs) quote alpha strike t S vol) ≡ A.Served
     pub pt : Float
     pub pS : Float
@@ -32,12 +32,12 @@ module _ (quote : Quote) (alpha : Float) (ts fs : List Float) (strike t S vol : 
     pub at-end : factorAt ts fs S ≡ just pS
     pub assured : Assured (capletObjective quote alpha strike t S vol pt pS) fit
 
-  abbrev pub CapletHeld : Fitted → Type 0
-  CapletHeld r = (fit : Fit) → fittedOutcome r ≡ served fit → CapletAssured fit
+  abbrev pub CapletFitHolds : Fitted → Type 0
+  CapletFitHolds r = (fit : Fit) → fittedOutcome r ≡ served fit → CapletFitAssured fit
 
   -- a caplet's fit has no search, so it is never refused for want of a bracket
-  abbrev pub CapletNeverSo : Fitted → Type 0
-  CapletNeverSo r = fittedOutcome r ≡ refused R.NoBracket → ⊥
+  abbrev pub CapletFitNeverNoBracket : Fitted → Type 0
+  CapletFitNeverNoBracket r = fittedOutcome r ≡ refused R.NoBracket → ⊥
 
 -- ---- swaptions
 module _ (quote : Quote) (alpha : Float) (ts fs payments accruals : List Float) (strike t vol : Float) where
@@ -49,30 +49,30 @@ module _ (quote : Quote) (alpha : Float) (ts fs payments accruals : List Float) 
   begunObjective b = swaptionObjective quote alpha payments accruals strike t vol (b .pt) (b .pPlus) (b .ps)
 
   -- the priced coupon sum at a sigma, as a function of the rate
-  abbrev pub begunSum : FitBegun → Float → Float → Float
-  begunSum b sigma = sumOf alpha t payments accruals strike sigma (b .pt) (b .pPlus) (b .ps)
+  abbrev pub begunSumAt : FitBegun → Float → Float → Float
+  begunSumAt b sigma = modelSumOf alpha t payments accruals strike sigma (b .pt) (b .pPlus) (b .ps)
 
   -- the search at a sigma: the price there rests on a root that is located
   pub record RootAt (b : FitBegun) (sigma : Float) : Type 0 where
-    pub valued : Valued
+    pub valued : ModelValued
     pub price : priceAt alpha payments accruals strike t (b .pt) (b .pPlus) (b .ps) sigma ≡ served valued
-    pub located : Located (begunSum b sigma) (valued .root)
+    pub located : Located (begunSumAt b sigma) (valued .root)
 
-  pub record SwaptionAssured (fit : Fit) : Type 0 where
+  pub record SwaptionFitAssured (fit : Fit) : Type 0 where
     pub begun : FitBegun
     pub assured : Assured (begunObjective begun) fit
     -- "In every search, at every sigma a fit tries"
     pub every-search : (sigma : Float) → List·Memᴰ sigma (triedOf (begunObjective begun)) → RootAt begun sigma
 
-  abbrev pub SwaptionHeld : Fitted → Type 0
-  SwaptionHeld r = (fit : Fit) → fittedOutcome r ≡ served fit → SwaptionAssured fit
+  abbrev pub SwaptionFitHolds : Fitted → Type 0
+  SwaptionFitHolds r = (fit : Fit) → fittedOutcome r ≡ served fit → SwaptionFitAssured fit
 
   -- refused for want of a bracket exactly when a search that the fit tries is: "no call is refused so on any other ground"
-  pub record WantsBracket : Type 0 where
+  pub record FitWantsBracket : Type 0 where
     pub begun : FitBegun
     pub sigma : Float
     pub tried : List·Memᴰ sigma (triedOf (begunObjective begun))
-    pub unbracketed : Unbracketed (begunSum begun sigma)
+    pub unbracketed : Unbracketed (begunSumAt begun sigma)
 
-  abbrev pub RefusedSo : Fitted → Type 0
-  RefusedSo r = (fittedOutcome r ≡ refused R.NoBracket) ↔ WantsBracket
+  abbrev pub SwaptionFitNoBracketExactly : Fitted → Type 0
+  SwaptionFitNoBracketExactly r = (fittedOutcome r ≡ refused R.NoBracket) ↔ FitWantsBracket

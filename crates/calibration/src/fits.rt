@@ -10,7 +10,7 @@ ghost use Rattle.bisection.specs.Result.{fittedOutcome, noFit, finishingFit};
 ghost use Rattle.bisection.specs.Solve.{solveOf};
 ghost use Rattle.objectives.specs.Objective.{capletObjective, objectiveOn};
 ghost use Rattle.calibration.specs.Fits.{strikeWrong, capletRules, swaptionRules, capletFitted, capletFitOutcome, swaptionFitted, swaptionFitOutcome};
-ghost use Rattle.calibration.specs.Demand3.{CapletHeld, CapletNeverSo, SwaptionHeld, RefusedSo};
+ghost use Rattle.calibration.specs.Demand3.{CapletFitHolds, CapletFitNeverNoBracket, SwaptionFitHolds, SwaptionFitNoBracketExactly};
 use bisection::Fitted;
 use lists::Answer;
 use lists::Faults;
@@ -33,8 +33,8 @@ pub fn fit_caplet(
     vol: f64,
 ) -> Fitted
     ensures answer { λ r. ⌜ fittedOutcome r ≡ capletFitOutcome quote alpha (now (times .entry)) (now (factors .entry)) strike t end vol ⌝ }
-    ensures held { λ r. ⌜ CapletHeld quote alpha (now (times .entry)) (now (factors .entry)) strike t end vol r ⌝ }
-    ensures bracket { λ r. ⌜ CapletNeverSo quote alpha (now (times .entry)) (now (factors .entry)) strike t end vol r ⌝ }
+    ensures held { λ r. ⌜ CapletFitHolds quote alpha (now (times .entry)) (now (factors .entry)) strike t end vol r ⌝ }
+    ensures bracket { λ r. ⌜ CapletFitNeverNoBracket quote alpha (now (times .entry)) (now (factors .entry)) strike t end vol r ⌝ }
     ensures report { λ r. ⌜ reported noFit (fittedOutcome r) ≡ reported noFit (capletFitOutcome quote alpha (now (times .entry)) (now (factors .entry)) strike t end vol) ⌝ }
 {
     let curve = lists::curve_faults(times, factors);
@@ -56,8 +56,8 @@ pub fn fit_caplet_on(
 ) -> Fitted
     requires { ⌜ curve ≡ curveFaults (now times) (now factors) ⌝ }
     ensures answer { λ r. ⌜ fittedOutcome r ≡ capletFitOutcome quote alpha (now (times .entry)) (now (factors .entry)) strike t end vol ⌝ }
-    ensures held { λ r. ⌜ CapletHeld quote alpha (now (times .entry)) (now (factors .entry)) strike t end vol r ⌝ }
-    ensures bracket { λ r. ⌜ CapletNeverSo quote alpha (now (times .entry)) (now (factors .entry)) strike t end vol r ⌝ }
+    ensures held { λ r. ⌜ CapletFitHolds quote alpha (now (times .entry)) (now (factors .entry)) strike t end vol r ⌝ }
+    ensures bracket { λ r. ⌜ CapletFitNeverNoBracket quote alpha (now (times .entry)) (now (factors .entry)) strike t end vol r ⌝ }
     ensures report { λ r. ⌜ reported noFit (fittedOutcome r) ≡ reported noFit (capletFitOutcome quote alpha (now (times .entry)) (now (factors .entry)) strike t end vol) ⌝ }
 {
     let answer = caplet_rules(curve, quote, alpha, strike, t, end, vol);
@@ -141,7 +141,7 @@ fn caplet_worked(
 {
     let caplet = Instrument::Caplet {
         b: formulas::b_of(alpha, t, end),
-        deviation: formulas::deviation_of(alpha, t),
+        deviation: formulas::state_deviation_of(alpha, t),
         bond_strike: 1.0 / formulas::growth_of(end - t, strike),
         strike,
         t,
@@ -149,7 +149,7 @@ fn caplet_worked(
         p_t,
         p_end,
     };
-    let price = objectives::caplet_market(quote, strike, t, end, vol, p_t, p_end);
+    let price = objectives::caplet_market_price(quote, strike, t, end, vol, p_t, p_end);
     let none = [0.0; 1];
     let empty = &none[..0];
     let fitted = solver::solve(caplet, price, empty, empty, empty, empty);
@@ -169,8 +169,8 @@ pub fn fit_swaption(
     vol: f64,
 ) -> Fitted
     ensures answer { λ r. ⌜ fittedOutcome r ≡ swaptionFitOutcome quote alpha (now (times .entry)) (now (factors .entry)) (now (payments .entry)) (now (accruals .entry)) strike t vol ⌝ }
-    ensures held { λ r. ⌜ SwaptionHeld quote alpha (now (times .entry)) (now (factors .entry)) (now (payments .entry)) (now (accruals .entry)) strike t vol r ⌝ }
-    ensures bracket { λ r. ⌜ RefusedSo quote alpha (now (times .entry)) (now (factors .entry)) (now (payments .entry)) (now (accruals .entry)) strike t vol r ⌝ }
+    ensures held { λ r. ⌜ SwaptionFitHolds quote alpha (now (times .entry)) (now (factors .entry)) (now (payments .entry)) (now (accruals .entry)) strike t vol r ⌝ }
+    ensures bracket { λ r. ⌜ SwaptionFitNoBracketExactly quote alpha (now (times .entry)) (now (factors .entry)) (now (payments .entry)) (now (accruals .entry)) strike t vol r ⌝ }
     ensures report { λ r. ⌜ reported noFit (fittedOutcome r) ≡ reported noFit (swaptionFitOutcome quote alpha (now (times .entry)) (now (factors .entry)) (now (payments .entry)) (now (accruals .entry)) strike t vol) ⌝ }
 {
     let curve = lists::curve_faults(times, factors);
@@ -204,8 +204,8 @@ pub fn fit_swaption_on(
 ) -> Fitted
     requires { ⌜ curve ≡ curveFaults (now times) (now factors) ⌝ }
     ensures answer { λ r. ⌜ fittedOutcome r ≡ swaptionFitOutcome quote alpha (now (times .entry)) (now (factors .entry)) (now (payments .entry)) (now (accruals .entry)) strike t vol ⌝ }
-    ensures held { λ r. ⌜ SwaptionHeld quote alpha (now (times .entry)) (now (factors .entry)) (now (payments .entry)) (now (accruals .entry)) strike t vol r ⌝ }
-    ensures bracket { λ r. ⌜ RefusedSo quote alpha (now (times .entry)) (now (factors .entry)) (now (payments .entry)) (now (accruals .entry)) strike t vol r ⌝ }
+    ensures held { λ r. ⌜ SwaptionFitHolds quote alpha (now (times .entry)) (now (factors .entry)) (now (payments .entry)) (now (accruals .entry)) strike t vol r ⌝ }
+    ensures bracket { λ r. ⌜ SwaptionFitNoBracketExactly quote alpha (now (times .entry)) (now (factors .entry)) (now (payments .entry)) (now (accruals .entry)) strike t vol r ⌝ }
     ensures report { λ r. ⌜ reported noFit (fittedOutcome r) ≡ reported noFit (swaptionFitOutcome quote alpha (now (times .entry)) (now (factors .entry)) (now (payments .entry)) (now (accruals .entry)) strike t vol) ⌝ }
 {
     let coupons = lists::coupon_faults(payments, accruals);
@@ -295,7 +295,15 @@ fn swaption_fitted(
         Terms::Refused(refusal) => Fitted::Refused(refusal),
         Terms::Served { p_t, forward } => {
             let fetched = &p[..n];
-            let price = objectives::swaption_market(quote, strike, t, vol, accruals, p_t, fetched);
+            let price = objectives::swaption_market_price(
+                quote,
+                strike,
+                t,
+                vol,
+                accruals,
+                p_t,
+                fetched,
+            );
             terms_fitted(alpha, t, price, p_t, forward, &c[..n], &b[..n], fetched)
         }
     }
@@ -317,14 +325,14 @@ fn terms_fitted(
     ensures { λ r. ⌜ fittedOutcome r ≡ following (solveOf (objectiveOn alpha t (record { pt = «p_t»; forward = forward; coefficients = now (c .entry); bs = now (b .entry); factors = now (p .entry) }) price)) finishingFit ⌝ }
 {
     let n = c.len();
-    let mut drift = [0.0; 64];
-    terms::drifts(forward, p_t, b, p, &mut drift[..n]);
+    let mut curve_part = [0.0; 64];
+    terms::curve_parts(forward, p_t, b, p, &mut curve_part[..n]);
     let swaption = Instrument::Swaption {
         alpha,
-        decay: formulas::decay_of(alpha, t),
-        deviation: formulas::deviation_of(alpha, t),
+        share: formulas::stationary_share_of(alpha, t),
+        deviation: formulas::state_deviation_of(alpha, t),
         p_t,
     };
-    let fitted = solver::solve(swaption, price, c, b, &drift[..n], p);
+    let fitted = solver::solve(swaption, price, c, b, &curve_part[..n], p);
     bisection::finished(fitted)
 }

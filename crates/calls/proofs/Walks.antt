@@ -12,7 +12,7 @@ use lib.Seq.{append-snoc, drop-cons, drop-drop, drop-length, take-all, take-suc-
 use lib.Ieee.{Float, nan}
 use Rattle.layout.specs.Bytes.{eightBytes, floatOf}
 use Rattle.calls.specs.Match.{untouched, expectedFirst, sameOf, holdsOf}
-use Rattle.calls.specs.Store.{numbersOf, partOf}
+use Rattle.calls.specs.Store.{storedNumbersOf, partOf}
 
 -- ---- the part of a store that a list names
 module _ (store : List Float) (list : ℕ) where
@@ -26,16 +26,16 @@ module _ (store : List Float) (list : ℕ) where
 
 -- ---- the numbers loaded, and behind them those from place i on
 module _ (s : List ℕ) (out : List Float) (n i : ℕ) (same : length out ≡ n) where
-  pub load-turn : (v : Float) → i < n → v ≡ floatOf (eightBytes s (8 * i)) → take i out ++ numbersOf (n - i) (8 * i) s ≡ take (i + 1) (set out i v) ++ numbersOf (n - (i + 1)) (8 * (i + 1)) s
-  unfolding numbersOf
+  pub load-turn : (v : Float) → i < n → v ≡ floatOf (eightBytes s (8 * i)) → take i out ++ storedNumbersOf (n - i) (8 * i) s ≡ take (i + 1) (set out i v) ++ storedNumbersOf (n - (i + 1)) (8 * (i + 1)) s
+  unfolding storedNumbersOf
   load-turn v h q =
       let e : n - i ≡ suc (n - (i + 1)) = omega arith in
       let k : i < length out = omega arith in
       let z : 8 * (i + 1) ≡ 8 * i + 8 = omega arith in
       rw (e, z, ← q, add-one, take-suc-set, append-snoc)
 
-  pub load-end : n ≤ i → take i out ++ numbersOf (n - i) (8 * i) s ≡ out
-  unfolding numbersOf
+  pub load-end : n ≤ i → take i out ++ storedNumbersOf (n - i) (8 * i) s ≡ out
+  unfolding storedNumbersOf
   load-end h =
       let e : n - i ≡ 0 = omega arith in
       let k : length out ≤ i = omega arith in

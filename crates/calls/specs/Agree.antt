@@ -6,8 +6,8 @@ use lib.Dec.{ltb, eqb}
 use lib.ListN.{length, take, drop, replicate}
 use lib.Ieee.{Float}
 use Rattle.lists.specs.declared.refusals.Answer.{Answer}
-use Rattle.lists.specs.Refusals.{Outcome, served, refused, numberOf, answerNumber, answerOf, valueOr, toldOutcome}
-use Rattle.quotes.specs.Utils.{Two}
+use Rattle.lists.specs.Refusals.{Outcome, served, refused, numberOf, answerNumber, answerOf, valueOr, reportedPrice}
+use Rattle.quotes.specs.Utils.{D1D2Values}
 use Rattle.transitions.specs.Written.{storedOf}
 use Rattle.calls.specs.declared.record.Record.{Record}
 use Rattle.calls.specs.Match.{matchesOf, untouched, holdsOf}
@@ -16,10 +16,10 @@ use Rattle.calls.specs.Calls.{d1d2Call, reachedCall, transitionCall, gen
 
 -- one value, +0 where the call is refused
 abbrev pub tellsOf : Outcome Float → Record → Bool
-tellsOf o r = eqb (toldOutcome o .answer) (r .answer) && matchesOf (toldOutcome o .value) (r .first)
+tellsOf o r = eqb (reportedPrice o .answer) (r .answer) && matchesOf (reportedPrice o .value) (r .first)
 
 -- two values
-abbrev pub tellsBothOf : Outcome Two → Record → Bool
+abbrev pub tellsBothOf : Outcome D1D2Values → Record → Bool
 tellsBothOf (served two) r = eqb (r .answer) 0 && matchesOf (two .first) (r .first) && matchesOf (two .second) (r .second)
 tellsBothOf (refused q) r = eqb (numberOf q) (r .answer) && eqb (r .first) 0 && eqb (r .second) 0
 

@@ -7,8 +7,8 @@ use lib.Ieee.{Float}
 use Rattle.lists.specs.Refusals.{Outcome}
 use Rattle.options.specs.declared.options.BondOption.the-variants.{Put, Call}
 use Rattle.options.specs.Options.{bondOptionOutcome, optionletOutcome}
-use Rattle.models.specs.Curves.{bOutcome, volatilityOutcome, shortRateVarianceOutcome, aOutcome, zcbOutcome, thetaOutcome, forwardOutcome}
-use Rattle.quotes.specs.Utils.{Two, d1d2Outcome, blackCallOutcome, blackPutOutcome, bachelierCallOutcome, annuityOutcome}
+use Rattle.models.specs.Curves.{bOutcome, zcbPriceVolatilityOutcome, shortRateVarianceOutcome, aOutcome, zcbOutcome, thetaOutcome, forwardOutcome}
+use Rattle.quotes.specs.Utils.{D1D2Values, d1d2Outcome, blackCallOutcome, blackPutOutcome, bachelierCallOutcome, annuityOutcome}
 use Rattle.schedules.specs.Parameters as Schedules
 use Rattle.transitions.specs.Transition.{transitionOutcome}
 use Rattle.paths.specs.Generate.{generateOutcome}
@@ -22,7 +22,7 @@ module _ (r : Record) where
   bCall = bOutcome (floatOf (r .a)) (floatOf (r .b)) (floatOf (r .c))
 
   abbrev pub zcbVolatilityCall : Outcome Float
-  zcbVolatilityCall = volatilityOutcome (floatOf (r .a)) (floatOf (r .b)) (floatOf (r .c)) (floatOf (r .d))
+  zcbVolatilityCall = zcbPriceVolatilityOutcome (floatOf (r .a)) (floatOf (r .b)) (floatOf (r .c)) (floatOf (r .d))
 
   abbrev pub shortRateVarianceCall : Outcome Float
   shortRateVarianceCall = shortRateVarianceOutcome (floatOf (r .a)) (floatOf (r .b)) (floatOf (r .c)) (floatOf (r .d))
@@ -36,7 +36,7 @@ module _ (r : Record) where
   abbrev pub bachelierCallCall : Outcome Float
   bachelierCallCall = bachelierCallOutcome (floatOf (r .a)) (floatOf (r .b)) (floatOf (r .c)) (floatOf (r .d))
 
-  abbrev pub d1d2Call : Outcome Two
+  abbrev pub d1d2Call : Outcome D1D2Values
   d1d2Call = d1d2Outcome (floatOf (r .a)) (floatOf (r .b)) (floatOf (r .c)) (floatOf (r .d))
 
 module _ (r : Record) (store : List Float) where
@@ -70,7 +70,7 @@ module _ (r : Record) (store : List Float) where
 
   -- ---- on pillars
   abbrev pub varianceCall : Outcome Float
-  varianceCall = Schedules.varianceOutcome (floatOf (r .a)) (partOf store (r .pillars)) (partOf store (r .sigmas)) (floatOf (r .b)) (floatOf (r .c))
+  varianceCall = Schedules.piecewiseVarianceOutcome (floatOf (r .a)) (partOf store (r .pillars)) (partOf store (r .sigmas)) (floatOf (r .b)) (floatOf (r .c))
 
   abbrev pub volatilityCall : Outcome Float
   volatilityCall = Schedules.volatilityOutcome (partOf store (r .pillars)) (partOf store (r .sigmas)) (floatOf (r .a))

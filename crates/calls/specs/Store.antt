@@ -8,9 +8,9 @@ use lib.Ieee.{Float}
 use Rattle.layout.specs.Bytes.{eightBytes, floatOf}
 
 -- the n numbers whose bits stand in s from place i on
-unfoldable pub numbersOf : ℕ → ℕ → List ℕ → List Float
-numbersOf zero i s = []
-numbersOf (suc n) i s = floatOf (eightBytes s i) ∷ numbersOf n (i + 8) s
+unfoldable pub storedNumbersOf : ℕ → ℕ → List ℕ → List Float
+storedNumbersOf zero i s = []
+storedNumbersOf (suc n) i s = floatOf (eightBytes s i) ∷ storedNumbersOf n (i + 8) s
 
 -- the store has the list
 abbrev pub hasOf : List Float → ℕ → Bool

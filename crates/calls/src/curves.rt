@@ -45,10 +45,10 @@ pub fn theta(r: Record, s: &[f64]) -> Price
     )
 }
 
-pub fn forward_rate(r: Record, s: &[f64]) -> Price
+pub fn forward_rate_from_curve(r: Record, s: &[f64]) -> Price
     ensures { λ p. ⌜ outcomeOf p ≡ forwardCall r (now (s .entry)) ⌝ }
 {
-    models::forward_rate(
+    models::forward_rate_from_curve(
         store::part(s, r.times),
         store::part(s, r.factors),
         layout::float_of(r.a),
@@ -111,10 +111,10 @@ pub fn floorlet_price(r: Record, s: &[f64]) -> Price
     )
 }
 
-pub fn annuity(r: Record, s: &[f64]) -> Price
+pub fn swap_annuity_from_curve(r: Record, s: &[f64]) -> Price
     ensures { λ p. ⌜ outcomeOf p ≡ annuityCall r (now (s .entry)) ⌝ }
 {
-    quotes::annuity(
+    quotes::swap_annuity_from_curve(
         store::part(s, r.times),
         store::part(s, r.factors),
         store::part(s, r.grid),

@@ -2,7 +2,7 @@
 ghost use mathlib.Core.Path.{_≡_};
 ghost use Prim.Native.Nat.{_≤_};
 ghost use Rattle.lists.specs.Refusals.{outcomeOf};
-ghost use Rattle.quotes.specs.Utils.{pairOutcome};
+ghost use Rattle.quotes.specs.Utils.{d1d2AnswerOf};
 ghost use Rattle.calls.specs.Calls.{onNumbersOf, onListsOf};
 ghost use Rattle.calls.specs.Agree.{tellsOf, tellsBothOf, malformedOf, othersOf, agreesOf};
 use crate::curves;
@@ -13,7 +13,7 @@ use crate::record::Record;
 use crate::store;
 use crate::value;
 use lists::Price;
-use quotes::Pair;
+use quotes::D1D2;
 
 // Whether the function that the record names gives what the record expects. A malformed record never
 // agrees.
@@ -66,13 +66,13 @@ fn on_lists(function: u64, r: Record, s: &[f64]) -> Price
         7 => curves::a(r, s),
         8 => curves::zcb_price(r, s),
         9 => curves::theta(r, s),
-        10 => curves::forward_rate(r, s),
+        10 => curves::forward_rate_from_curve(r, s),
         11 => curves::bond_put_price(r, s),
         12 => curves::bond_call_price(r, s),
         13 => curves::caplet_price(r, s),
         14 => curves::floorlet_price(r, s),
-        15 => curves::annuity(r, s),
-        16 => pillars::piecewise_variance(r, s),
+        15 => curves::swap_annuity_from_curve(r, s),
+        16 => pillars::hull_white_piecewise_variance(r, s),
         _ => pillars::volatility(r, s),
     }
 }
@@ -95,18 +95,18 @@ fn others(function: u64, r: Record, s: &[f64]) -> bool
 fn tells(price: Price, r: Record) -> bool
     ensures { λ ok. ⌜ ok ≡ tellsOf (outcomeOf price) r ⌝ }
 {
-    let reply = lists::told(price);
-    (reply.answer == r.answer) & value::matches(reply.value, r.first)
+    let report = lists::report_price(price);
+    (report.answer == r.answer) & value::matches(report.value, r.first)
 }
 
-fn tells_both(pair: Pair, r: Record) -> bool
-    ensures { λ ok. ⌜ ok ≡ tellsBothOf (pairOutcome pair) r ⌝ }
+fn tells_both(pair: D1D2, r: Record) -> bool
+    ensures { λ ok. ⌜ ok ≡ tellsBothOf (d1d2AnswerOf pair) r ⌝ }
 {
     match pair {
-        Pair::Served(x, y) => {
+        D1D2::Served(x, y) => {
             (r.answer == 0) & value::matches(x, r.first) & value::matches(y, r.second)
         }
-        Pair::Refused(refusal) => {
+        D1D2::Refused(refusal) => {
             (lists::number(refusal) == r.answer) & (r.first == 0) & (r.second == 0)
         }
     }

@@ -31,7 +31,7 @@ fn write_middle(function: u64) {
     match function {
         8 => io::write_all(1, b"zcb_price"),
         9 => io::write_all(1, b"theta"),
-        10 => io::write_all(1, b"forward_rate"),
+        10 => io::write_all(1, b"forward_rate_from_curve"),
         11 => io::write_all(1, b"bond_put_price"),
         12 => io::write_all(1, b"bond_call_price"),
         13 => io::write_all(1, b"caplet_price"),
@@ -43,8 +43,8 @@ fn write_middle(function: u64) {
 // Those from 15 on.
 fn write_late(function: u64) {
     match function {
-        15 => io::write_all(1, b"annuity"),
-        16 => io::write_all(1, b"piecewise_variance"),
+        15 => io::write_all(1, b"swap_annuity_from_curve"),
+        16 => io::write_all(1, b"hull_white_piecewise_variance"),
         17 => io::write_all(1, b"volatility"),
         18 => io::write_all(1, b"d1_d2"),
         19 => io::write_all(1, b"pillars_reached"),

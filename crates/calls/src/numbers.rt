@@ -1,11 +1,11 @@
 // The calls on plain numbers alone.
 ghost use mathlib.Core.Path.{_≡_};
 ghost use Rattle.lists.specs.Refusals.{outcomeOf};
-ghost use Rattle.quotes.specs.Utils.{pairOutcome};
+ghost use Rattle.quotes.specs.Utils.{d1d2AnswerOf};
 ghost use Rattle.calls.specs.Calls.{bCall, zcbVolatilityCall, shortRateVarianceCall, blackCallCall, blackPutCall, bachelierCallCall, d1d2Call};
 use crate::record::Record;
 use lists::Price;
-use quotes::Pair;
+use quotes::D1D2;
 
 pub fn b(r: Record) -> Price
     ensures { λ p. ⌜ outcomeOf p ≡ bCall r ⌝ }
@@ -72,8 +72,8 @@ pub fn bachelier_call(r: Record) -> Price
     )
 }
 
-pub fn d1_d2(r: Record) -> Pair
-    ensures { λ p. ⌜ pairOutcome p ≡ d1d2Call r ⌝ }
+pub fn d1_d2(r: Record) -> D1D2
+    ensures { λ p. ⌜ d1d2AnswerOf p ≡ d1d2Call r ⌝ }
 {
     quotes::d1_d2(
         layout::float_of(r.a),

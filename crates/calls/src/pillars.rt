@@ -11,10 +11,10 @@ use crate::store;
 use lists::Answer;
 use lists::Price;
 
-pub fn piecewise_variance(r: Record, s: &[f64]) -> Price
+pub fn hull_white_piecewise_variance(r: Record, s: &[f64]) -> Price
     ensures { λ p. ⌜ outcomeOf p ≡ varianceCall r (now (s .entry)) ⌝ }
 {
-    schedules::piecewise_variance(
+    schedules::hull_white_piecewise_variance(
         layout::float_of(r.a),
         store::part(s, r.pillars),
         store::part(s, r.sigmas),

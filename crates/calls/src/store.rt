@@ -2,7 +2,7 @@
 ghost use mathlib.Core.Path.{_≡_};
 ghost use Prim.Native.Nat.{_*_, _≤_};
 ghost use lib.ListN.{length};
-ghost use Rattle.calls.specs.Store.{numbersOf, hasOf, partOf};
+ghost use Rattle.calls.specs.Store.{storedNumbersOf, hasOf, partOf};
 
 // Whether the store has the list.
 pub fn has(store: &[f64], list: u64) -> bool
@@ -31,7 +31,7 @@ pub fn part(store: &[f64], list: u64) -> &[f64]
 // each of its places.
 pub fn load(s: &[u8], store: &mut [f64])
     requires { ⌜ 8 * length (now store) ≤ length (now s) ⌝ }
-    ensures { λ _. ⌜ now (store .exit) ≡ numbersOf (length (now (store .entry))) 0 (now (s .entry)) ⌝ }
+    ensures { λ _. ⌜ now (store .exit) ≡ storedNumbersOf (length (now (store .entry))) 0 (now (s .entry)) ⌝ }
 {
     let mut i = 0;
     while i < store.len() {

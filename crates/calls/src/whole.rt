@@ -13,8 +13,8 @@ pub fn write() {
 }
 
 fn write_price(price: Price) {
-    let reply = lists::told(price);
-    io::print_decimal(1, reply.answer);
+    let report = lists::report_price(price);
+    io::print_decimal(1, report.answer);
     io::write_all(1, b" ");
-    io::print_hex(1, fields::bits_of(reply.value), 16);
+    io::print_hex(1, fields::bits_of(report.value), 16);
 }

@@ -23,14 +23,14 @@ use Rattle.lists.specs.Refusals.{Outcome, served, refused, following, firstOf, 
 use Rattle.lists.specs.Checks.{allOf, inOrder, inOrderFrom}
 use Rattle.lookups.specs.Lookups.{factorAt}
 use Rattle.formulas.specs.HullWhite.{h, bOf, forwardOf}
-use Rattle.schedules.specs.Variance.{varianceOf, piecesOf, pieceOf, weightOf}
+use Rattle.schedules.specs.Variance.{piecewiseVarianceOf, variancePiecesOf, variancePieceOf, weightOf}
 use Rattle.terms.specs.Terms.{coefficientsOf, bsOf, factorsAt}
 use Rattle.coupons.specs.Sum.{couponsOnto, couponSum}
-use Rattle.search.specs.Rate.{rungOf, orRung, ladderOf, movedTo, halveOf, thenHalve, halvingsOf, finish, joined, criticalOf}
+use Rattle.search.specs.Rate.{rungOf, orRung, ladderOf, bracketMovedTo, halveOf, thenHalve, halvingsOf, finish, fromLadders, criticalOf}
 use Rattle.search.specs.Values.{Values, criticalOutcome}
 use Rattle.critical.specs.Find.{findOutcome, found}
 use Rattle.closedform.specs.declared.bond_option.SwaptionType.the-variants as Swaption
-use Rattle.closedform.specs.Affine.{deviationOf, affineOf, affinesOf}
+use Rattle.closedform.specs.Affine.{pricerDeviationOf, affineAOf, affineAListOf}
 use Rattle.closedform.specs.Newton.{bondAt, sumsAfter, sumsFrom, sumsOf, stepped}
 use Rattle.valuations.specs.Value.{pricedBy, swaptionPriced}
 use Rattle.pricers.specs.Pricer.{pricerOutcome}
@@ -115,7 +115,7 @@ all [] = true
 all (c ∷ cs) = right c && all cs
 
 pub table-holds : T (all table)
-unfolding expOf nearestWhole seriesOf lnOf places significandOf exponentOf oddSeriesOf fusedOf sqrtOf normBy upperOf findOutcome firstOf allOf criticalOf joined finish halvingsOf thenHalve halveOf movedTo ladderOf orRung rungOf couponSum couponsOnto stepped sumsOf sumsFrom sumsAfter bondAt decimal add sub mul div neg lt le eq isNan ofInt ofBits size
+unfolding expOf nearestWhole seriesOf lnOf places significandOf exponentOf oddSeriesOf fusedOf sqrtOf normBy upperOf findOutcome firstOf allOf criticalOf fromLadders finish halvingsOf thenHalve halveOf bracketMovedTo ladderOf orRung rungOf couponSum couponsOnto stepped sumsOf sumsFrom sumsAfter bondAt decimal add sub mul div neg lt le eq isNan ofInt ofBits size
 table-holds = tt
 
 abbrev pub Holds : Case → Type 0
@@ -190,19 +190,19 @@ abbrev times : List Float
 times = one ∷ (one ⊕ h) ∷ two ∷ []
 
 abbrev variance : Float
-variance = varianceOf tiny (one ∷ []) (one ∷ []) zero one
+variance = piecewiseVarianceOf tiny (one ∷ []) (one ∷ []) zero one
 
 -- its term is the one above
-pub payer-term : (coefficientsOf zero (zero ∷ []) ≡ one ∷ []) × (affinesOf variance (forwardOf one one) one (zero ∷ []) (one ∷ []) ≡ one ∷ []) × (bsOf tiny one (two ∷ []) ≡ zero ∷ [])
-unfolding expOf nearestWhole seriesOf lnOf places significandOf exponentOf oddSeriesOf fusedOf coefficientsOf bsOf bOf h forwardOf varianceOf piecesOf pieceOf weightOf affinesOf affineOf decimal add sub mul div neg lt le eq isNan ofInt ofBits size
+pub payer-term : (coefficientsOf zero (zero ∷ []) ≡ one ∷ []) × (affineAListOf variance (forwardOf one one) one (zero ∷ []) (one ∷ []) ≡ one ∷ []) × (bsOf tiny one (two ∷ []) ≡ zero ∷ [])
+unfolding expOf nearestWhole seriesOf lnOf places significandOf exponentOf oddSeriesOf fusedOf coefficientsOf bsOf bOf h forwardOf piecewiseVarianceOf variancePiecesOf variancePieceOf weightOf affineAListOf affineAOf decimal add sub mul div neg lt le eq isNan ofInt ofBits size
 payer-term = (refl, refl, refl)
 
 -- the rules let it through, and the curve has its times
 payer-priced : pricerOutcome Swaption.Payer tiny (one ∷ []) (one ∷ []) times (one ∷ one ∷ one ∷ []) (two ∷ []) (zero ∷ []) (zero ∷ []) zero one one one
-    ≡ pricedBy Swaption.Payer (deviationOf variance) one (coefficientsOf zero (zero ∷ [])) (affinesOf variance (forwardOf one one) one (bsOf tiny one (two ∷ [])) (one ∷ [])) (bsOf tiny one (two ∷ [])) (one ∷ []) (zero ∷ []) one one
+    ≡ pricedBy Swaption.Payer (pricerDeviationOf variance) one (coefficientsOf zero (zero ∷ [])) (affineAListOf variance (forwardOf one one) one (bsOf tiny one (two ∷ [])) (one ∷ [])) (bsOf tiny one (two ∷ [])) (one ∷ []) (zero ∷ []) one one
 unfolding pricerOutcome swaptionPriced firstOf allOf inOrder inOrderFrom factorAt factorsAt h decimal add div lt le eq ne neg isNan ofBits size
 payer-priced = refl
 
 -- alpha; pillars (1, 1); curve; coupon (2, 0, 0); strike 0, option time 1, notional 1, side 1
 pub payer-call : pricerOutcome Swaption.Payer tiny (one ∷ []) (one ∷ []) times (one ∷ one ∷ one ∷ []) (two ∷ []) (zero ∷ []) (zero ∷ []) zero one one one ≡ refused R.FlatDerivative
-payer-call = payer-priced ∙ rw (payer-term .2, payer-term .1, payer-term .0) (payer-case (deviationOf variance) one (one ∷ []) (zero ∷ []) one one)
+payer-call = payer-priced ∙ rw (payer-term .2, payer-term .1, payer-term .0) (payer-case (pricerDeviationOf variance) one (one ∷ []) (zero ∷ []) one one)

@@ -9,14 +9,14 @@ use Rattle.exponential.specs.Exp.{expOf}
 use Rattle.elementary.specs.Ln.{lnOf}
 
 -- √variance where the variance is above 0, else 0
-unfoldable pub deviationOf : Float → Float
-deviationOf variance = cond (lt zero variance) (sqrtOf variance) zero
+unfoldable pub pricerDeviationOf : Float → Float
+pricerDeviationOf variance = cond (lt zero variance) (sqrtOf variance) zero
 
 -- exp((ln(P(T)/P(t)) + forward × b) - variance × (0.5 × b × b))
-unfoldable pub affineOf : Float → Float → Float → Float → Float → Float
-affineOf variance forward pt b p = expOf (lnOf (p ⊘ pt) ⊕ forward ⊗ b ⊖ variance ⊗ (half ⊗ b ⊗ b))
+unfoldable pub affineAOf : Float → Float → Float → Float → Float → Float
+affineAOf variance forward pt b p = expOf (lnOf (p ⊘ pt) ⊕ forward ⊗ b ⊖ variance ⊗ (half ⊗ b ⊗ b))
 
-unfoldable pub affinesOf : Float → Float → Float → List Float → List Float → List Float
-affinesOf variance forward pt [] ps = []
-affinesOf variance forward pt (b ∷ bs) [] = []
-affinesOf variance forward pt (b ∷ bs) (p ∷ ps) = affineOf variance forward pt b p ∷ affinesOf variance forward pt bs ps
+unfoldable pub affineAListOf : Float → Float → Float → List Float → List Float → List Float
+affineAListOf variance forward pt [] ps = []
+affineAListOf variance forward pt (b ∷ bs) [] = []
+affineAListOf variance forward pt (b ∷ bs) (p ∷ ps) = affineAOf variance forward pt b p ∷ affineAListOf variance forward pt bs ps

@@ -17,21 +17,21 @@ abbrev pub intrinsicOf : SwaptionType → Float → Float → Float
 intrinsicOf Payer strikeValue bondDf = strikeValue ⊖ bondDf
 intrinsicOf Receiver strikeValue bondDf = bondDf ⊖ strikeValue
 
-abbrev pub positiveOf : Float → Float
-positiveOf value = cond (lt zero value) value zero
+abbrev pub flooredAtZeroOf : Float → Float
+flooredAtZeroOf value = cond (lt zero value) value zero
 
 -- d1 = (ln(bond/strike) + v × v × 0.5)/v; d2 = d1 - v
-unfoldable pub d1Of : Float → Float → Float → Float
-d1Of v strikeValue bondDf = (lnOf (bondDf ⊘ strikeValue) ⊕ v ⊗ v ⊗ half) ⊘ v
+unfoldable pub pricerD1Of : Float → Float → Float → Float
+pricerD1Of v strikeValue bondDf = (lnOf (bondDf ⊘ strikeValue) ⊕ v ⊗ v ⊗ half) ⊘ v
 
-abbrev pub optionOf : SwaptionType → Float → Float → Float → Float → Float
-optionOf Payer d1 d2 strikeValue bondDf = strikeValue ⊗ normCdfDualOf (neg d2) ⊖ bondDf ⊗ normCdfDualOf (neg d1)
-optionOf Receiver d1 d2 strikeValue bondDf = bondDf ⊗ normCdfDualOf d1 ⊖ strikeValue ⊗ normCdfDualOf d2
+abbrev pub pricerOptionOf : SwaptionType → Float → Float → Float → Float → Float
+pricerOptionOf Payer d1 d2 strikeValue bondDf = strikeValue ⊗ normCdfDualOf (neg d2) ⊖ bondDf ⊗ normCdfDualOf (neg d1)
+pricerOptionOf Receiver d1 d2 strikeValue bondDf = bondDf ⊗ normCdfDualOf d1 ⊖ strikeValue ⊗ normCdfDualOf d2
 
 unfoldable pub movingOf : SwaptionType → Float → Float → Float → Float
-movingOf option v strikeValue bondDf = let d1 = d1Of v strikeValue bondDf in optionOf option d1 (d1 ⊖ v) strikeValue bondDf
+movingOf option v strikeValue bondDf = let d1 = pricerD1Of v strikeValue bondDf in pricerOptionOf option d1 (d1 ⊖ v) strikeValue bondDf
 
-unfoldable pub bondOptionOf : SwaptionType → Float → Float → Float → Float → Float
-bondOptionOf option v strike optionDf bondDf =
+unfoldable pub pricerBondOptionOf : SwaptionType → Float → Float → Float → Float → Float
+pricerBondOptionOf option v strike optionDf bondDf =
     let strikeValue = strike ⊗ optionDf in
-    cond (le v still) (positiveOf (intrinsicOf option strikeValue bondDf)) (movingOf option v strikeValue bondDf)
+    cond (le v still) (flooredAtZeroOf (intrinsicOf option strikeValue bondDf)) (movingOf option v strikeValue bondDf)

@@ -5,12 +5,12 @@ use lib.Ieee.{Float}
 use Rattle.ieee.specs.Rounded.{_⊕_, _⊗_, _⊘_}
 use Rattle.ieee.specs.Numbers.{zero}
 use Rattle.closedform.specs.declared.bond_option.SwaptionType.{SwaptionType}
-use Rattle.closedform.specs.BondOption.{bondOptionOf}
+use Rattle.closedform.specs.BondOption.{pricerBondOptionOf}
 use Rattle.closedform.specs.Newton.{bondAt}
 
 -- the bond's volatility is deviation × b
 unfoldable pub componentOf : SwaptionType → Float → Float → Float → Float → Float → Float → Float
-componentOf option deviation pt rate a b p = bondOptionOf option (deviation ⊗ b) (bondAt rate a b) pt p
+componentOf option deviation pt rate a b p = pricerBondOptionOf option (deviation ⊗ b) (bondAt rate a b) pt p
 
 -- component × own / forward, where the coupons have factors of their own
 abbrev pub discountedOf : Bool → Float → Float → Float → Float

@@ -1,4 +1,4 @@
--- `implicit_critical_rate`: "adds one Newton step". Document 01: "Sums start at 0 (the Newton step's objective at -1) and run left to right."
+-- `implicit_critical_rate_of`: "adds one Newton step". Document 01: "Sums start at 0 (the Newton step's objective at -1) and run left to right."
 use mathlib.Core.Bool.{cond}
 use mathlib.Core.List.{List, [], _∷_}
 use lib.Ieee.{Float, neg, lt}

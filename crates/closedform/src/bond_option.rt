@@ -1,7 +1,7 @@
 // bond_option: the option on one coupon's bond, at its intrinsic value where it hardly moves.
 ghost use mathlib.Core.Path.{_≡_};
 ghost use Rattle.probability.specs.NormCdf.{normCdfDualOf};
-ghost use Rattle.closedform.specs.BondOption.{intrinsicOf, positiveOf, d1Of, movingOf, bondOptionOf};
+ghost use Rattle.closedform.specs.BondOption.{intrinsicOf, flooredAtZeroOf, pricerD1Of, movingOf, pricerBondOptionOf};
 
 pub enum SwaptionType {
     Payer,
@@ -18,20 +18,20 @@ fn intrinsic(option: SwaptionType, strike_value: f64, bond_df: f64) -> f64
 }
 
 // A value above 0, else 0.
-fn positive(value: f64) -> f64
-    ensures { λ r. ⌜ r ≡ positiveOf value ⌝ }
+fn floored_at_zero(value: f64) -> f64
+    ensures { λ r. ⌜ r ≡ flooredAtZeroOf value ⌝ }
 {
     if value > 0.0 { value } else { 0.0 }
 }
 
-fn d1(volatility: f64, strike_value: f64, bond_df: f64) -> f64
-    ensures { λ r. ⌜ r ≡ d1Of volatility «strike_value» «bond_df» ⌝ }
+fn pricer_d1(volatility: f64, strike_value: f64, bond_df: f64) -> f64
+    ensures { λ r. ⌜ r ≡ pricerD1Of volatility «strike_value» «bond_df» ⌝ }
 {
     (elementary::ln(bond_df / strike_value) + volatility * volatility * 0.5) / volatility
 }
 
 // The DualFwd normal function, which is not that of plain f64.
-fn normal(x: f64) -> f64
+fn pricer_norm_cdf(x: f64) -> f64
     ensures { λ r. ⌜ r ≡ normCdfDualOf x ⌝ }
 {
     probability::norm_cdf_dual(x)
@@ -41,11 +41,12 @@ fn normal(x: f64) -> f64
 fn moving(option: SwaptionType, volatility: f64, strike_value: f64, bond_df: f64) -> f64
     ensures { λ r. ⌜ r ≡ movingOf option volatility «strike_value» «bond_df» ⌝ }
 {
-    let d1 = d1(volatility, strike_value, bond_df);
+    let d1 = pricer_d1(volatility, strike_value, bond_df);
     let d2 = d1 - volatility;
     match option {
-        SwaptionType::Payer => strike_value * normal(-d2) - bond_df * normal(-d1),
-        SwaptionType::Receiver => bond_df * normal(d1) - strike_value * normal(d2),
+        SwaptionType::Payer => strike_value * pricer_norm_cdf(-d2) - bond_df * pricer_norm_cdf(-d1),
+        SwaptionType::Receiver => bond_df * pricer_norm_cdf(d1)
+            - strike_value * pricer_norm_cdf(d2),
     }
 }
 
@@ -56,11 +57,11 @@ pub fn bond_option(
     option_df: f64,
     bond_df: f64,
 ) -> f64
-    ensures { λ r. ⌜ r ≡ bondOptionOf option volatility strike «option_df» «bond_df» ⌝ }
+    ensures { λ r. ⌜ r ≡ pricerBondOptionOf option volatility strike «option_df» «bond_df» ⌝ }
 {
     let strike_value = strike * option_df;
     if volatility <= 1e-12 {
-        positive(intrinsic(option, strike_value, bond_df))
+        floored_at_zero(intrinsic(option, strike_value, bond_df))
     } else {
         moving(option, volatility, strike_value, bond_df)
     }

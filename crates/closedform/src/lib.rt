@@ -8,7 +8,7 @@ mod variance;
 
 pub use bond_option::SwaptionType;
 pub use newton::Step;
-pub use newton::implicit_critical_rate;
+pub use newton::implicit_critical_rate_of;
 pub use value::components;
-pub use variance::affines;
-pub use variance::deviation;
+pub use variance::affine_a_list;
+pub use variance::pricer_deviation;

@@ -52,7 +52,7 @@ fn newton_sums(rate: f64, c: &[f64], a: &[f64], b: &[f64]) -> Sums
 
 // The step. A caller that has worked the terms, or has asked rule 1 of them, has an A and a B for each
 // coefficient.
-pub fn implicit_critical_rate(rate: f64, c: &[f64], a: &[f64], b: &[f64]) -> Step
+pub fn implicit_critical_rate_of(rate: f64, c: &[f64], a: &[f64], b: &[f64]) -> Step
     requires { ⌜ (length (now a) ≡ length (now c)) × (length (now b) ≡ length (now c)) ⌝ }
     ensures { λ r. ⌜ stepOutcome r ≡ stepped rate (sumsOf rate (now (c .entry)) (now (a .entry)) (now (b .entry))) ⌝ }
 {

@@ -18,7 +18,7 @@ use Rattle.terms.proofs.Callers.{past-rules, searching, root-located, wants-bra
 use Rattle.closedform.specs.Newton.{flatLimit, sumsOf, stepped}
 use Rattle.critical.specs.Find.{searchRules, finiteRoot, finishingRate, findOutcome}
 use Rattle.critical.specs.Implicit.{Implicit, finishingImplicit, steppedFrom, implicitOutcome}
-use Rattle.critical.specs.Demand3.{RootFound, WantsBracket}
+use Rattle.critical.specs.Demand3.{TermsRootFound, TermsWantBracket}
 
 -- ---- `rest` follows the search; what it serves has the search's own root, and it refuses nothing for want of a bracket
 module _ {B : Type 0} (cs affs bs : List Float) (rest : Values → Outcome B) (rootOf : B → Values) (keeps : (v : Values) (w : B) → rest v ≡ served w → v ≡ rootOf w) (otherwise : (v : Values) → rest v ≡ refused R.NoBracket → ⊥) where
@@ -28,13 +28,13 @@ module _ {B : Type 0} (cs affs bs : List Float) (rest : Values → Outcome B) (r
   abbrev called : Outcome B
   called = unless (searchRules cs affs bs) (searching sum rest)
 
-  located : {o : Outcome B} → o ≡ called → (w : B) → o ≡ served w → RootFound cs affs bs (rootOf w)
+  located : {o : Outcome B} → o ≡ called → (w : B) → o ≡ served w → TermsRootFound cs affs bs (rootOf w)
   located is w e =
       let p = past-rules (served w) tt (searchRules cs affs bs) (searching sum rest) tt (sym is ∙ e) in
       let r = root-located sum rest w (p .1) in
       record { passed = p .0; located = subst (Located sum) (keeps (r .0) w (r .2)) (r .1) }
 
-  wanted : {o : Outcome B} → o ≡ called → (o ≡ refused R.NoBracket) ↔ WantsBracket cs affs bs
+  wanted : {o : Outcome B} → o ≡ called → (o ≡ refused R.NoBracket) ↔ TermsWantBracket cs affs bs
   wanted is = (
     λ e. let p = past-rules (refused R.NoBracket) tt (searchRules cs affs bs) (searching sum rest) tt (sym is ∙ e) in
         record { passed = p .0; unbracketed = wants-bracket sum rest otherwise (p .1) },
@@ -49,11 +49,11 @@ module _ (cs affs bs : List Float) {o : Outcome Values} (is : o ≡ findOutcome 
   rate-otherwise : (v : Values) → finishingRate v ≡ refused R.NoBracket → ⊥
   rate-otherwise v e = ends-otherwise (finiteRoot v) v e
 
-  pub rate-rooted : (v : Values) → o ≡ served v → RootFound cs affs bs v
+  pub rate-rooted : (v : Values) → o ≡ served v → TermsRootFound cs affs bs v
   unfolding findOutcome
   rate-rooted v e = located cs affs bs finishingRate (λ w. w) keeps-rate rate-otherwise is v e
 
-  pub rate-refused-so : (o ≡ refused R.NoBracket) ↔ WantsBracket cs affs bs
+  pub rate-refused-so : (o ≡ refused R.NoBracket) ↔ TermsWantBracket cs affs bs
   unfolding findOutcome
   rate-refused-so = wanted cs affs bs finishingRate (λ w. w) keeps-rate rate-otherwise is
 
@@ -82,10 +82,10 @@ module _ (cs affs bs : List Float) {o : Outcome Implicit} (is : o ≡ implicitOu
       let sums = sumsOf (v .rate) cs affs bs in
       step-otherwise (lt (absOf (sums .derivative)) flatLimit) (v .rate ⊖ sums .objective ⊘ sums .derivative) (λ s. finishingImplicit (from v s)) (λ s. ends-otherwise (finiteRoot v && finite s) (from v s)) e
 
-  pub implicit-rooted : (v : Implicit) → o ≡ served v → RootFound cs affs bs (v .root)
+  pub implicit-rooted : (v : Implicit) → o ≡ served v → TermsRootFound cs affs bs (v .root)
   unfolding implicitOutcome
   implicit-rooted v e = located cs affs bs (steppedFrom cs affs bs) (λ w. w .root) keeps-root implicit-otherwise is v e
 
-  pub implicit-refused-so : (o ≡ refused R.NoBracket) ↔ WantsBracket cs affs bs
+  pub implicit-refused-so : (o ≡ refused R.NoBracket) ↔ TermsWantBracket cs affs bs
   unfolding implicitOutcome
   implicit-refused-so = wanted cs affs bs (steppedFrom cs affs bs) (λ w. w .root) keeps-root implicit-otherwise is

@@ -17,25 +17,25 @@ use Rattle.critical.specs.Implicit.{Implicit, implicitRateOutcome}
 
 module _ (cs affs bs : List Float) where
   -- what is accepted: "on terms that rules 1 to 8 let through", of which rules 1 and 2 are this call's, the root is located among their sums
-  pub record RootFound (root : Values) : Type 0 where
+  pub record TermsRootFound (root : Values) : Type 0 where
     pub passed : firstOf (searchRules cs affs bs) ≡ A.Served
     pub located : Located (couponSum cs affs bs) root
 
   -- a search that is begun and wants a bracket: no sum that it reaches is NaN, and at least one ladder has no good rate
-  pub record WantsBracket : Type 0 where
+  pub record TermsWantBracket : Type 0 where
     pub passed : firstOf (searchRules cs affs bs) ≡ A.Served
     pub unbracketed : Unbracketed (couponSum cs affs bs)
 
   -- ---- of the answer of `find_critical_rate`
-  abbrev pub RateRooted : CriticalRate → Type 0
-  RateRooted r = (v : Values) → rateOutcome r ≡ served v → RootFound v
+  abbrev pub RateRootLocated : CriticalRate → Type 0
+  RateRootLocated r = (v : Values) → rateOutcome r ≡ served v → TermsRootFound v
 
-  abbrev pub RateRefusedSo : CriticalRate → Type 0
-  RateRefusedSo r = (rateOutcome r ≡ refused R.NoBracket) ↔ WantsBracket
+  abbrev pub RateNoBracketExactly : CriticalRate → Type 0
+  RateNoBracketExactly r = (rateOutcome r ≡ refused R.NoBracket) ↔ TermsWantBracket
 
   -- ---- of the answer of `implicit_critical_rate`; the facts concern the rate before the step
-  abbrev pub ImplicitRooted : ImplicitRate → Type 0
-  ImplicitRooted r = (v : Implicit) → implicitRateOutcome r ≡ served v → RootFound (v .root)
+  abbrev pub ImplicitRootLocated : ImplicitRate → Type 0
+  ImplicitRootLocated r = (v : Implicit) → implicitRateOutcome r ≡ served v → TermsRootFound (v .root)
 
-  abbrev pub ImplicitRefusedSo : ImplicitRate → Type 0
-  ImplicitRefusedSo r = (implicitRateOutcome r ≡ refused R.NoBracket) ↔ WantsBracket
+  abbrev pub ImplicitNoBracketExactly : ImplicitRate → Type 0
+  ImplicitNoBracketExactly r = (implicitRateOutcome r ≡ refused R.NoBracket) ↔ TermsWantBracket

@@ -15,7 +15,7 @@ use Rattle.lists.specs.declared.refusals.Answer.the-variants as A
 use Rattle.lists.specs.Refusals.{Outcome, served, refused, Rule, rule, firstOf, after, unless, following}
 use Rattle.lists.specs.Checks.{allOf}
 use Rattle.coupons.specs.Sum.{couponsOnto, couponSum}
-use Rattle.search.specs.Rate.{rungOf, orRung, ladderOf, joined, criticalOf}
+use Rattle.search.specs.Rate.{rungOf, orRung, ladderOf, fromLadders, criticalOf}
 use Rattle.search.specs.Values.{Values, criticalOutcome, rootFinite}
 use Rattle.critical.specs.declared.find.CriticalRate.{CriticalRate}
 use Rattle.critical.specs.declared.find.CriticalRate.the-variants as C
@@ -45,7 +45,7 @@ findOutcome cs affs bs = unless (searchRules cs affs bs) (following (criticalOut
 
 -- No terms: rule 7 is asked of coupons in other calls, not of terms here, and the sum is 0 at every rate. The lower ladder has no good rate, so the search is refused by 10.
 pub no-terms : findOutcome [] [] [] ≡ refused R.NoBracket
-unfolding findOutcome firstOf allOf criticalOf joined ladderOf orRung rungOf couponSum couponsOnto le isNan ofBits
+unfolding findOutcome firstOf allOf criticalOf fromLadders ladderOf orRung rungOf couponSum couponsOnto le isNan ofBits
 no-terms = refl
 
 -- What is served is what the search found.

@@ -3,7 +3,7 @@ ghost use mathlib.Core.Path.{_≡_};
 ghost use Rattle.lists.specs.Refusals.{reported, following};
 ghost use Rattle.search.specs.Values.{noValues, criticalOutcome};
 ghost use Rattle.critical.specs.Find.{rateOutcome, finishingRate, findOutcome};
-ghost use Rattle.critical.specs.Demand3.{RateRooted, RateRefusedSo};
+ghost use Rattle.critical.specs.Demand3.{RateRootLocated, RateNoBracketExactly};
 use super::rules;
 use lists::Answer;
 use lists::Refusal;
@@ -25,15 +25,15 @@ pub enum CriticalRate {
 // lower ladder no good one.
 pub fn find_critical_rate(coefficients: &[f64], affines: &[f64], b: &[f64]) -> CriticalRate
     ensures answer { λ r. ⌜ rateOutcome r ≡ findOutcome (now (coefficients .entry)) (now (affines .entry)) (now (b .entry)) ⌝ }
-    ensures rooted { λ r. ⌜ RateRooted (now (coefficients .entry)) (now (affines .entry)) (now (b .entry)) r ⌝ }
-    ensures bracket { λ r. ⌜ RateRefusedSo (now (coefficients .entry)) (now (affines .entry)) (now (b .entry)) r ⌝ }
+    ensures rooted { λ r. ⌜ RateRootLocated (now (coefficients .entry)) (now (affines .entry)) (now (b .entry)) r ⌝ }
+    ensures bracket { λ r. ⌜ RateNoBracketExactly (now (coefficients .entry)) (now (affines .entry)) (now (b .entry)) r ⌝ }
     ensures report { λ r. ⌜ reported noValues (rateOutcome r) ≡ reported noValues (findOutcome (now (coefficients .entry)) (now (affines .entry)) (now (b .entry))) ⌝ }
 {
     let answer = rules::search_rules(coefficients, affines, b);
     if let Answer::Refused(refusal) = answer {
         return CriticalRate::Refused(refusal);
     }
-    finished(terms::critical_rate(coefficients, affines, b))
+    finished(terms::find_critical_rate_of(coefficients, affines, b))
 }
 
 // The search's own refusals; then rule 13 looks at every float of the answer.

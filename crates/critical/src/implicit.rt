@@ -4,7 +4,7 @@ ghost use lib.ListN.{length};
 ghost use Rattle.lists.specs.Refusals.{reported, following};
 ghost use Rattle.search.specs.Values.{criticalOutcome};
 ghost use Rattle.critical.specs.Implicit.{noImplicit, implicitRateOutcome, finishingImplicit, steppedFrom, implicitOutcome};
-ghost use Rattle.critical.specs.Demand3.{ImplicitRooted, ImplicitRefusedSo};
+ghost use Rattle.critical.specs.Demand3.{ImplicitRootLocated, ImplicitNoBracketExactly};
 use super::rules;
 use closedform::Step;
 use lists::Answer;
@@ -26,15 +26,15 @@ pub enum ImplicitRate {
 
 pub fn implicit_critical_rate(coefficients: &[f64], affines: &[f64], b: &[f64]) -> ImplicitRate
     ensures answer { λ r. ⌜ implicitRateOutcome r ≡ implicitOutcome (now (coefficients .entry)) (now (affines .entry)) (now (b .entry)) ⌝ }
-    ensures rooted { λ r. ⌜ ImplicitRooted (now (coefficients .entry)) (now (affines .entry)) (now (b .entry)) r ⌝ }
-    ensures bracket { λ r. ⌜ ImplicitRefusedSo (now (coefficients .entry)) (now (affines .entry)) (now (b .entry)) r ⌝ }
+    ensures rooted { λ r. ⌜ ImplicitRootLocated (now (coefficients .entry)) (now (affines .entry)) (now (b .entry)) r ⌝ }
+    ensures bracket { λ r. ⌜ ImplicitNoBracketExactly (now (coefficients .entry)) (now (affines .entry)) (now (b .entry)) r ⌝ }
     ensures report { λ r. ⌜ reported noImplicit (implicitRateOutcome r) ≡ reported noImplicit (implicitOutcome (now (coefficients .entry)) (now (affines .entry)) (now (b .entry))) ⌝ }
 {
     let answer = rules::search_rules(coefficients, affines, b);
     if let Answer::Refused(refusal) = answer {
         return ImplicitRate::Refused(refusal);
     }
-    let found = terms::critical_rate(coefficients, affines, b);
+    let found = terms::find_critical_rate_of(coefficients, affines, b);
     stepped(coefficients, affines, b, found)
 }
 
@@ -55,7 +55,7 @@ fn stepped(c: &[f64], a: &[f64], b: &[f64], found: Critical) -> ImplicitRate
     else {
         return ImplicitRate::Refused(Refusal::NoBracket);
     };
-    let Step::To(after) = closedform::implicit_critical_rate(rate, c, a, b) else {
+    let Step::To(after) = closedform::implicit_critical_rate_of(rate, c, a, b) else {
         return ImplicitRate::Refused(Refusal::FlatDerivative);
     };
     finished(after, rate, bracket, below, above)

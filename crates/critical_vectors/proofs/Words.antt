@@ -12,9 +12,9 @@ use Rattle.ieee.specs.Numbers.{zero}
 use Rattle.fields.specs.Fields.{bitsOf}
 use Rattle.layout.specs.Request.{floatsFrom}
 use Rattle.critical_vectors.specs.declared.vector.Verdict.{Verdict}
-use Rattle.critical_vectors.specs.declared.told.Told.{Told}
-use Rattle.critical_vectors.specs.Told.{sameAs}
-use Rattle.critical_vectors.specs.Vector.{lengthAt, toldAt, foundOf, steppedOf, answeredOf, verdictOf}
+use Rattle.critical_vectors.specs.declared.report_words.ReportWords.{ReportWords}
+use Rattle.critical_vectors.specs.ReportWords.{sameAs}
+use Rattle.critical_vectors.specs.Vector.{lengthAt, wordsAt, findWordsOf, implicitWordsOf, answeredOf, verdictOf}
 
 -- +0 has no bit set
 pub zero-bits : bitsOf zero ≡ 0
@@ -33,7 +33,7 @@ pub front : (k : ℕ) (xs : List Float) → k ≤ 65 → length xs ≡ length (r
 front k xs h e = rw (e, length-replicate) h
 
 -- two answers, each compared with what the vector expects
-pub both : (cs affs bs : List Float) (s : List ℕ) (found stepped expected expected₂ : Told) (ok ok₂ : Bool) → found ≡ foundOf cs affs bs → stepped ≡ steppedOf cs affs bs → expected ≡ toldAt s 16 → expected₂ ≡ toldAt s 88 → ok ≡ sameAs found expected → ok₂ ≡ sameAs stepped expected₂ → record { found = found .number; stepped = stepped .number; agrees = ok && ok₂ } ≡ answeredOf cs affs bs s
+pub both : (cs affs bs : List Float) (s : List ℕ) (found stepped expected expected₂ : ReportWords) (ok ok₂ : Bool) → found ≡ findWordsOf cs affs bs → stepped ≡ implicitWordsOf cs affs bs → expected ≡ wordsAt s 16 → expected₂ ≡ wordsAt s 88 → ok ≡ sameAs found expected → ok₂ ≡ sameAs stepped expected₂ → record { found = found .number; stepped = stepped .number; agrees = ok && ok₂ } ≡ answeredOf cs affs bs s
 unfolding answeredOf
 both cs affs bs s found stepped expected expected₂ ok ok₂ ef es ee ee₂ e e₂ = rw (e, e₂, ee, ee₂, ef, es)
 

@@ -11,20 +11,20 @@ use Rattle.layout.specs.Request.{floatsFrom}
 use Rattle.search.specs.Values.{noValues}
 use Rattle.critical.specs.Find.{findOutcome}
 use Rattle.critical.specs.Implicit.{noImplicit, implicitOutcome}
-use Rattle.critical_vectors.specs.declared.told.Told.{Told}
+use Rattle.critical_vectors.specs.declared.report_words.ReportWords.{ReportWords}
 use Rattle.critical_vectors.specs.declared.vector.Verdict.{Verdict}
-use Rattle.critical_vectors.specs.Told.{toldRate, toldImplicit, sameAs}
+use Rattle.critical_vectors.specs.ReportWords.{rateWords, implicitWords, sameAs}
 
 -- a list's length, 65 where it is more: that is over the limit too
 abbrev pub lengthAt : List ℕ → ℕ → ℕ
 lengthAt s n = let k = fourBytes s n in cond (ltb k 65) k 65
 
 -- the list number `field`, counted from 0: one float of each term, 24 bytes a term
-abbrev pub listOf : List ℕ → ℕ → ℕ → List Float
-listOf s field at = take (lengthAt s at) (floatsFrom s 24 field 160 65)
+abbrev pub termsListOf : List ℕ → ℕ → ℕ → List Float
+termsListOf s field at = take (lengthAt s at) (floatsFrom s 24 field 160 65)
 
-abbrev pub toldAt : List ℕ → ℕ → Told
-toldAt s n = record {
+abbrev pub wordsAt : List ℕ → ℕ → ReportWords
+wordsAt s n = record {
   number = eightBytes s n;
   stepped = eightBytes s (n + 8);
   rate = eightBytes s (n + 16);
@@ -37,18 +37,18 @@ toldAt s n = record {
 }
 
 -- what the two calls are defined to answer to terms, and whether it is what the vector expects
-abbrev pub foundOf : List Float → List Float → List Float → Told
-foundOf cs affs bs = toldRate (reported noValues (findOutcome cs affs bs))
+abbrev pub findWordsOf : List Float → List Float → List Float → ReportWords
+findWordsOf cs affs bs = rateWords (reported noValues (findOutcome cs affs bs))
 
-abbrev pub steppedOf : List Float → List Float → List Float → Told
-steppedOf cs affs bs = toldImplicit (reported noImplicit (implicitOutcome cs affs bs))
+abbrev pub implicitWordsOf : List Float → List Float → List Float → ReportWords
+implicitWordsOf cs affs bs = implicitWords (reported noImplicit (implicitOutcome cs affs bs))
 
 unfoldable pub answeredOf : List Float → List Float → List Float → List ℕ → Verdict
 answeredOf cs affs bs s = record {
-  found = foundOf cs affs bs .number;
-  stepped = steppedOf cs affs bs .number;
-  agrees = sameAs (foundOf cs affs bs) (toldAt s 16) && sameAs (steppedOf cs affs bs) (toldAt s 88);
+  found = findWordsOf cs affs bs .number;
+  stepped = implicitWordsOf cs affs bs .number;
+  agrees = sameAs (findWordsOf cs affs bs) (wordsAt s 16) && sameAs (implicitWordsOf cs affs bs) (wordsAt s 88);
 }
 
 abbrev pub verdictOf : List ℕ → Verdict
-verdictOf s = answeredOf (listOf s 0 0) (listOf s 1 4) (listOf s 2 8) s
+verdictOf s = answeredOf (termsListOf s 0 0) (termsListOf s 1 4) (termsListOf s 2 8) s

@@ -2,7 +2,7 @@
 // each, and writes how often each number was answered, and how many vectors expect anything else: every field that a call
 // returns is compared. tools/critical_vectors/make writes the vectors; its README says what stands in one.
 mod report;
-mod told;
+mod report_words;
 mod vector;
 
 use report::Tally;

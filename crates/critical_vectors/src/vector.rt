@@ -1,9 +1,9 @@
 // A vector: 1,720 bytes, and what the two calls answer to it.
 ghost use mathlib.Core.Path.{_≡_};
 ghost use Prim.Native.Nat.{_+_, _≤_};
-ghost use Rattle.critical_vectors.specs.Vector.{lengthAt, toldAt, answeredOf, verdictOf};
-use crate::told;
-use crate::told::Told;
+ghost use Rattle.critical_vectors.specs.Vector.{lengthAt, wordsAt, answeredOf, verdictOf};
+use crate::report_words;
+use crate::report_words::ReportWords;
 use layout::Part;
 
 // The numbers that the two calls answered, and whether both answers are the vector's in every field.
@@ -36,12 +36,13 @@ pub fn compared(s: &[u8; 1720]) -> Verdict
 fn answered(c: &[f64], a: &[f64], b: &[f64], s: &[u8; 1720]) -> Verdict
     ensures { λ r. ⌜ r ≡ answeredOf (now (c .entry)) (now (a .entry)) (now (b .entry)) (now (s .entry)) ⌝ }
 {
-    let found = told::rate(critical::find_critical_rate(c, a, b));
-    let stepped = told::implicit(critical::implicit_critical_rate(c, a, b));
+    let found = report_words::rate(critical::find_critical_rate(c, a, b));
+    let stepped = report_words::implicit(critical::implicit_critical_rate(c, a, b));
     Verdict {
         found: found.number,
         stepped: stepped.number,
-        agrees: told::same(found, expected(s, 16)) & told::same(stepped, expected(s, 88)),
+        agrees: report_words::same(found, expected(s, 16))
+            & report_words::same(stepped, expected(s, 88)),
     }
 }
 
@@ -58,11 +59,11 @@ fn length(s: &[u8; 1720], at: usize) -> usize
 
 // The answer expected that stands at place `at`, nine words. A caller asks at the place of one of the two, 88
 // at most.
-fn expected(s: &[u8; 1720], at: usize) -> Told
+fn expected(s: &[u8; 1720], at: usize) -> ReportWords
     requires { ⌜ at ≤ 88 ⌝ }
-    ensures { λ r. ⌜ r ≡ toldAt (now (s .entry)) at ⌝ }
+    ensures { λ r. ⌜ r ≡ wordsAt (now (s .entry)) at ⌝ }
 {
-    Told {
+    ReportWords {
         number: layout::word(s, at),
         stepped: layout::word(s, at + 8),
         rate: layout::word(s, at + 16),

@@ -10,7 +10,7 @@ use lib.ListN.{length}
 use lib.Ieee.{Float}
 use Rattle.ieee.specs.Numbers as Numbers
 use Rattle.lists.specs.Refusals.{Outcome, served, refused, numberOf}
-use Rattle.grounds.specs.Grounds.{NeverSo, path-never}
+use Rattle.grounds.specs.Grounds.{NeverNoBracket, path-never}
 use Rattle.layout.specs.declared.parts.Layout.{Layout}
 use Rattle.layout.specs.declared.parts.Laid.the-variants.{Parts, Broken}
 use Rattle.layout.specs.declared.records.Job.{Job}
@@ -21,11 +21,11 @@ use Rattle.fields.specs.Fields.{bitsOf}
 use Rattle.lines.specs.Lines.{header, refusedLine, lineOf}
 use Rattle.lines.specs.Says.{Says}
 use Rattle.lines.proofs.Says.{says-one}
-use Rattle.kinds.specs.declared.told.Told.{Told}
-use Rattle.kinds.specs.Told.{toldOf}
-use Rattle.demands.specs.Owed.{Owed, owedOf, Held}
-use Rattle.demands.specs.Told.{numbered, told-held, told-small}
-use Rattle.runfile.specs.Output.{toldLine, pointLines, pathLines, pathOf, jobLines, outputOf}
+use Rattle.kinds.specs.declared.results.JobResult.{JobResult}
+use Rattle.kinds.specs.Results.{jobResultOf}
+use Rattle.demands.specs.Owed.{Owed, owedOf, ResultHolds}
+use Rattle.demands.specs.Results.{numbered, result-holds, result-small}
+use Rattle.runfile.specs.Output.{resultLine, pointLines, pathLines, pathOf, jobLines, outputOf}
 use Rattle.runfile.specs.Pieces.{piecesOf, pieceOf, joined, output-is, broken-is, job-is, count-is, header-is}
 
 -- ---- what is stated
@@ -38,7 +38,7 @@ pub record AcceptedLine (owed : Owed) (k kind : ℕ) (line : List ℕ) : Type 0 
   pub facts : owed .Facts given
 
 -- the line of job k, of kinds 1 to 11
-pub record LineHeld (owed : Owed) (k kind : ℕ) (line : List ℕ) : Type 0 where
+pub record LineHolds (owed : Owed) (k kind : ℕ) (line : List ℕ) : Type 0 where
   -- "In demand 3, accepted means answer 0"
   pub accepted : Says line 0 → AcceptedLine owed k kind line
   -- 10 is printed exactly where a search that was begun wants a bracket, and so never where none is begun: kinds 1 to 4, 8 and 9
@@ -53,38 +53,38 @@ pub record PathLine (k : ℕ) (line : List ℕ) : Type 0 where
   pub never : Says line 10 → ⊥
 
 -- "A served path prints a line a grid point"; else there is one
-pub record PathHeld (k : ℕ) (text : List ℕ) : Type 0 where
+pub record PathHolds (k : ℕ) (text : List ℕ) : Type 0 where
   pub lines : List (List ℕ)
   pub whole : joined lines ≡ text
   pub each : (line : List ℕ) → List·Memᴰ line lines → PathLine k line
 
 -- job k of a file, and the text printed for it
-pub record JobHeld (q : Request) (k : ℕ) (j : Job) (text : List ℕ) : Type 0 where
+pub record JobHolds (q : Request) (k : ℕ) (j : Job) (text : List ℕ) : Type 0 where
   -- "another kind breaks the layout"
   pub kinds : (1 ≤ j .kind) × (j .kind ≤ 12)
-  pub line : j .kind ≤ 11 → LineHeld (owedOf q j) k (j .kind) text
-  pub path : j .kind ≡ 12 → PathHeld k text
+  pub line : j .kind ≤ 11 → LineHolds (owedOf q j) k (j .kind) text
+  pub path : j .kind ≡ 12 → PathHolds k text
 
 -- "prints `job kind answer value note`, then a line a job": the text of job k is piece k + 1 of what is printed
-pub record Demand3 (file : List ℕ) : Type 0 where
+pub record FileDemand3 (file : List ℕ) : Type 0 where
   pub whole : joined (piecesOf file) ≡ outputOf file
   pub broken : layoutOf file ≡ Broken → outputOf file ≡ refusedLine
   -- the header first, then a piece a job, and none behind them
   pub first : (l : Layout) → layoutOf file ≡ Parts l → pieceOf file 0 ≡ header
   pub count : (l : Layout) → layoutOf file ≡ Parts l → length (piecesOf file) ≡ suc (l .jobs .length / 40)
-  pub jobs : (l : Layout) → layoutOf file ≡ Parts l → (k : ℕ) → k < l .jobs .length / 40 → JobHeld (requestOf file l) k (jobAt file (l .jobs .offset + 40 * k)) (pieceOf file (suc k))
+  pub jobs : (l : Layout) → layoutOf file ≡ Parts l → (k : ℕ) → k < l .jobs .length / 40 → JobHolds (requestOf file l) k (jobAt file (l .jobs .offset + 40 * k)) (pieceOf file (suc k))
 
 -- ---- kinds 1 to 11
 small : (n : ℕ) → n ≤ 13 → n < 10 ^ 20
 small n h = let z : 13 < 10 ^ 20 = lit< tt in omega arith
 
-line-held : (owed : Owed) (k kind : ℕ) (told : Told) → told .answer ≤ 13 → Held owed told → LineHeld owed k kind (toldLine k kind told)
+line-held : (owed : Owed) (k kind : ℕ) (told : JobResult) → told .answer ≤ 13 → ResultHolds owed told → LineHolds owed k kind (resultLine k kind told)
 line-held owed k kind told b h = record { accepted = λ s. accepted (reads 0 (omega arith) s); no-bracket = (λ s. h .no-bracket .0 (reads 10 (omega arith) s), says) }
   where
-    reads : (n : ℕ) → n ≤ 13 → Says (toldLine k kind told) n → told .answer ≡ n
+    reads : (n : ℕ) → n ≤ 13 → Says (resultLine k kind told) n → told .answer ≡ n
     reads n l s = says-one k kind (told .answer) (bitsOf (told .value)) (told .note) n (small (told .answer) b) (small n l) s
 
-    accepted : told .answer ≡ 0 → AcceptedLine owed k kind (toldLine k kind told)
+    accepted : told .answer ≡ 0 → AcceptedLine owed k kind (resultLine k kind told)
     accepted e =
         let a = h .accepted e in
         record {
@@ -96,14 +96,14 @@ line-held owed k kind told b h = record { accepted = λ s. accepted (reads 0 (om
           facts = a .facts;
         }
 
-    says : owed .Wants → Says (toldLine k kind told) 10
+    says : owed .Wants → Says (resultLine k kind told) 10
     says w = record { job = k; kind = kind; bits = bitsOf (told .value); note = told .note; is = ap (λ (n : ℕ). lineOf k kind n (bitsOf (told .value)) (told .note)) (h .no-bracket .1 w) }
 
 -- ---- kind 12
 path-line : (k answer bits note : ℕ) → answer ≤ 13 → (answer ≡ 10 → ⊥) → PathLine k (lineOf k 12 answer bits note)
 path-line k answer bits note b h = record { answer = answer; bits = bits; note = note; is = refl; never = λ s. h (says-one k 12 answer bits note 10 (small answer b) (small 10 (omega arith)) s) }
 
-more-lines : (k answer bits note : ℕ) (rest : List ℕ) → answer ≤ 13 → (answer ≡ 10 → ⊥) → PathHeld k rest → PathHeld k (lineOf k 12 answer bits note ++ rest)
+more-lines : (k answer bits note : ℕ) (rest : List ℕ) → answer ≤ 13 → (answer ≡ 10 → ⊥) → PathHolds k rest → PathHolds k (lineOf k 12 answer bits note ++ rest)
 unfolding joined
 more-lines k answer bits note rest b h p = record {
   lines = lineOf k 12 answer bits note ∷ p .lines;
@@ -115,26 +115,26 @@ more-lines k answer bits note rest b h p = record {
     go line (inl e) = subst (PathLine k) (sym e) (path-line k answer bits note b h)
     go line (inr m) = p .each line m
 
-no-lines : (k : ℕ) → PathHeld k []
+no-lines : (k : ℕ) → PathHolds k []
 unfolding joined
 no-lines k = record { lines = []; whole = refl; each = λ line m. absurd (List·Memᴰ·not-nil m) }
 
-one-line : (k answer bits note : ℕ) → answer ≤ 13 → (answer ≡ 10 → ⊥) → PathHeld k (lineOf k 12 answer bits note)
-one-line k answer bits note b h = subst (PathHeld k) (append-nil (lineOf k 12 answer bits note)) (more-lines k answer bits note [] b h (no-lines k))
+one-line : (k answer bits note : ℕ) → answer ≤ 13 → (answer ≡ 10 → ⊥) → PathHolds k (lineOf k 12 answer bits note)
+one-line k answer bits note b h = subst (PathHolds k) (append-nil (lineOf k 12 answer bits note)) (more-lines k answer bits note [] b h (no-lines k))
 
-points : (k i : ℕ) (xs : List Float) → PathHeld k (pointLines k i xs)
+points : (k i : ℕ) (xs : List Float) → PathHolds k (pointLines k i xs)
 unfolding pointLines
 points k i [] = no-lines k
 points k i (x ∷ xs) = more-lines k 0 (bitsOf x) i (pointLines k (suc i) xs) (omega arith) (λ e. omega arith) (points k (suc i) xs)
 
-path-held : (k : ℕ) (o : Outcome (List Float)) → NeverSo o → PathHeld k (pathLines k o)
+path-held : (k : ℕ) (o : Outcome (List Float)) → NeverNoBracket o → PathHolds k (pathLines k o)
 path-held k (served []) h = one-line k 0 (bitsOf Numbers.zero) 0 (omega arith) (λ e. omega arith)
 path-held k (served (x ∷ xs)) h = points k 0 (x ∷ xs)
 path-held k (refused r) h = one-line k (numberOf r) (bitsOf Numbers.zero) 0 (numbered r .within) (λ e. h (ap refused (numbered r .so e)))
 
 -- ---- the job
 module _ (q : Request) (k : ℕ) (j : Job) where
-  one : j .kind ≤ 11 → jobLines q k j ≡ toldLine k (j .kind) (toldOf q j)
+  one : j .kind ≤ 11 → jobLines q k j ≡ resultLine k (j .kind) (jobResultOf q j)
   unfolding jobLines
   one h = rw (ne-eqb (j .kind) 12 (λ e. omega arith))
 
@@ -142,20 +142,20 @@ module _ (q : Request) (k : ℕ) (j : Job) where
   unfolding jobLines
   many e = rw (eq-eqb (j .kind) 12 e)
 
-  job-held : (1 ≤ j .kind) × (j .kind ≤ 12) → JobHeld q k j (jobLines q k j)
+  job-held : (1 ≤ j .kind) × (j .kind ≤ 12) → JobHolds q k j (jobLines q k j)
   job-held kinds = record {
     kinds = kinds;
-    line = λ h. subst (LineHeld (owedOf q j) k (j .kind)) (sym (one h)) (line-held (owedOf q j) k (j .kind) (toldOf q j) (told-small q j) (told-held q j));
-    path = λ e. subst (PathHeld k) (sym (many e)) (path-held k (pathOf q) (path-never (q .alpha) (q .pillarTimes) (q .pillarSigmas) (q .curveTimes) (q .curveFactors) (q .gridTimes) (q .draws) (length (q .gridTimes))));
+    line = λ h. subst (LineHolds (owedOf q j) k (j .kind)) (sym (one h)) (line-held (owedOf q j) k (j .kind) (jobResultOf q j) (result-small q j) (result-holds q j));
+    path = λ e. subst (PathHolds k) (sym (many e)) (path-held k (pathOf q) (path-never (q .alpha) (q .pillarTimes) (q .pillarSigmas) (q .curveTimes) (q .curveFactors) (q .gridTimes) (q .draws) (length (q .gridTimes))));
   }
 
 -- ---- every file
-pub demand3 : (file : List ℕ) → Demand3 file
+pub demand3 : (file : List ℕ) → FileDemand3 file
 demand3 file = record {
   whole = output-is file;
   broken = broken-is file;
   first = header-is file;
   count = count-is file;
-  jobs = λ l e k h. subst (JobHeld (requestOf file l) k (jobAt file (l .jobs .offset + 40 * k))) (sym (job-is file l e k h))
+  jobs = λ l e k h. subst (JobHolds (requestOf file l) k (jobAt file (l .jobs .offset + 40 * k))) (sym (job-is file l e k h))
       (job-held (requestOf file l) k (jobAt file (l .jobs .offset + 40 * k)) (kind-known file l e k h));
 }

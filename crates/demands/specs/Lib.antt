@@ -1,4 +1,4 @@
 -- Demand 3 of every file: what each kind owes, that it is told, and that it is printed.
 pub mod Owed
-pub mod Told
+pub mod Results
 pub mod Demand3

@@ -25,8 +25,8 @@ use Rattle.calibration.specs.Fits.{capletFitOutcome, swaptionFitOutcome}
 use Rattle.calibration.specs.Demand3 as Fits
 use Rattle.layout.specs.declared.records.Job.{Job}
 use Rattle.layout.specs.Request.{Request}
-use Rattle.kinds.specs.declared.told.Told.{Told}
-use Rattle.kinds.specs.Told.{noteOf}
+use Rattle.kinds.specs.declared.results.JobResult.{JobResult}
+use Rattle.kinds.specs.Results.{noteOf}
 
 -- a job's call: its outcome; what is told as value and as note of what it gives; the facts that demand 3 owes of that; and when a search that the call began wants a bracket
 pub record Owed : Type 1 where
@@ -47,10 +47,10 @@ module _ (q : Request) (j : Job) where
   -- kind 5: with coupons, the price rests on a root that is located. "Kind 5 with no coupons is 0 and needs no time"
   abbrev pub modelOwed : Owed
   modelOwed =
-      let rules = Swaptions.rulesOn (q .alpha) (q .curveTimes) (q .curveFactors) (q .payments) (q .accruals) (j .a) (j .b) (j .c) in
-      let sum = ModelSum.sumOf (q .alpha) (j .b) (q .payments) (q .accruals) (j .a) (j .c) in
+      let rules = Swaptions.modelRulesOn (q .alpha) (q .curveTimes) (q .curveFactors) (q .payments) (q .accruals) (j .a) (j .b) (j .c) in
+      let sum = ModelSum.modelSumOf (q .alpha) (j .b) (q .payments) (q .accruals) (j .a) (j .c) in
       record {
-        Given = Model.Valued;
+        Given = Model.ModelValued;
         outcome = Swaptions.modelOutcome (q .alpha) (q .curveTimes) (q .curveFactors) (q .payments) (q .accruals) (j .a) (j .b) (j .c);
         value = λ v. v .value;
         note = λ v. 0;
@@ -61,10 +61,10 @@ module _ (q : Request) (j : Job) where
   -- kinds 6 and 7: the root is that before the Newton step
   abbrev pub pricerOwed : SwaptionType → Owed
   pricerOwed option =
-      let rules = Pricers.rulesOn (q .alpha) (q .pillarTimes) (q .pillarSigmas) (q .curveTimes) (q .curveFactors) (q .payments) (q .accruals) (q .owns) (j .a) (j .b) (j .c) (j .d) in
-      let sum = PricerSum.sumOf (q .alpha) (q .pillarTimes) (q .pillarSigmas) (j .b) (q .payments) (q .accruals) (j .a) in
+      let rules = Pricers.pricerRulesOn (q .alpha) (q .pillarTimes) (q .pillarSigmas) (q .curveTimes) (q .curveFactors) (q .payments) (q .accruals) (q .owns) (j .a) (j .b) (j .c) (j .d) in
+      let sum = PricerSum.pricerSumOf (q .alpha) (q .pillarTimes) (q .pillarSigmas) (j .b) (q .payments) (q .accruals) (j .a) in
       record {
-        Given = Pricer.Valued;
+        Given = Pricer.PricerValued;
         outcome = Pricers.pricerOutcome option (q .alpha) (q .pillarTimes) (q .pillarSigmas) (q .curveTimes) (q .curveFactors) (q .payments) (q .accruals) (q .owns) (j .a) (j .b) (j .c) (j .d);
         value = λ v. v .value;
         note = λ v. 0;
@@ -79,7 +79,7 @@ module _ (q : Request) (j : Job) where
     outcome = capletFitOutcome quote (q .alpha) (q .curveTimes) (q .curveFactors) (j .a) (j .b) (j .c) (j .d);
     value = λ fit. fit .sigma;
     note = noteOf;
-    Facts = Fits.CapletAssured quote (q .alpha) (q .curveTimes) (q .curveFactors) (j .a) (j .b) (j .c) (j .d);
+    Facts = Fits.CapletFitAssured quote (q .alpha) (q .curveTimes) (q .curveFactors) (j .a) (j .b) (j .c) (j .d);
     Wants = ⊥;
   }
 
@@ -90,8 +90,8 @@ module _ (q : Request) (j : Job) where
     outcome = swaptionFitOutcome quote (q .alpha) (q .curveTimes) (q .curveFactors) (q .payments) (q .accruals) (j .a) (j .b) (j .c);
     value = λ fit. fit .sigma;
     note = noteOf;
-    Facts = Fits.SwaptionAssured quote (q .alpha) (q .curveTimes) (q .curveFactors) (q .payments) (q .accruals) (j .a) (j .b) (j .c);
-    Wants = Fits.WantsBracket quote (q .alpha) (q .curveTimes) (q .curveFactors) (q .payments) (q .accruals) (j .a) (j .b) (j .c);
+    Facts = Fits.SwaptionFitAssured quote (q .alpha) (q .curveTimes) (q .curveFactors) (q .payments) (q .accruals) (j .a) (j .b) (j .c);
+    Wants = Fits.FitWantsBracket quote (q .alpha) (q .curveTimes) (q .curveFactors) (q .payments) (q .accruals) (j .a) (j .b) (j .c);
   }
 
   -- ---- and kind by kind
@@ -121,14 +121,14 @@ module _ (q : Request) (j : Job) where
 -- ---- and that it is told
 
 -- what an accepted call gives: the value and the note told are its own, and its facts hold
-pub record Accepted (owed : Owed) (told : Told) : Type 0 where
+pub record Accepted (owed : Owed) (told : JobResult) : Type 0 where
   pub given : owed .Given
   pub is : owed .outcome ≡ served given
   pub value-is : told .value ≡ owed .value given
   pub note-is : told .note ≡ owed .note given
   pub facts : owed .Facts given
 
-pub record Held (owed : Owed) (told : Told) : Type 0 where
+pub record ResultHolds (owed : Owed) (told : JobResult) : Type 0 where
   -- no answer 0 without what is owed
   pub accepted : told .answer ≡ 0 → Accepted owed told
   -- no answer 10 on any other ground

@@ -6,8 +6,8 @@ ghost use Rattle.lists.specs.Faults.{curveFaults};
 ghost use Rattle.layout.specs.declared.parts.Laid.the-variants.{Parts};
 ghost use Rattle.layout.specs.Layout.{layoutOf};
 ghost use Rattle.layout.specs.Request.{requestOf, jobsOf};
-ghost use Rattle.layout.specs.Lists.{Holds};
-ghost use Rattle.kinds.specs.Told.{listsOf};
+ghost use Rattle.layout.specs.Lists.{HoldsLists};
+ghost use Rattle.kinds.specs.Results.{requestOfLists};
 use super::answers;
 use layout::Laid;
 use layout::Layout;
@@ -40,7 +40,7 @@ fn serve_jobs(file: &[u8], l: Layout)
 
 // The same, on the lists that a caller has read from the file.
 fn each_job(file: &[u8], l: Layout, floats: &[f64])
-    requires { ⌜ (layoutOf (now file) ≡ Parts l) × Holds (now file) l (now floats) ⌝ }
+    requires { ⌜ (layoutOf (now file) ≡ Parts l) × HoldsLists (now file) l (now floats) ⌝ }
 {
     let alpha = layout::alpha(file, l.model);
     let pillars = layout::list(file, l, floats, 0);
@@ -99,7 +99,7 @@ fn one_job(
 )
     requires { ⌜ (layoutOf (now file) ≡ Parts l) × (k < l .jobs .length / 40) × (131072 ≤ length (now out)) ⌝ }
     requires { ⌜ curve ≡ curveFaults (now times) (now factors) ⌝ }
-    requires { ⌜ listsOf alpha (now pillars) (now sigmas) (now times) (now factors) (now payments) (now accruals) (now owns) (now grid) (now draws) (jobsOf (now file) (l .jobs)) ≡ requestOf (now file) l ⌝ }
+    requires { ⌜ requestOfLists alpha (now pillars) (now sigmas) (now times) (now factors) (now payments) (now accruals) (now owns) (now grid) (now draws) (jobsOf (now file) (l .jobs)) ≡ requestOf (now file) l ⌝ }
 {
     let j = layout::nth_job(file, l.jobs, k);
     if (j.kind < 5) | (j.kind == 12) {

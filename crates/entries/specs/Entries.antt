@@ -71,5 +71,5 @@ basketRules curve alpha size numbers times domain =
     ∷ rule R.Domain (curve .domain || domain)
     ∷ []
 
-abbrev pub rulesOn : Float → List Float → List Float → List Bool → List Float → List Float → List Float → List Float → List Rule
-rulesOn alpha xs fs ns ks ts ends vs = basketRules (curveFaults xs fs) alpha (sizeWrong ns ks ts ends vs) (numbersWrong ks ts ends vs) (timesWrong ts ends) (domainWrong ns ks vs)
+abbrev pub basketRulesOn : Float → List Float → List Float → List Bool → List Float → List Float → List Float → List Float → List Rule
+basketRulesOn alpha xs fs ns ks ts ends vs = basketRules (curveFaults xs fs) alpha (sizeWrong ns ks ts ends vs) (numbersWrong ks ts ends vs) (timesWrong ts ends) (domainWrong ns ks vs)

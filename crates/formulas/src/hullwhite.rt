@@ -1,6 +1,6 @@
 // hullwhitemodel.rs: the analytic formulas of the one-factor model, on factors that are already fetched.
 ghost use mathlib.Core.Path.{_≡_};
-ghost use Rattle.formulas.specs.HullWhite.{h, decayOf, bOf, forwardOf, driftOf, aAt, aOf, zcbOf, stateVarianceOf, deviationOf, volatilityAt, volatilityOf, slopeOf, thetaOf, shortRateVarianceOf, moneynessOf, d1Of, bondPutAt, bondPutOf, bondCallAt, growthOf};
+ghost use Rattle.formulas.specs.HullWhite.{h, stationaryShareOf, bOf, forwardOf, curvePartOf, aAt, aOf, zcbPriceOf, stateVarianceOf, stateDeviationOf, zcbPriceVolatilityAt, zcbPriceVolatilityOf, slopeOf, thetaOf, shortRateVarianceOf, moneynessOf, bondD1Of, bondPutAt, bondPutOf, bondCallAt, growthOf};
 
 // A day, the step of every finite difference.
 pub fn day() -> f64
@@ -16,9 +16,10 @@ pub fn b_of(alpha: f64, t: f64, bond: f64) -> f64
     (1.0 - exponential::exp(-alpha * (bond - t))) / alpha
 }
 
-// 1 less the decay of twice the mean reversion over a time.
-pub fn decay_of(alpha: f64, t: f64) -> f64
-    ensures { λ r. ⌜ r ≡ decayOf alpha t ⌝ }
+// 1 - exp(-2 × alpha × t): of its stationary variance, sigma²/(2 × alpha), the share that the state's
+// variance has reached by t.
+pub fn stationary_share_of(alpha: f64, t: f64) -> f64
+    ensures { λ r. ⌜ r ≡ stationaryShareOf alpha t ⌝ }
 {
     1.0 - exponential::exp(-2.0 * alpha * t)
 }
@@ -30,47 +31,47 @@ pub fn forward_of(p: f64, p_plus: f64) -> f64
     -elementary::ln(p_plus / p) / day()
 }
 
-// Of ln A(t, T) what does not depend on sigma, from b = B(t, T), the forward rate at t, and the factors
-// at t and T.
-pub fn drift_of(b: f64, forward: f64, p_t: f64, p_bond: f64) -> f64
-    ensures { λ r. ⌜ r ≡ driftOf b forward «p_t» «p_bond» ⌝ }
+// The curve's part of ln A(t, T), which no sigma changes, from b = B(t, T), the forward rate at t, and the
+// factors at t and T.
+pub fn curve_part_of(b: f64, forward: f64, p_t: f64, p_bond: f64) -> f64
+    ensures { λ r. ⌜ r ≡ curvePartOf b forward «p_t» «p_bond» ⌝ }
 {
     ieee::fused(b, forward, elementary::ln(p_bond / p_t))
 }
 
-// A(t, T) from its parts, `decay` being that of the option time.
-pub fn a_at(alpha: f64, sigma: f64, decay: f64, b: f64, drift: f64) -> f64
-    ensures { λ r. ⌜ r ≡ aAt alpha sigma decay b drift ⌝ }
+// A(t, T) from its parts, `share` being that of the option time.
+pub fn a_at(alpha: f64, sigma: f64, share: f64, b: f64, curve_part: f64) -> f64
+    ensures { λ r. ⌜ r ≡ aAt alpha sigma share b «curve_part» ⌝ }
 {
-    let spread = sigma * sigma / (4.0 * alpha) * decay * b;
-    exponential::exp(ieee::fused(spread, -b, drift))
+    let spread = sigma * sigma / (4.0 * alpha) * share * b;
+    exponential::exp(ieee::fused(spread, -b, curve_part))
 }
 
 // A(t, T).
 pub fn a_of(alpha: f64, t: f64, sigma: f64, b: f64, forward: f64, p_t: f64, p_bond: f64) -> f64
     ensures { λ r. ⌜ r ≡ aOf alpha t sigma b forward «p_t» «p_bond» ⌝ }
 {
-    let drift = drift_of(b, forward, p_t, p_bond);
-    a_at(alpha, sigma, decay_of(alpha, t), b, drift)
+    let curve_part = curve_part_of(b, forward, p_t, p_bond);
+    a_at(alpha, sigma, stationary_share_of(alpha, t), b, curve_part)
 }
 
 // A bond's price at a short rate.
-pub fn zcb_of(a: f64, b: f64, rate: f64) -> f64
-    ensures { λ r. ⌜ r ≡ zcbOf a b rate ⌝ }
+pub fn zcb_price_of(a: f64, b: f64, rate: f64) -> f64
+    ensures { λ r. ⌜ r ≡ zcbPriceOf a b rate ⌝ }
 {
     a * exponential::exp(-b * rate)
 }
 
 // The deviation of the state at the option time, for a sigma of 1.
-pub fn deviation_of(alpha: f64, t: f64) -> f64
-    ensures { λ r. ⌜ r ≡ deviationOf alpha t ⌝ }
+pub fn state_deviation_of(alpha: f64, t: f64) -> f64
+    ensures { λ r. ⌜ r ≡ stateDeviationOf alpha t ⌝ }
 {
-    ieee::sqrt(decay_of(alpha, t) / (2.0 * alpha))
+    ieee::sqrt(stationary_share_of(alpha, t) / (2.0 * alpha))
 }
 
 // The volatility of a bond's price, from its parts.
-pub fn volatility_at(sigma: f64, b: f64, deviation: f64) -> f64
-    ensures { λ r. ⌜ r ≡ volatilityAt sigma b deviation ⌝ }
+pub fn zcb_price_volatility_at(sigma: f64, b: f64, deviation: f64) -> f64
+    ensures { λ r. ⌜ r ≡ zcbPriceVolatilityAt sigma b deviation ⌝ }
 {
     sigma * b * deviation
 }
@@ -86,7 +87,7 @@ pub struct VolatilityParts {
 pub fn volatility_parts(alpha: f64, t: f64, bond: f64) -> VolatilityParts
     ensures { λ r. ⌜ (r .b ≡ bOf alpha t bond) × (r .variance ≡ stateVarianceOf alpha t) ⌝ }
 {
-    let variance = decay_of(alpha, t) / (2.0 * alpha);
+    let variance = stationary_share_of(alpha, t) / (2.0 * alpha);
     VolatilityParts {
         b: b_of(alpha, t, bond),
         variance,
@@ -94,11 +95,11 @@ pub fn volatility_parts(alpha: f64, t: f64, bond: f64) -> VolatilityParts
 }
 
 // The volatility of a bond's price.
-pub fn volatility_of(alpha: f64, sigma: f64, t: f64, bond: f64) -> f64
-    ensures { λ r. ⌜ r ≡ volatilityOf alpha sigma t bond ⌝ }
+pub fn zcb_price_volatility_of(alpha: f64, sigma: f64, t: f64, bond: f64) -> f64
+    ensures { λ r. ⌜ r ≡ zcbPriceVolatilityOf alpha sigma t bond ⌝ }
 {
     let d = volatility_parts(alpha, t, bond);
-    volatility_at(sigma, d.b, ieee::sqrt(d.variance))
+    zcb_price_volatility_at(sigma, d.b, ieee::sqrt(d.variance))
 }
 
 // The slope of the forward rate, from its values a day apart.
@@ -113,14 +114,18 @@ pub fn theta_of(alpha: f64, t: f64, sigma: f64, forward: f64, slope: f64) -> f64
     ensures { λ r. ⌜ r ≡ thetaOf alpha t sigma forward slope ⌝ }
 {
     let drift = ieee::fused(alpha, forward, slope);
-    ieee::fused(sigma * sigma / (2.0 * alpha), decay_of(alpha, t), drift)
+    ieee::fused(
+        sigma * sigma / (2.0 * alpha),
+        stationary_share_of(alpha, t),
+        drift,
+    )
 }
 
 // The variance of the short rate at a later time.
 pub fn short_rate_variance_of(alpha: f64, t: f64, bond: f64, sigma: f64) -> f64
     ensures { λ r. ⌜ r ≡ shortRateVarianceOf alpha t bond sigma ⌝ }
 {
-    sigma * sigma * decay_of(alpha, bond - t) / (2.0 * alpha)
+    sigma * sigma * stationary_share_of(alpha, bond - t) / (2.0 * alpha)
 }
 
 // The logarithm of a bond's factor over what its strike is worth today.
@@ -131,7 +136,7 @@ pub fn moneyness_of(p_bond: f64, strike_value: f64) -> f64
 }
 
 fn bond_d1(sigma_p: f64, moneyness: f64) -> f64
-    ensures { λ r. ⌜ r ≡ d1Of «sigma_p» moneyness ⌝ }
+    ensures { λ r. ⌜ r ≡ bondD1Of «sigma_p» moneyness ⌝ }
 {
     ieee::fused(0.5 * sigma_p, sigma_p, moneyness) / sigma_p
 }

@@ -21,11 +21,11 @@ use Rattle.lists.specs.Faults.{curveFaults, pillarFaults, couponFaults, gridFau
 use Rattle.lists.proofs.Outcomes.{neither, not-both}
 use Rattle.lookups.specs.Lookups.{Maybe, just, nothing, factorAt, volatilityAt, required, needing, upTo}
 use Rattle.lookups.proofs.Walks.{volatility-first}
-use Rattle.formulas.specs.HullWhite.{h, bOf, forwardOf, aOf, zcbOf, volatilityOf, slopeOf, thetaOf, shortRateVarianceOf, optionletStrikeOf, optionletOf}
-use Rattle.quotes.specs.Formulas.{d1Of, d2Of, blackCallOf, blackPutOf, bachelierCallOf, annuityStep}
+use Rattle.formulas.specs.HullWhite.{h, bOf, forwardOf, aOf, zcbPriceOf, zcbPriceVolatilityOf, slopeOf, thetaOf, shortRateVarianceOf, optionletStrikeOf, optionletOf}
+use Rattle.quotes.specs.Formulas.{quoteD1Of, quoteD2Of, blackCallOf, blackPutOf, bachelierCallOf, annuityStep}
 use Rattle.quotes.specs.Rules.{quoteRules, annuityRules}
-use Rattle.quotes.specs.Utils.{Two, d1d2Worked, d1d2Outcome, blackCallOutcome, blackPutOutcome, bachelierCallOutcome, annuityFrom, annuityPriced, annuityOutcome}
-use Rattle.schedules.specs.Variance.{varianceOf}
+use Rattle.quotes.specs.Utils.{D1D2Values, d1d2Worked, d1d2Outcome, blackCallOutcome, blackPutOutcome, bachelierCallOutcome, annuityFrom, annuityPriced, annuityOutcome}
+use Rattle.schedules.specs.Variance.{piecewiseVarianceOf}
 use Rattle.schedules.specs.Rules.{varianceRules}
 use Rattle.schedules.specs.Parameters as Schedules
 use Rattle.options.specs.declared.options.BondOption.{BondOption}
@@ -49,31 +49,31 @@ finite-only v = finishing-only (finite v) v
 -- ---- kinds 1 to 4
 pub optionlet-met : (option : BondOption) (alpha : Float) (ts fs : List Float) (strike t S sigma : Float)
     → Met (optionRules (curveFaults ts fs) alpha t S sigma strike) (factorsAt ts fs (t ∷ S ∷ []))
-    (λ ps. served (optionletOf strike t S (bondOptionOf option (volatilityOf alpha sigma t S) (optionletStrikeOf strike t S) (nth 0 ps) (nth 1 ps)))) finishing
+    (λ ps. served (optionletOf strike t S (bondOptionOf option (zcbPriceVolatilityOf alpha sigma t S) (optionletStrikeOf strike t S) (nth 0 ps) (nth 1 ps)))) finishing
     (optionletOutcome option alpha ts fs strike t S sigma)
 unfolding optionletOutcome optionletPriced factorsAt
 optionlet-met option alpha ts fs strike t S sigma =
     plain _ _ _ _ _ tt (λ z. factors-only ts fs (t ∷ S ∷ [])) finite-only
     (ap (λ (o : Outcome Float). unless (optionRules (curveFaults ts fs) alpha t S sigma strike) o)
-    (two-and (factorAt ts fs t) (factorAt ts fs S) (served []) (λ p q ps. finishing (optionletOf strike t S (bondOptionOf option (volatilityOf alpha sigma t S) (optionletStrikeOf strike t S) p q)))))
+    (two-and (factorAt ts fs t) (factorAt ts fs S) (served []) (λ p q ps. finishing (optionletOf strike t S (bondOptionOf option (zcbPriceVolatilityOf alpha sigma t S) (optionletStrikeOf strike t S) p q)))))
 
 pub bond-option-met : (option : BondOption) (alpha : Float) (ts fs : List Float) (t T strike sigma : Float)
     → Met (optionRules (curveFaults ts fs) alpha t T sigma strike) (factorsAt ts fs (t ∷ T ∷ []))
-    (λ ps. served (bondOptionOf option (volatilityOf alpha sigma t T) strike (nth 0 ps) (nth 1 ps))) finishing
+    (λ ps. served (bondOptionOf option (zcbPriceVolatilityOf alpha sigma t T) strike (nth 0 ps) (nth 1 ps))) finishing
     (bondOptionOutcome option alpha ts fs t T strike sigma)
 unfolding bondOptionOutcome bondOptionPriced factorsAt
 bond-option-met option alpha ts fs t T strike sigma =
     plain _ _ _ _ _ tt (λ z. factors-only ts fs (t ∷ T ∷ [])) finite-only
     (ap (λ (o : Outcome Float). unless (optionRules (curveFaults ts fs) alpha t T sigma strike) o)
-    (two-and (factorAt ts fs t) (factorAt ts fs T) (served []) (λ p q ps. finishing (bondOptionOf option (volatilityOf alpha sigma t T) strike p q))))
+    (two-and (factorAt ts fs t) (factorAt ts fs T) (served []) (λ p q ps. finishing (bondOptionOf option (zcbPriceVolatilityOf alpha sigma t T) strike p q))))
 
 -- ---- the other formulas of hullwhitemodel.rs
 pub b-met : (alpha t T : Float) → Met (optionRules noFaults alpha t T zero zero) noTimes (λ ps. served (bOf alpha t T)) finishing (Curves.bOutcome alpha t T)
 unfolding Curves.bOutcome
 b-met alpha t T = plain _ _ _ _ _ tt (λ z. never []) finite-only refl
 
-pub zcb-volatility-met : (alpha sigma t T : Float) → Met (optionRules noFaults alpha t T sigma zero) noTimes (λ ps. served (volatilityOf alpha sigma t T)) finishing (Curves.volatilityOutcome alpha sigma t T)
-unfolding Curves.volatilityOutcome
+pub zcb-volatility-met : (alpha sigma t T : Float) → Met (optionRules noFaults alpha t T sigma zero) noTimes (λ ps. served (zcbPriceVolatilityOf alpha sigma t T)) finishing (Curves.zcbPriceVolatilityOutcome alpha sigma t T)
+unfolding Curves.zcbPriceVolatilityOutcome
 zcb-volatility-met alpha sigma t T = plain _ _ _ _ _ tt (λ z. never []) finite-only refl
 
 pub short-rate-variance-met : (alpha t T sigma : Float) → Met (optionRules noFaults alpha t T sigma zero) noTimes (λ ps. served (shortRateVarianceOf alpha t T sigma)) finishing (Curves.shortRateVarianceOutcome alpha t T sigma)
@@ -92,13 +92,13 @@ a-met alpha ts fs t T sigma =
 
 pub zcb-met : (alpha : Float) (ts fs : List Float) (r t T sigma : Float)
     → Met (optionRules (curveFaults ts fs) alpha t T sigma r) (factorsAt ts fs (t ∷ T ∷ (t ⊕ h) ∷ []))
-    (λ ps. served (zcbOf (aOf alpha t sigma (bOf alpha t T) (forwardOf (nth 0 ps) (nth 2 ps)) (nth 0 ps) (nth 1 ps)) (bOf alpha t T) r)) finishing
+    (λ ps. served (zcbPriceOf (aOf alpha t sigma (bOf alpha t T) (forwardOf (nth 0 ps) (nth 2 ps)) (nth 0 ps) (nth 1 ps)) (bOf alpha t T) r)) finishing
     (Curves.zcbOutcome alpha ts fs r t T sigma)
 unfolding Curves.zcbOutcome Curves.zcbPriced factorsAt
 zcb-met alpha ts fs r t T sigma =
     plain _ _ _ _ _ tt (λ z. factors-only ts fs (t ∷ T ∷ (t ⊕ h) ∷ [])) finite-only
     (ap (λ (o : Outcome Float). unless (optionRules (curveFaults ts fs) alpha t T sigma r) o)
-    (three (factorAt ts fs t) (factorAt ts fs T) (factorAt ts fs (t ⊕ h)) (λ p q s. finishing (zcbOf (aOf alpha t sigma (bOf alpha t T) (forwardOf p s) p q) (bOf alpha t T) r))))
+    (three (factorAt ts fs t) (factorAt ts fs T) (factorAt ts fs (t ⊕ h)) (λ p q s. finishing (zcbPriceOf (aOf alpha t sigma (bOf alpha t T) (forwardOf p s) p q) (bOf alpha t T) r))))
 
 pub forward-met : (ts fs : List Float) (t : Float)
     → Met (forwardRules (curveFaults ts fs) t) (factorsAt ts fs (t ∷ (t ⊕ h) ∷ [])) (λ ps. served (forwardOf (nth 0 ps) (nth 1 ps))) finishing (Curves.forwardOutcome ts fs t)
@@ -131,8 +131,8 @@ module _ (alpha : Float) (ts fs : List Float) (t sigma : Float) where
 
 -- ---- utils.rs
 pub d1-d2-met : (fwd strike vol tau : Float)
-    → Met (quoteRules true fwd strike vol tau) noTimes (λ ps. served (record { first = d1Of fwd strike vol tau; second = d2Of vol tau (d1Of fwd strike vol tau) }))
-    (λ (v : Two). cond (finite (v .first) && finite (v .second)) (served v) (refused R.Overflow)) (d1d2Outcome fwd strike vol tau)
+    → Met (quoteRules true fwd strike vol tau) noTimes (λ ps. served (record { first = quoteD1Of fwd strike vol tau; second = quoteD2Of vol tau (quoteD1Of fwd strike vol tau) }))
+    (λ (v : D1D2Values). cond (finite (v .first) && finite (v .second)) (served v) (refused R.Overflow)) (d1d2Outcome fwd strike vol tau)
 unfolding d1d2Outcome d1d2Worked
 d1-d2-met fwd strike vol tau = plain _ _ _ _ _ tt (λ z. never []) (λ v. finishing-only (finite (v .first) && finite (v .second)) v) refl
 
@@ -201,8 +201,8 @@ unfolding Schedules.reachedOutcome
 reached-met ts ss t = plain _ _ _ _ _ tt (λ z. never []) never refl
 
 pub variance-met : (alpha : Float) (ts ss : List Float) (start end : Float)
-    → Met (varianceRules (pillarFaults ts ss) alpha start end) noTimes (λ ps. served (varianceOf alpha ts ss start end)) finishing (Schedules.varianceOutcome alpha ts ss start end)
-unfolding Schedules.varianceOutcome
+    → Met (varianceRules (pillarFaults ts ss) alpha start end) noTimes (λ ps. served (piecewiseVarianceOf alpha ts ss start end)) finishing (Schedules.piecewiseVarianceOutcome alpha ts ss start end)
+unfolding Schedules.piecewiseVarianceOutcome
 variance-met alpha ts ss start end = plain _ _ _ _ _ tt (λ z. never []) finite-only refl
 
 list-only : (xs : List Float) → Only finished (finishingList xs)

@@ -25,19 +25,19 @@ use Rattle.search.specs.Reached.{ladderRates, upToGood, fromGood, midpoints, on
 use Rattle.search.proofs.Reaching.{exactly}
 use Rattle.bisection.specs.declared.halving.Ends.{Ends}
 use Rattle.bisection.specs.declared.result.Fit.{Fit}
-use Rattle.bisection.specs.Solve.{lowest, highest, sameSign, residualAt, movedTo, halvingsFrom, endsOf, solveOf}
+use Rattle.bisection.specs.Solve.{lowest, highest, sameSign, residualAt, endsMovedTo, halvingsFrom, endsOf, solveOf}
 use Rattle.bisection.specs.Tried.{triedFrom, triedOf}
 use Rattle.bisection.proofs.Steps.{mid, Met, stopped, close, away, met, last-stopped, last-served, halving-stopped, halving-close, halving-away, tried-last, tried-stopped, tried-close, tried-away, Begun, low-stopped, high-stopped, alike, apart, begun, solve-low, solve-high, solve-alike, solve-apart, tried-apart}
 use Rattle.jamshidian.specs.Price as Model
 use Rattle.jamshidian.specs.Price.{priceAt}
-use Rattle.jamshidian.specs.PricedSum.{sumOf}
+use Rattle.jamshidian.specs.PricedSum.{modelSumOf}
 use Rattle.closedform.specs.declared.bond_option.SwaptionType.{SwaptionType}
 use Rattle.closedform.specs.Newton.{flatLimit, sumsOf, stepped}
 use Rattle.closedform.specs.Components.{componentsOf}
 use Rattle.objectives.specs.declared.market.Quote.{Quote}
-use Rattle.objectives.specs.Market.{swaptionMarketOf}
+use Rattle.objectives.specs.Market.{swaptionMarketPriceOf}
 use Rattle.objectives.specs.Objective.{valueAlone, swaptionObjective}
-use Rattle.entries.specs.Entries.{Entry, entriesOf, rulesOn}
+use Rattle.entries.specs.Entries.{Entry, entriesOf, basketRulesOn}
 use Rattle.baskets.specs.Basket.{fitOf, Records, withFit, fitsOf, Bumps, bumpOf, withBump, bumpsOf, basketFrom, fittedBasket, basketOf}
 use Rattle.grounds.specs.Searches.{searchAndStep, rateAndStep}
 
@@ -234,7 +234,7 @@ module _ (f : Float → Outcome Float) where
       go : Met f e → ((e' : Ends) → answerOf (halvingsFrom f left (suc made) e') ≡ firstRefused (map residualAnswer (triedFrom f left e'))) → answerOf (halvingsFrom f (suc left) made e) ≡ firstRefused (map residualAnswer (triedFrom f (suc left) e))
       go (stopped r p) k = ap answerOf (halving-stopped f made e left p) ∙ refuses (mid e) [] p ∙ all-of (tried-stopped f e left p)
       go (close v p q) k = ap answerOf (halving-close f made e left p q) ∙ passes (mid e) [] p ∙ all-of (tried-close f e left p q)
-      go (away v p q) k = ap answerOf (halving-away f made e left p q) ∙ k (movedTo e (mid e) v) ∙ passes (mid e) (map residualAnswer (triedFrom f left (movedTo e (mid e) v))) p ∙ all-of (tried-away f e left p q)
+      go (away v p q) k = ap answerOf (halving-away f made e left p q) ∙ k (endsMovedTo e (mid e) v) ∙ passes (mid e) (map residualAnswer (triedFrom f left (endsMovedTo e (mid e) v))) p ∙ all-of (tried-away f e left p q)
 
   -- the signs, of residuals that are known
   signs-are : {x y : Outcome Float} → residualAt f lowest ≡ x → residualAt f highest ≡ y → signsAnswer ≡ onto x (λ a. onto y (λ b. refusedWhere R.NoSignChange (sameSign a b)))
@@ -267,7 +267,7 @@ module _ (f : Float → Outcome Float) where
 module _ (alpha : Float) (payments accruals : List Float) (strike t pt pPlus : Float) (ps : List Float) (sigma : Float) where
   -- the priced coupon sum, as a function of the rate
   abbrev pub pricedSum : Float → Float
-  pricedSum = sumOf alpha t payments accruals strike sigma pt pPlus ps
+  pricedSum = modelSumOf alpha t payments accruals strike sigma pt pPlus ps
 
   as-its-search : {B : Type 0} (o : Outcome Values) (made : Values → B) → answerOf (following o (λ root. served (made root))) ≡ answerOf o
   as-its-search (served root) made = refl
@@ -281,7 +281,7 @@ module _ (alpha : Float) (payments accruals : List Float) (strike t pt pPlus : F
   unfolding swaptionObjective
   objective-in-order quote vol = go (priceAt alpha payments accruals strike t pt pPlus ps sigma) ∙ price-in-order
     where
-      go : (o : Outcome Model.Valued) → answerOf (following (valueAlone o) (λ model. served (model ⊖ swaptionMarketOf quote strike t vol accruals pt ps))) ≡ answerOf o
+      go : (o : Outcome Model.ModelValued) → answerOf (following (valueAlone o) (λ model. served (model ⊖ swaptionMarketPriceOf quote strike t vol accruals pt ps))) ≡ answerOf o
       go (served v) = refl
       go (refused r) = refl
 
@@ -374,9 +374,9 @@ module _ (alpha : Float) (xs fs : List Float) where
 
   -- the rules over all entries first
   pub basket-in-order : (ns : List Bool) (ks ts ends vs : List Float)
-      → answerOf (basketOf alpha xs fs ns ks ts ends vs) ≡ firstRefused (firstOf (rulesOn alpha xs fs ns ks ts ends vs) ∷ basketAnswers (entriesOf ns ks ts ends vs))
+      → answerOf (basketOf alpha xs fs ns ks ts ends vs) ≡ firstRefused (firstOf (basketRulesOn alpha xs fs ns ks ts ends vs) ∷ basketAnswers (entriesOf ns ks ts ends vs))
   unfolding basketOf
-  basket-in-order ns ks ts ends vs = go (firstOf (rulesOn alpha xs fs ns ks ts ends vs)) (fittedBasket alpha xs fs es) ∙ ap (then (firstOf (rulesOn alpha xs fs ns ks ts ends vs))) (fitted-in-order es) ∙ sym (first-then (firstOf (rulesOn alpha xs fs ns ks ts ends vs)) (basketAnswers es))
+  basket-in-order ns ks ts ends vs = go (firstOf (basketRulesOn alpha xs fs ns ks ts ends vs)) (fittedBasket alpha xs fs es) ∙ ap (then (firstOf (basketRulesOn alpha xs fs ns ks ts ends vs))) (fitted-in-order es) ∙ sym (first-then (firstOf (basketRulesOn alpha xs fs ns ks ts ends vs)) (basketAnswers es))
     where
       es : List Entry
       es = entriesOf ns ks ts ends vs

@@ -16,22 +16,22 @@ use Rattle.lists.specs.Checks.{allOf}
 use Rattle.lists.specs.Faults.{curveFaults}
 use Rattle.lookups.specs.Lookups.{factorAt}
 use Rattle.formulas.specs.HullWhite.{h, forwardOf}
-use Rattle.schedules.specs.Variance.{varianceOf}
+use Rattle.schedules.specs.Variance.{piecewiseVarianceOf}
 use Rattle.coupons.specs.Sum.{couponSum}
 use Rattle.search.specs.Rate.{criticalOf}
 use Rattle.search.specs.Values.{Values, criticalOutcome}
 use Rattle.terms.specs.Terms.{coefficientsOf, bsOf, factorsAt}
 use Rattle.jamshidian.specs.Price as Model
 use Rattle.jamshidian.specs.Price.{priceAt, finishingSwaption}
-use Rattle.swaptions.specs.Model.{rulesOn, termsPriced, modelPriced, modelOutcome}
+use Rattle.swaptions.specs.Model.{modelRulesOn, termsPriced, modelPriced, modelOutcome}
 use Rattle.closedform.specs.declared.bond_option.SwaptionType.{SwaptionType}
 use Rattle.closedform.specs.declared.newton.Sums.{Sums}
-use Rattle.closedform.specs.Affine.{deviationOf, affinesOf}
+use Rattle.closedform.specs.Affine.{pricerDeviationOf, affineAListOf}
 use Rattle.closedform.specs.Newton.{flatLimit, sumsOf, stepped}
 use Rattle.closedform.specs.Components.{componentsOf}
 use Rattle.critical.specs.Find.{searchRules, finiteRoot, finishingRate, findOutcome}
 use Rattle.critical.specs.Implicit.{Implicit, finishingImplicit, steppedFrom, implicitOutcome}
-use Rattle.valuations.specs.Value.{Valued, finishingValuation, pricedBy, swaptionPriced}
+use Rattle.valuations.specs.Value.{PricerValued, finishingValuation, pricedBy, swaptionPriced}
 use Rattle.pricers.specs.Pricer as Pricer
 use Rattle.bisection.specs.declared.result.Fit.{Fit}
 use Rattle.bisection.specs.Result.{finishingFit}
@@ -45,7 +45,7 @@ use Rattle.grounds.specs.Stages.{evaluated, finished, Only, Met, met}
 use Rattle.grounds.specs.Steps.{nth, noTimes, never, by, either, following-only, finishing-only, factors-only, search-only, solve-only, two-and}
 
 -- ---- kind 5
-model-only : (v : Model.Valued) → Only finished (finishingSwaption v)
+model-only : (v : Model.ModelValued) → Only finished (finishingSwaption v)
 model-only v = let b = v .root .bracket in finishing-only (finite (v .value) && finite (v .root .rate) && finite (b .lower) && finite (b .upper) && finite (b .«lower_sum») && finite (b .«upper_sum»)) v
 
 module _ (alpha : Float) (ts fs payments accruals : List Float) (strike t sigma : Float) where
@@ -53,34 +53,34 @@ module _ (alpha : Float) (ts fs payments accruals : List Float) (strike t sigma 
   abbrev pub modelTimes : Bool → List Float
   modelTimes none = cond none [] (t ∷ (t ⊕ h) ∷ payments)
 
-  abbrev pub modelValued : Bool → List Float → Outcome Model.Valued
-  modelValued none ps = cond none (served Model.noValued) (priceAt alpha payments accruals strike t (nth 0 ps) (nth 1 ps) (drop 2 ps) sigma)
+  abbrev pub modelValued : Bool → List Float → Outcome Model.ModelValued
+  modelValued none ps = cond none (served Model.noModelValued) (priceAt alpha payments accruals strike t (nth 0 ps) (nth 1 ps) (drop 2 ps) sigma)
 
   price-only : (ps : List Float) → Only evaluated (priceAt alpha payments accruals strike t (nth 0 ps) (nth 1 ps) (drop 2 ps) sigma)
   unfolding priceAt
   price-only ps = following-only (criticalOutcome (criticalOf _)) _ (search-only (criticalOf _)) (λ root. never _)
 
-  model-looked : (none : Bool) → cond none (served Model.noValued) (modelPriced alpha ts fs payments accruals strike t sigma) ≡ following (factorsAt ts fs (modelTimes none)) (λ ps. following (modelValued none ps) finishingSwaption)
+  model-looked : (none : Bool) → cond none (served Model.noModelValued) (modelPriced alpha ts fs payments accruals strike t sigma) ≡ following (factorsAt ts fs (modelTimes none)) (λ ps. following (modelValued none ps) finishingSwaption)
   unfolding modelPriced termsPriced factorsAt ofBits
   model-looked true = refl
   model-looked false = two-and (factorAt ts fs t) (factorAt ts fs (t ⊕ h)) (factorsAt ts fs payments) (λ pt pPlus ps. termsPriced alpha payments accruals strike t sigma pt pPlus ps)
 
-  pub model-met : Met (rulesOn alpha ts fs payments accruals strike t sigma) (factorsAt ts fs (modelTimes (eqb (length payments) 0))) (modelValued (eqb (length payments) 0)) finishingSwaption (modelOutcome alpha ts fs payments accruals strike t sigma)
+  pub model-met : Met (modelRulesOn alpha ts fs payments accruals strike t sigma) (factorsAt ts fs (modelTimes (eqb (length payments) 0))) (modelValued (eqb (length payments) 0)) finishingSwaption (modelOutcome alpha ts fs payments accruals strike t sigma)
   unfolding modelOutcome
   model-met =
-      met _ _ _ _ tt (λ z. factors-only ts fs (modelTimes (eqb (length payments) 0))) (λ ps. either (eqb (length payments) 0) (never Model.noValued) (price-only ps)) model-only _
-      (ap (λ (o : Outcome Model.Valued). unless (rulesOn alpha ts fs payments accruals strike t sigma) o) (model-looked (eqb (length payments) 0)))
+      met _ _ _ _ tt (λ z. factors-only ts fs (modelTimes (eqb (length payments) 0))) (λ ps. either (eqb (length payments) 0) (never Model.noModelValued) (price-only ps)) model-only _
+      (ap (λ (o : Outcome Model.ModelValued). unless (modelRulesOn alpha ts fs payments accruals strike t sigma) o) (model-looked (eqb (length payments) 0)))
 
 -- ---- kinds 6 and 7
 
 -- the search, whose refusals are 9 and 10, then the Newton step, whose refusal is 11
-abbrev pub searchAndStep : SwaptionType → Float → Float → List Float → List Float → List Float → List Float → List Float → Float → Float → Outcome Valued
+abbrev pub searchAndStep : SwaptionType → Float → Float → List Float → List Float → List Float → List Float → List Float → Float → Float → Outcome PricerValued
 searchAndStep option deviation pt cs affs bs ps owns notional side =
     following (criticalOutcome (criticalOf (couponSum cs affs bs))) (λ root.
     following (stepped (root .rate) (sumsOf (root .rate) cs affs bs)) (λ s.
     served (record { value = componentsOf option (not (allOf Zero owns)) deviation pt s cs affs bs ps owns ⊗ notional ⊗ side; after-step = s; root = root })))
 
-valuation-only : (v : Valued) → Only finished (finishingValuation v)
+valuation-only : (v : PricerValued) → Only finished (finishingValuation v)
 valuation-only v =
     let b = v .root .bracket in
     finishing-only (finite (v .value) && finite (v .after-step) && finite (v .root .rate) && finite (b .lower) && finite (b .upper) && finite (b .«lower_sum») && finite (b .«upper_sum»)) v
@@ -120,13 +120,13 @@ nested {B = B} {D = D} (served a) f g k = go (f a)
 
 module _ (option : SwaptionType) (alpha : Float) (pls ss ts fs payments accruals owns : List Float) (strike t notional side : Float) where
   -- on the factors found at t, t + h and the payment times
-  abbrev pub pricerValued : List Float → Outcome Valued
+  abbrev pub pricerValued : List Float → Outcome PricerValued
   pricerValued qs =
       let pt = nth 0 qs in
       let ps = drop 2 qs in
-      let variance = varianceOf alpha pls ss zero t in
+      let variance = piecewiseVarianceOf alpha pls ss zero t in
       let bs = bsOf alpha t payments in
-      searchAndStep option (deviationOf variance) pt (coefficientsOf strike accruals) (affinesOf variance (forwardOf pt (nth 1 qs)) pt bs ps) bs ps owns notional side
+      searchAndStep option (pricerDeviationOf variance) pt (coefficientsOf strike accruals) (affineAListOf variance (forwardOf pt (nth 1 qs)) pt bs ps) bs ps owns notional side
 
   valued-only : (qs : List Float) → Only evaluated (pricerValued qs)
   valued-only qs = following-only (criticalOutcome (criticalOf _)) _ (search-only (criticalOf _)) (λ root. following-only (stepped (root .rate) _) _ (step-only (root .rate) _) (λ s. never _))
@@ -137,12 +137,12 @@ module _ (option : SwaptionType) (alpha : Float) (pls ss ts fs payments accruals
       two-and (factorAt ts fs t) (factorAt ts fs (t ⊕ h)) (factorsAt ts fs payments) _
       ∙ alike (factorsAt ts fs (t ∷ (t ⊕ h) ∷ payments)) (λ qs. priced-steps option _ _ _ _ _ _ owns notional side)
 
-  pub pricer-met : Met (Pricer.rulesOn alpha pls ss ts fs payments accruals owns strike t notional side) (factorsAt ts fs (t ∷ (t ⊕ h) ∷ payments)) pricerValued finishingValuation
+  pub pricer-met : Met (Pricer.pricerRulesOn alpha pls ss ts fs payments accruals owns strike t notional side) (factorsAt ts fs (t ∷ (t ⊕ h) ∷ payments)) pricerValued finishingValuation
       (Pricer.pricerOutcome option alpha pls ss ts fs payments accruals owns strike t notional side)
   unfolding Pricer.pricerOutcome
   pricer-met =
       met _ _ _ _ tt (λ z. factors-only ts fs (t ∷ (t ⊕ h) ∷ payments)) valued-only valuation-only _
-      (ap (λ (o : Outcome Valued). unless (Pricer.rulesOn alpha pls ss ts fs payments accruals owns strike t notional side) o) pricer-looked)
+      (ap (λ (o : Outcome PricerValued). unless (Pricer.pricerRulesOn alpha pls ss ts fs payments accruals owns strike t notional side) o) pricer-looked)
 
 -- ---- the critical rate as calls, on coefficients, A and B: they need no time
 rate-only : (v : Values) → Only finished (finishingRate v)

@@ -18,7 +18,7 @@ use Rattle.search.specs.declared.Critical.{Critical}
 use Rattle.search.specs.Values.{criticalOutcome}
 use Rattle.terms.specs.Terms.{factorsAt}
 use Rattle.bisection.specs.declared.halving.Ends.{Ends}
-use Rattle.bisection.specs.Solve.{lowest, highest, sameSign, closeEnough, residualAt, movedTo, unconvergedAt, halvingsFrom, endsOf, solveOf}
+use Rattle.bisection.specs.Solve.{lowest, highest, sameSign, closeEnough, residualAt, endsMovedTo, unconvergedAt, halvingsFrom, endsOf, solveOf}
 use Rattle.grounds.specs.Stages.{Stage, off-curve, evaluated, finished, stageOf, Only, Met, allRules, met}
 
 -- the i-th of the factors found, from 0
@@ -85,7 +85,7 @@ module _ (f : Float → Outcome Float) (k : (sigma : Float) → Only evaluated (
   halvings-only zero made e = following-only (residualAt f (midpointOf (e .low) (e .high))) _ (residual-only _) (λ v. never _)
   halvings-only (suc left) made e =
       following-only (residualAt f (midpointOf (e .low) (e .high))) _ (residual-only _) (λ v.
-      either (closeEnough v) (never _) (halvings-only left (suc made) (movedTo e (midpointOf (e .low) (e .high)) v)))
+      either (closeEnough v) (never _) (halvings-only left (suc made) (endsMovedTo e (midpointOf (e .low) (e .high)) v)))
 
   pub solve-only : Only evaluated (solveOf f)
   unfolding solveOf

@@ -7,11 +7,11 @@ use Rattle.search.specs.declared.Critical.{Critical}
 use Rattle.coupons.specs.Sum.{couponSum}
 use Rattle.search.specs.Values.{criticalOutcome}
 use Rattle.search.specs.Facts.{Searched}
-use Rattle.terms.specs.Terms.{affinesOf}
+use Rattle.terms.specs.Terms.{aListAt}
 use Rattle.jamshidian.specs.Ahead.{putsAhead, priceAhead}
 
-module _ (alpha sigma decay deviation pt : Float) (cs bs drifts ps : List Float) {affs : List Float} {r : Critical} where
-  pub price-is : affs ≡ affinesOf alpha sigma decay bs drifts → Searched (couponSum cs affs bs) r → (x : Critical) → r ≡ x
-      → following (criticalOutcome x) (λ root. served (record { value = putsAhead sigma deviation pt (root .rate) cs affs bs ps; root = root })) ≡ priceAhead alpha sigma decay deviation pt cs bs drifts ps
+module _ (alpha sigma share deviation pt : Float) (cs bs curve-parts ps : List Float) {affs : List Float} {r : Critical} where
+  pub price-is : affs ≡ aListAt alpha sigma share bs curve-parts → Searched (couponSum cs affs bs) r → (x : Critical) → r ≡ x
+      → following (criticalOutcome x) (λ root. served (record { value = putsAhead sigma deviation pt (root .rate) cs affs bs ps; root = root })) ≡ priceAhead alpha sigma share deviation pt cs bs curve-parts ps
   unfolding priceAhead
   price-is e g x h = rw (← e, ← g .is, h)

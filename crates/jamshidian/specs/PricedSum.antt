@@ -3,8 +3,8 @@ use mathlib.Core.List.{List}
 use lib.Ieee.{Float}
 use Rattle.formulas.specs.HullWhite.{forwardOf}
 use Rattle.coupons.specs.Sum.{couponSum}
-use Rattle.terms.specs.Terms.{coefficientsOf, bsOf, asOf}
+use Rattle.terms.specs.Terms.{coefficientsOf, bsOf, aListOf}
 
 -- the priced coupon sum, as a function of the rate, of a swaption whose factors at t, t + h and the payment times are pt, pPlus and ps
-abbrev pub sumOf : Float → Float → List Float → List Float → Float → Float → Float → Float → List Float → Float → Float
-sumOf alpha t payments accruals strike sigma pt pPlus ps = couponSum (coefficientsOf strike accruals) (asOf alpha t sigma (forwardOf pt pPlus) pt payments ps) (bsOf alpha t payments)
+abbrev pub modelSumOf : Float → Float → List Float → List Float → Float → Float → Float → Float → List Float → Float → Float
+modelSumOf alpha t payments accruals strike sigma pt pPlus ps = couponSum (coefficientsOf strike accruals) (aListOf alpha t sigma (forwardOf pt pPlus) pt payments ps) (bsOf alpha t payments)

@@ -23,11 +23,16 @@ pub enum Swaption {
 }
 
 // One coupon's bond put, struck at the bond's price at the critical rate.
-fn put(sigma: f64, deviation: f64, p_t: f64, rate: f64, a: f64, b: f64, p: f64) -> f64
+fn coupon_put(sigma: f64, deviation: f64, p_t: f64, rate: f64, a: f64, b: f64, p: f64) -> f64
     ensures { λ r. ⌜ r ≡ putAhead sigma deviation «p_t» rate a b p ⌝ }
 {
-    let strike = formulas::zcb_of(a, b, rate);
-    formulas::bond_put_of(formulas::volatility_at(sigma, b, deviation), strike, p_t, p)
+    let strike = formulas::zcb_price_of(a, b, rate);
+    formulas::bond_put_of(
+        formulas::zcb_price_volatility_at(sigma, b, deviation),
+        strike,
+        p_t,
+        p,
+    )
 }
 
 // The coupons' puts, each times its coefficient, fused. A caller has an A, a B and a factor for each
@@ -48,34 +53,34 @@ fn puts(
     let mut total = 0.0;
     let mut i = 0;
     while i < c.len() {
-        let price = put(sigma, deviation, p_t, rate, a[i], b[i], p[i]);
+        let price = coupon_put(sigma, deviation, p_t, rate, a[i], b[i], p[i]);
         total = ieee::fused(c[i], price, total);
         i += 1;
     }
     total
 }
 
-// The price at a sigma: A a coupon, the search, then the puts. `decay` and `deviation` are those of the option
-// time, p_t its factor; c, b, drift and p are the terms' coefficients, B, drifts and factors. A caller that has
+// The price at a sigma: A a coupon, the search, then the puts. `share` and `deviation` are those of the option
+// time, p_t its factor; c, b, curve_part and p are the terms' coefficients, B, curve's parts and factors. A caller that has
 // asked rule 1 of the coupons has them of one length of at most 64.
 pub fn price_at(
     alpha: f64,
     sigma: f64,
-    decay: f64,
+    share: f64,
     deviation: f64,
     p_t: f64,
     c: &[f64],
     b: &[f64],
-    drift: &[f64],
+    curve_part: &[f64],
     p: &[f64],
 ) -> Swaption
-    requires { ⌜ (length (now c) ≤ 64) × (length (now b) ≡ length (now c)) × (length (now drift) ≡ length (now c)) × (length (now p) ≡ length (now c)) ⌝ }
-    ensures { λ r. ⌜ swaptionOutcome r ≡ priceAhead alpha sigma decay deviation «p_t» (now (c .entry)) (now (b .entry)) (now (drift .entry)) (now (p .entry)) ⌝ }
+    requires { ⌜ (length (now c) ≤ 64) × (length (now b) ≡ length (now c)) × (length (now «curve_part») ≡ length (now c)) × (length (now p) ≡ length (now c)) ⌝ }
+    ensures { λ r. ⌜ swaptionOutcome r ≡ priceAhead alpha sigma share deviation «p_t» (now (c .entry)) (now (b .entry)) (now («curve_part» .entry)) (now (p .entry)) ⌝ }
 {
     let n = c.len();
     let mut a = [0.0; 64];
-    terms::affines(alpha, sigma, decay, b, drift, &mut a[..n]);
-    let found = terms::critical_rate(c, &a[..n], b);
+    terms::a_list_at(alpha, sigma, share, b, curve_part, &mut a[..n]);
+    let found = terms::find_critical_rate_of(c, &a[..n], b);
     if let Critical::NotANumber = found {
         return Swaption::Refused(Refusal::NanReached);
     }

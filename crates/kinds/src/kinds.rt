@@ -2,11 +2,11 @@
 ghost use mathlib.Core.Path.{_≡_};
 ghost use mathlib.Core.List.{[]};
 ghost use Rattle.lists.specs.Faults.{curveFaults};
-ghost use Rattle.kinds.specs.Told.{listsOf, optionTold};
+ghost use Rattle.kinds.specs.Results.{requestOfLists, optionResult};
 ghost use Rattle.kinds.specs.Worked.{wholeOf, swaptionWhole, fitWhole, workOf};
-use super::told;
-use super::told::Told;
-use super::told::Worked;
+use super::results;
+use super::results::JobResult;
+use super::results::Worked;
 use calibration::Quote;
 use layout::Job;
 use lists::Faults;
@@ -15,12 +15,12 @@ use pricers::SwaptionType;
 
 // Kinds 1 to 4: caplet, floorlet, bond put, bond call. What is told is all that their calls return.
 // A caller that works a file's jobs has the curve's faults, worked once for all of them.
-pub fn option_told(curve: Faults, alpha: f64, times: &[f64], factors: &[f64], j: Job) -> Told
+pub fn option_result(curve: Faults, alpha: f64, times: &[f64], factors: &[f64], j: Job) -> JobResult
     requires { ⌜ curve ≡ curveFaults (now times) (now factors) ⌝ }
-    ensures { λ r. ⌜ r ≡ optionTold (listsOf alpha [] [] (now (times .entry)) (now (factors .entry)) [] [] [] [] [] []) j ⌝ }
+    ensures { λ r. ⌜ r ≡ optionResult (requestOfLists alpha [] [] (now (times .entry)) (now (factors .entry)) [] [] [] [] [] []) j ⌝ }
 {
     if j.kind == 1 {
-        return told::price(options::optionlet_on(
+        return results::price(options::optionlet_on(
             BondOption::Put,
             curve,
             alpha,
@@ -33,7 +33,7 @@ pub fn option_told(curve: Faults, alpha: f64, times: &[f64], factors: &[f64], j:
         ));
     }
     if j.kind == 2 {
-        return told::price(options::optionlet_on(
+        return results::price(options::optionlet_on(
             BondOption::Call,
             curve,
             alpha,
@@ -46,7 +46,7 @@ pub fn option_told(curve: Faults, alpha: f64, times: &[f64], factors: &[f64], j:
         ));
     }
     if j.kind == 3 {
-        return told::price(options::bond_option_on(
+        return results::price(options::bond_option_on(
             BondOption::Put,
             curve,
             alpha,
@@ -58,7 +58,7 @@ pub fn option_told(curve: Faults, alpha: f64, times: &[f64], factors: &[f64], j:
             j.d,
         ));
     }
-    told::price(options::bond_option_on(
+    results::price(options::bond_option_on(
         BondOption::Call,
         curve,
         alpha,
@@ -86,7 +86,7 @@ fn swaption_work(
     j: Job,
 ) -> Worked
     requires { ⌜ curve ≡ curveFaults (now times) (now factors) ⌝ }
-    ensures { λ r. ⌜ wholeOf r ≡ swaptionWhole (listsOf alpha (now (pillars .entry)) (now (sigmas .entry)) (now (times .entry)) (now (factors .entry)) (now (payments .entry)) (now (accruals .entry)) (now (owns .entry)) [] [] []) j ⌝ }
+    ensures { λ r. ⌜ wholeOf r ≡ swaptionWhole (requestOfLists alpha (now (pillars .entry)) (now (sigmas .entry)) (now (times .entry)) (now (factors .entry)) (now (payments .entry)) (now (accruals .entry)) (now (owns .entry)) [] [] []) j ⌝ }
 {
     if j.kind == 5 {
         return Worked::Swaption(swaptions::swaption_price_on(
@@ -149,7 +149,7 @@ fn fit_work(
     j: Job,
 ) -> Worked
     requires { ⌜ curve ≡ curveFaults (now times) (now factors) ⌝ }
-    ensures { λ r. ⌜ wholeOf r ≡ fitWhole (listsOf alpha [] [] (now (times .entry)) (now (factors .entry)) (now (payments .entry)) (now (accruals .entry)) [] [] [] []) j ⌝ }
+    ensures { λ r. ⌜ wholeOf r ≡ fitWhole (requestOfLists alpha [] [] (now (times .entry)) (now (factors .entry)) (now (payments .entry)) (now (accruals .entry)) [] [] [] []) j ⌝ }
 {
     if j.kind == 8 {
         return Worked::Fit(calibration::fit_caplet_on(
@@ -220,7 +220,7 @@ pub fn work(
     j: Job,
 ) -> Worked
     requires { ⌜ curve ≡ curveFaults (now times) (now factors) ⌝ }
-    ensures { λ r. ⌜ wholeOf r ≡ workOf (listsOf alpha (now (pillars .entry)) (now (sigmas .entry)) (now (times .entry)) (now (factors .entry)) (now (payments .entry)) (now (accruals .entry)) (now (owns .entry)) [] [] []) j ⌝ }
+    ensures { λ r. ⌜ wholeOf r ≡ workOf (requestOfLists alpha (now (pillars .entry)) (now (sigmas .entry)) (now (times .entry)) (now (factors .entry)) (now (payments .entry)) (now (accruals .entry)) (now (owns .entry)) [] [] []) j ⌝ }
 {
     if j.kind < 8 {
         return swaption_work(

@@ -1,9 +1,9 @@
 // A job of kinds 1 to 11: which call it is, on which of the job's fields, and what is told of its outcome.
 mod kinds;
-mod told;
+mod results;
 
-pub use kinds::option_told;
+pub use kinds::option_result;
 pub use kinds::work;
-pub use told::Told;
-pub use told::Worked;
-pub use told::tell;
+pub use results::JobResult;
+pub use results::Worked;
+pub use results::job_result;

@@ -43,6 +43,6 @@ abbrev pub Stands : List ℕ → Layout → List Float → ℕ → Type 0
 Stands file l floats which = let list = listOf (requestOf file l) which in take (length list) (drop (columnAt l which .place) floats) ≡ list
 
 -- each of the nine at its own
-pub record Holds (file : List ℕ) (l : Layout) (floats : List Float) : Type 0 where
+pub record HoldsLists (file : List ℕ) (l : Layout) (floats : List Float) : Type 0 where
   pub room : length floats ≡ 6464
   pub lists : (which : ℕ) → which < 9 → Stands file l floats which

@@ -6,7 +6,7 @@ ghost use lib.ListN.{length, drop};
 ghost use Rattle.layout.specs.declared.parts.Laid.the-variants.{Parts};
 ghost use Rattle.layout.specs.Layout.{layoutOf};
 ghost use Rattle.layout.specs.Request.{requestOf};
-ghost use Rattle.layout.specs.Lists.{listOf, Holds, columnOn, columnAt};
+ghost use Rattle.layout.specs.Lists.{listOf, HoldsLists, columnOn, columnAt};
 use crate::parts::Layout;
 use crate::parts::Part;
 use crate::records;
@@ -65,7 +65,7 @@ fn read_list(file: &[u8], l: Layout, which: usize, out: &mut [f64]) -> usize
 // the longest lists that a file may have.
 pub fn read_lists(file: &[u8], l: Layout, floats: &mut [f64])
     requires { ⌜ (layoutOf (now file) ≡ Parts l) × (length (now floats) ≡ 6464) ⌝ }
-    ensures { λ _. ⌜ Holds (now (file .entry)) l (now (floats .exit)) ⌝ }
+    ensures { λ _. ⌜ HoldsLists (now (file .entry)) l (now (floats .exit)) ⌝ }
 {
     let mut which = 0;
     while which < 9 {
@@ -79,7 +79,7 @@ pub fn read_lists(file: &[u8], l: Layout, floats: &mut [f64])
 // List `which` of a run file, where `read_lists` has put it: a caller hands on the floats that were read from
 // this very file, and asks for one of the nine.
 pub fn list<'a>(file: &[u8], l: Layout, floats: &'a [f64], which: usize) -> &'a [f64]
-    requires { ⌜ (layoutOf (now file) ≡ Parts l) × Holds (now file) l (now floats) × (which < 9) ⌝ }
+    requires { ⌜ (layoutOf (now file) ≡ Parts l) × HoldsLists (now file) l (now floats) × (which < 9) ⌝ }
     ensures { λ r. ⌜ now r ≡ listOf (requestOf (now (file .entry)) l) which ⌝ }
 {
     let c = column_at(l, which);

@@ -9,7 +9,7 @@ use Rattle.lists.specs.declared.refusals.Answer.{Answer}
 use Rattle.lists.specs.declared.refusals.Answer.the-variants as A
 use Rattle.lists.specs.declared.refusals.Price.{Price}
 use Rattle.lists.specs.declared.refusals.Price.the-variants as P
-use Rattle.lists.specs.Refusals.{Outcome, served, refused, after, outcomeOf, toldOutcome, Priced}
+use Rattle.lists.specs.Refusals.{Outcome, served, refused, after, outcomeOf, reportedPrice, Priced}
 
 -- ---- neither of two rules applies
 pub neither : (a b : Bool) → (a || b) ≡ false → (a ≡ false) × (b ≡ false)
@@ -25,7 +25,7 @@ let-through answer rest e h = rw (← h, e) refl
 
 -- ---- a call with one value, turned down by its rules or let through
 pub priced : (p : Price) {o : Outcome Float} → outcomeOf p ≡ o → Priced p o
-priced p h = record { outcome = h; report = ap toldOutcome h }
+priced p h = record { outcome = h; report = ap reportedPrice h }
 
 pub priced-refused : (answer : Answer) {a : Answer} {q : Refusal} (rest : Outcome Float) → answer ≡ A.Refused q → answer ≡ a → Priced (P.Refused q) (after a rest)
 priced-refused answer rest e h = priced _ (sym (turned-down answer rest e h))

@@ -10,7 +10,7 @@ use lib.ListN.{length, getD, drop, take, set}
 use lib.Seq.{drop-cons, append-snoc, take-suc-set}
 use lib.Ieee.{Float, nan}
 use Rattle.lists.specs.declared.checks.Test.{Test}
-use Rattle.lists.specs.Checks.{passesOf, allOf, stepOf, inOrderFrom, inOrder}
+use Rattle.lists.specs.Checks.{passesOf, allOf, followsOf, inOrderFrom, inOrder}
 
 -- ---- the list from place i on, and the list up to place i once there is a value at i
 pub next : (xs : List Float) (i : ℕ) → i < length xs → drop i xs ≡ getD xs i nan ∷ drop (i + 1) xs
@@ -41,11 +41,11 @@ module _ (test : Test) (xs : List Float) (i : ℕ) where
 
 -- ---- every step passes, in either order
 module _ (strictly : Bool) (before : Float) (xs : List Float) (i : ℕ) where
-  pub order-turn : i < length xs → stepOf strictly before (getD xs i nan) ≡ true → inOrderFrom strictly before (drop i xs) ≡ inOrderFrom strictly (getD xs i nan) (drop (i + 1) xs)
+  pub order-turn : i < length xs → followsOf strictly before (getD xs i nan) ≡ true → inOrderFrom strictly before (drop i xs) ≡ inOrderFrom strictly (getD xs i nan) (drop (i + 1) xs)
   unfolding inOrderFrom
   order-turn h q = rw (next xs i h, q)
 
-  pub order-stop : i < length xs → stepOf strictly before (getD xs i nan) ≡ false → inOrderFrom strictly before (drop i xs) ≡ false
+  pub order-stop : i < length xs → followsOf strictly before (getD xs i nan) ≡ false → inOrderFrom strictly before (drop i xs) ≡ false
   unfolding inOrderFrom
   order-stop h q = rw (next xs i h, q)
 

@@ -20,14 +20,14 @@ allOf test [] = true
 allOf test (x ∷ xs) = passesOf test x && allOf test xs
 
 -- what a step asks: "strictly rise", or do not "fall"
-abbrev pub stepOf : Bool → Float → Float → Bool
-stepOf true before x = lt before x
-stepOf false before x = le before x
+abbrev pub followsOf : Bool → Float → Float → Bool
+followsOf true before x = lt before x
+followsOf false before x = le before x
 
 -- every step passes, the first one from `before`
 unfoldable pub inOrderFrom : Bool → Float → List Float → Bool
 inOrderFrom strictly before [] = true
-inOrderFrom strictly before (x ∷ xs) = stepOf strictly before x && inOrderFrom strictly x xs
+inOrderFrom strictly before (x ∷ xs) = followsOf strictly before x && inOrderFrom strictly x xs
 
 unfoldable pub inOrder : Bool → List Float → Bool
 unfolding inOrderFrom

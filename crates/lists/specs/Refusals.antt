@@ -12,7 +12,7 @@ use Rattle.lists.specs.declared.refusals.Answer.{Answer}
 use Rattle.lists.specs.declared.refusals.Answer.the-variants as A
 use Rattle.lists.specs.declared.refusals.Price.{Price}
 use Rattle.lists.specs.declared.refusals.Price.the-variants as P
-use Rattle.lists.specs.declared.refusals.Reply.{Reply}
+use Rattle.lists.specs.declared.refusals.PriceReport.{PriceReport}
 
 -- what a call gives
 pub data Outcome (A : Type 0) : Type 0 where
@@ -127,13 +127,13 @@ outcomeOf (P.Served v) = served v
 outcomeOf (P.Refused r) = refused r
 
 -- what is told outside of an outcome, and of the code's answer
-abbrev pub toldOutcome : Outcome Float → Reply
-toldOutcome o = record { answer = answerNumber (answerOf o); value = valueOr Numbers.zero o }
+abbrev pub reportedPrice : Outcome Float → PriceReport
+reportedPrice o = record { answer = answerNumber (answerOf o); value = valueOr Numbers.zero o }
 
-abbrev pub toldOf : Price → Reply
-toldOf p = toldOutcome (outcomeOf p)
+abbrev pub priceReportOf : Price → PriceReport
+priceReportOf p = reportedPrice (outcomeOf p)
 
 -- "Where an answer is an enum, there is a definition that gives this paper's number and values for each of its cases. The promises use that definition": what a call with one value promises of its answer, given the outcome that it is to have
 pub record Priced (p : Price) (o : Outcome Float) : Type 0 where
   pub outcome : outcomeOf p ≡ o
-  pub report : toldOf p ≡ toldOutcome o
+  pub report : priceReportOf p ≡ reportedPrice o

@@ -1,6 +1,6 @@
 // A test of every number of a list, and of every step from one number to the next.
 ghost use mathlib.Core.Path.{_≡_};
-ghost use Rattle.lists.specs.Checks.{passesOf, allOf, stepOf, inOrder};
+ghost use Rattle.lists.specs.Checks.{passesOf, allOf, followsOf, inOrder};
 
 // What may be asked of each number of a list.
 pub enum Test {
@@ -38,7 +38,7 @@ pub fn all(xs: &[f64], test: Test) -> bool
 
 // Whether x may follow the number before it.
 pub fn follows(strictly: bool, before: f64, x: f64) -> bool
-    ensures { λ r. ⌜ r ≡ stepOf strictly before x ⌝ }
+    ensures { λ r. ⌜ r ≡ followsOf strictly before x ⌝ }
 {
     if strictly { before < x } else { before <= x }
 }

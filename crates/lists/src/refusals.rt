@@ -1,6 +1,6 @@
 // How a call is turned down: the refusals of document 01, each under its number.
 ghost use mathlib.Core.Path.{_≡_};
-ghost use Rattle.lists.specs.Refusals.{numberOf, rule, andRule, outcomeOf, toldOf, finishing};
+ghost use Rattle.lists.specs.Refusals.{numberOf, rule, andRule, outcomeOf, priceReportOf, finishing};
 
 // Why a call is turned down, in document 01's order.
 pub enum Refusal {
@@ -32,7 +32,7 @@ pub enum Price {
 }
 
 // An answer as it is told outside: document 01's number, and the value or +0.
-pub struct Reply {
+pub struct PriceReport {
     pub answer: u64,
     pub value: f64,
 }
@@ -85,12 +85,12 @@ pub fn served(value: f64) -> Price
     }
 }
 
-pub fn told(price: Price) -> Reply
-    ensures { λ r. ⌜ r ≡ toldOf price ⌝ }
+pub fn report_price(price: Price) -> PriceReport
+    ensures { λ r. ⌜ r ≡ priceReportOf price ⌝ }
 {
     match price {
-        Price::Served(value) => Reply { answer: 0, value },
-        Price::Refused(refusal) => Reply {
+        Price::Served(value) => PriceReport { answer: 0, value },
+        Price::Refused(refusal) => PriceReport {
             answer: number(refusal),
             value: 0.0,
         },

@@ -9,7 +9,7 @@ use native.Mathlib.Nat.{not-suc-le-zero, le-of-suc-le-suc, zero-lt-suc, eq-or-lt
 use lib.Dec.{T}
 use lib.ListN.{length, getD, drop}
 use lib.Ieee.{Float, nan, lt, le, eq}
-use Rattle.lists.specs.Checks.{stepOf, inOrderFrom, inOrder}
+use Rattle.lists.specs.Checks.{followsOf, inOrderFrom, inOrder}
 use Rattle.lookups.specs.Lookups.{Front, Back, PartsAt, just, nothing, factorAt, lastAt, volatilityAt}
 use Rattle.lookups.proofs.Laws.{Unequal}
 use Rattle.lookups.proofs.Walks.{volatility-first}
@@ -45,11 +45,11 @@ before-or-not zero (suc m) = inl (zero-lt-suc m)
 before-or-not (suc k) (suc m) = ⊎-elim (λ l. inl (suc-le-suc l)) (λ g. inr (suc-le-suc g)) (before-or-not k m)
 
 -- ---- a step to t asks at least that the number is at most t, and it is passed by every number below t
-step-le : (strictly : Bool) (x t : Float) → stepOf strictly x t ≡ true → T (le x t)
+step-le : (strictly : Bool) (x t : Float) → followsOf strictly x t ≡ true → T (le x t)
 step-le true x t h = le-of-lt x t (holds (lt x t) h)
 step-le false x t h = holds (le x t) h
 
-lt-step : (strictly : Bool) (x t : Float) → T (lt x t) → stepOf strictly x t ≡ true
+lt-step : (strictly : Bool) (x t : Float) → T (lt x t) → followsOf strictly x t ≡ true
 lt-step true x t h = held (lt x t) h
 lt-step false x t h = held (le x t) (le-of-lt x t h)
 
@@ -61,21 +61,21 @@ pub back-none : (strictly : Bool) (xs : List Float) (t : Float) (n : ℕ) → le
 back-none strictly xs t n h k l b = absurd (let z : ⊥ = omega arith in z)
 
 module _ (strictly : Bool) (xs : List Float) (t : Float) (m : ℕ) (h : inOrder true xs ≡ true) where
-  pub front : m < length xs → stepOf strictly (getD xs m nan) t ≡ true → Front strictly xs t (m + 1)
+  pub front : m < length xs → followsOf strictly (getD xs m nan) t ≡ true → Front strictly xs t (m + 1)
   front b q k l =
       ⊎-elim
       (λ e. rw e q)
       (λ s. lt-step strictly (getD xs k nan) t (lt-le (getD xs k nan) (getD xs m nan) t (rises xs k m h s b) (step-le strictly (getD xs m nan) t q)))
       (eq-or-lt-of-le (let w : k ≤ m = omega arith in w))
 
-  pub back : stepOf strictly (getD xs m nan) t ≡ false → Back strictly xs t m
+  pub back : followsOf strictly (getD xs m nan) t ≡ false → Back strictly xs t m
   back q k l b =
       ⊎-elim
       (λ e. rw e at q)
-      (λ s. refuted (stepOf strictly (getD xs k nan) t) (λ w. true-false (sym (lt-step strictly (getD xs m nan) t (lt-le (getD xs m nan) (getD xs k nan) t (rises xs m k h s b) (step-le strictly (getD xs k nan) t (held (stepOf strictly (getD xs k nan) t) w)))) ∙ q)))
+      (λ s. refuted (followsOf strictly (getD xs k nan) t) (λ w. true-false (sym (lt-step strictly (getD xs m nan) t (lt-le (getD xs m nan) (getD xs k nan) t (rises xs m k h s b) (step-le strictly (getD xs k nan) t (held (followsOf strictly (getD xs k nan) t) w)))) ∙ q)))
       (eq-or-lt-of-le l)
 
-pub front-last : (strictly : Bool) (xs : List Float) (t : Float) (n : ℕ) → inOrder true xs ≡ true → (n ≡ 0 → ⊥) → n ≤ length xs → stepOf strictly (getD xs (n - 1) nan) t ≡ true → Front strictly xs t n
+pub front-last : (strictly : Bool) (xs : List Float) (t : Float) (n : ℕ) → inOrder true xs ≡ true → (n ≡ 0 → ⊥) → n ≤ length xs → followsOf strictly (getD xs (n - 1) nan) t ≡ true → Front strictly xs t n
 front-last strictly xs t n h e b q =
     let m : n - 1 + 1 ≡ n = omega arith in
     let l : n - 1 < length xs = omega arith in

@@ -9,18 +9,18 @@ use Rattle.lookups.specs.declared.lookups.Found.{Found}
 use Rattle.lookups.specs.declared.lookups.Found.the-variants as F
 use Rattle.lists.specs.declared.refusals.Refusal.{Refusal}
 use Rattle.lists.specs.declared.refusals.Refusal.the-variants as R
-use Rattle.lists.specs.Checks.{stepOf}
+use Rattle.lists.specs.Checks.{followsOf}
 use Rattle.lists.specs.Refusals.{Outcome, refused}
 
 -- ---- where a rising list parts in two at t
 
 -- its first n numbers are below t, or, where not `strictly`, at most t
 abbrev pub Front : Bool → List Float → Float → ℕ → Type 0
-Front strictly xs t n = (k : ℕ) → k < n → stepOf strictly (getD xs k nan) t ≡ true
+Front strictly xs t n = (k : ℕ) → k < n → followsOf strictly (getD xs k nan) t ≡ true
 
 -- none from place n on is
 abbrev pub Back : Bool → List Float → Float → ℕ → Type 0
-Back strictly xs t n = (k : ℕ) → n ≤ k → k < length xs → stepOf strictly (getD xs k nan) t ≡ false
+Back strictly xs t n = (k : ℕ) → n ≤ k → k < length xs → followsOf strictly (getD xs k nan) t ≡ false
 
 -- the first n are so, and no others
 abbrev pub PartsAt : Bool → List Float → Float → ℕ → Type 0

@@ -2,9 +2,9 @@
 mod lookups;
 
 pub use lookups::Found;
-pub use lookups::Spot;
+pub use lookups::FoundNear;
 pub use lookups::factor;
 pub use lookups::factor_near;
 pub use lookups::reached;
-pub use lookups::volatility;
+pub use lookups::volatility_at;
 pub use lookups::volatility_near;

@@ -12,7 +12,7 @@ pub enum Found {
 }
 
 // What a list has for a time, and the hint with which a walk along rising times asks for the next one.
-pub struct Spot {
+pub struct FoundNear {
     pub found: Found,
     pub next: usize,
 }
@@ -29,13 +29,13 @@ pub fn factor(times: &[f64], factors: &[f64], t: f64) -> Found
 
 // The same, looked for at the place `hint` first. A caller that walks along a grid shows that the times rise,
 // behind rule 4.
-pub fn factor_near(times: &[f64], factors: &[f64], hint: usize, t: f64) -> Spot
+pub fn factor_near(times: &[f64], factors: &[f64], hint: usize, t: f64) -> FoundNear
     requires { ⌜ inOrder true (now times) ≡ true ⌝ }
     ensures { λ r. ⌜ foundOf (r .found) ≡ factorAt (now (times .entry)) (now (factors .entry)) t ⌝ }
 {
     let place = part_near(times, hint, t, true);
     let found = factor_at(times, factors, place, t);
-    Spot {
+    FoundNear {
         found,
         next: place + 1,
     }
@@ -120,7 +120,7 @@ fn stops(times: &[f64], n: usize, t: f64, strictly: bool) -> bool
 }
 
 // The volatility of the last pillar at or before t, else of the first.
-pub fn volatility(times: &[f64], sigmas: &[f64], t: f64) -> Found
+pub fn volatility_at(times: &[f64], sigmas: &[f64], t: f64) -> Found
     ensures { λ r. ⌜ foundOf r ≡ volatilityAt (now (times .entry)) (now (sigmas .entry)) t ⌝ }
 {
     if times.len() == 0 {
@@ -145,26 +145,26 @@ pub fn volatility(times: &[f64], sigmas: &[f64], t: f64) -> Found
 
 // The same on rising times, of which `hint` are likely to be at or before t. A caller that walks along a grid
 // shows that they rise, behind rule 4.
-pub fn volatility_near(times: &[f64], sigmas: &[f64], hint: usize, t: f64) -> Spot
+pub fn volatility_near(times: &[f64], sigmas: &[f64], hint: usize, t: f64) -> FoundNear
     requires { ⌜ inOrder true (now times) ≡ true ⌝ }
     ensures { λ r. ⌜ foundOf (r .found) ≡ volatilityAt (now (times .entry)) (now (sigmas .entry)) t ⌝ }
 {
     let n = part_near(times, hint, t, false);
     if times.len() == 0 {
-        return Spot {
+        return FoundNear {
             found: Found::Missing,
             next: n,
         };
     }
     let last = last_of(n);
     if sigmas.len() <= last {
-        return Spot {
-            found: volatility(times, sigmas, t),
+        return FoundNear {
+            found: volatility_at(times, sigmas, t),
             next: n,
         };
     }
     let sigma = sigmas[last];
-    Spot {
+    FoundNear {
         found: Found::At(sigma),
         next: n,
     }

@@ -10,15 +10,15 @@ use Rattle.lists.specs.Refusals.{Outcome, unless, finishing}
 use Rattle.lookups.specs.Lookups.{foundOf, factorAt, needing}
 use Rattle.lookups.specs.declared.lookups.Found.{Found}
 use Rattle.lists.specs.Faults.{curveFaults}
-use Rattle.formulas.specs.HullWhite.{h, bOf, forwardOf, aOf, zcbOf, volatilityOf, slopeOf, thetaOf, shortRateVarianceOf}
+use Rattle.formulas.specs.HullWhite.{h, bOf, forwardOf, aOf, zcbPriceOf, zcbPriceVolatilityOf, slopeOf, thetaOf, shortRateVarianceOf}
 use Rattle.models.specs.Rules.{noFaults, forwardRules, thetaRules}
 use Rattle.options.specs.Rules.{optionRules}
 
 unfoldable pub bOutcome : Float → Float → Float → Outcome Float
 bOutcome alpha t T = unless (optionRules noFaults alpha t T zero zero) (finishing (bOf alpha t T))
 
-unfoldable pub volatilityOutcome : Float → Float → Float → Float → Outcome Float
-volatilityOutcome alpha sigma t T = unless (optionRules noFaults alpha t T sigma zero) (finishing (volatilityOf alpha sigma t T))
+unfoldable pub zcbPriceVolatilityOutcome : Float → Float → Float → Float → Outcome Float
+zcbPriceVolatilityOutcome alpha sigma t T = unless (optionRules noFaults alpha t T sigma zero) (finishing (zcbPriceVolatilityOf alpha sigma t T))
 
 unfoldable pub shortRateVarianceOutcome : Float → Float → Float → Float → Outcome Float
 shortRateVarianceOutcome alpha t T sigma = unless (optionRules noFaults alpha t T sigma zero) (finishing (shortRateVarianceOf alpha t T sigma))
@@ -43,7 +43,7 @@ aOutcome alpha ts fs t T sigma = unless (optionRules (curveFaults ts fs) alpha t
 
 -- the price at t of a bond that ends at T, at the short rate r
 unfoldable pub zcbPriced : Float → List Float → List Float → Float → Float → Float → Float → Outcome Float
-zcbPriced alpha ts fs r t T sigma = let b = bOf alpha t T in withA alpha ts fs t T sigma b (λ a. finishing (zcbOf a b r))
+zcbPriced alpha ts fs r t T sigma = let b = bOf alpha t T in withA alpha ts fs t T sigma b (λ a. finishing (zcbPriceOf a b r))
 
 unfoldable pub zcbOutcome : Float → List Float → List Float → Float → Float → Float → Float → Outcome Float
 zcbOutcome alpha ts fs r t T sigma = unless (optionRules (curveFaults ts fs) alpha t T sigma r) (zcbPriced alpha ts fs r t T sigma)

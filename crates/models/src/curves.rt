@@ -4,7 +4,7 @@ ghost use mathlib.Core.Path.{_≡_};
 ghost use mathlib.Core.Bool.{true};
 ghost use Rattle.lists.specs.Checks.{inOrder};
 ghost use Rattle.lists.specs.Refusals.{Priced, outcomeOf};
-ghost use Rattle.models.specs.Curves.{bOutcome, volatilityOutcome, shortRateVarianceOutcome, FoundA, aPriced, aOutcome, zcbPriced, zcbOutcome, forwardPriced, forwardOutcome, thetaPriced, thetaFrom, thetaOutcome};
+ghost use Rattle.models.specs.Curves.{bOutcome, zcbPriceVolatilityOutcome, shortRateVarianceOutcome, FoundA, aPriced, aOutcome, zcbPriced, zcbOutcome, forwardPriced, forwardOutcome, thetaPriced, thetaFrom, thetaOutcome};
 use super::rules;
 use lists::Answer;
 use lists::Price;
@@ -22,12 +22,12 @@ pub fn B(alpha: f64, t: f64, bond: f64) -> Price
 }
 
 pub fn zcb_price_volatility(alpha: f64, sigma: f64, t: f64, bond: f64) -> Price
-    ensures { λ r. ⌜ Priced r (volatilityOutcome alpha sigma t bond) ⌝ }
+    ensures { λ r. ⌜ Priced r (zcbPriceVolatilityOutcome alpha sigma t bond) ⌝ }
 {
     let answer = options::option_rules(rules::no_faults(), alpha, t, bond, sigma, 0.0);
     match answer {
         Answer::Refused(refusal) => Price::Refused(refusal),
-        Answer::Served => lists::served(formulas::volatility_of(alpha, sigma, t, bond)),
+        Answer::Served => lists::served(formulas::zcb_price_volatility_of(alpha, sigma, t, bond)),
     }
 }
 
@@ -127,10 +127,10 @@ fn zcb_priced(
     let Found::At(a) = a_found(alpha, times, factors, t, bond, sigma, b) else {
         return Price::Refused(Refusal::OffCurve);
     };
-    lists::served(formulas::zcb_of(a, b, rate))
+    lists::served(formulas::zcb_price_of(a, b, rate))
 }
 
-pub fn forward_rate(times: &[f64], factors: &[f64], t: f64) -> Price
+pub fn forward_rate_from_curve(times: &[f64], factors: &[f64], t: f64) -> Price
     ensures { λ r. ⌜ Priced r (forwardOutcome (now (times .entry)) (now (factors .entry)) t) ⌝ }
 {
     let curve = lists::curve_faults(times, factors);

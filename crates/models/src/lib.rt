@@ -5,7 +5,7 @@ mod rules;
 
 pub use curves::A;
 pub use curves::B;
-pub use curves::forward_rate;
+pub use curves::forward_rate_from_curve;
 pub use curves::short_rate_variance;
 pub use curves::theta;
 pub use curves::zcb_price;

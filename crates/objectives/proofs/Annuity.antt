@@ -10,7 +10,7 @@ use lib.Ieee.{Float, nan}
 use Rattle.ieee.specs.Rounded.{_⊖_, _⊗_, _⊘_}
 use Rattle.quotes.specs.Formulas.{annuityStep}
 use Rattle.objectives.specs.declared.market.Quote.{Quote}
-use Rattle.objectives.specs.Market.{vanillaCallOf, annuityOnto, annuityOf, lastOf, swaptionMarketOf}
+use Rattle.objectives.specs.Market.{vanillaCallOf, annuityOnto, annuityOf, lastOf, swaptionMarketPriceOf}
 
 module _ (accruals ps : List Float) (sum : Float) (i : ℕ) where
   pub annuity-on : (next : Float) → i < length accruals → i < length ps → next ≡ annuityStep sum (getD accruals i nan) (getD ps i nan)
@@ -35,6 +35,6 @@ last-is ps h = last-at ps (length ps - 1) (omega arith)
 
 -- ---- a swaption's market price, on an annuity and a last factor that the code has worked
 module _ (quote : Quote) (strike t vol : Float) (accruals : List Float) (pt : Float) (ps : List Float) where
-  pub market-is : {sum last call : Float} → sum ≡ annuityOf accruals ps → last ≡ lastOf ps → call ≡ vanillaCallOf quote ((pt ⊖ last) ⊘ sum) strike vol t → sum ⊗ call ≡ swaptionMarketOf quote strike t vol accruals pt ps
-  unfolding swaptionMarketOf
+  pub market-is : {sum last call : Float} → sum ≡ annuityOf accruals ps → last ≡ lastOf ps → call ≡ vanillaCallOf quote ((pt ⊖ last) ⊘ sum) strike vol t → sum ⊗ call ≡ swaptionMarketPriceOf quote strike t vol accruals pt ps
+  unfolding swaptionMarketPriceOf
   market-is a l v = rw (← a, ← l, v)

@@ -13,8 +13,8 @@ vanillaCallOf Q.Black fwd strike vol tau = blackCallOf fwd strike vol tau
 vanillaCallOf Q.Normal fwd strike vol tau = bachelierCallOf fwd strike vol tau
 
 -- a caplet from t to S: P(S) × tau × call, on the forward (P(t)/P(S) - 1)/tau, tau being S - t
-unfoldable pub capletMarketOf : Quote → Float → Float → Float → Float → Float → Float → Float
-capletMarketOf quote strike t S vol pt pS =
+unfoldable pub capletMarketPriceOf : Quote → Float → Float → Float → Float → Float → Float → Float
+capletMarketPriceOf quote strike t S vol pt pS =
     let tau = S ⊖ t in
     pS ⊗ tau ⊗ vanillaCallOf quote ((pt ⊘ pS ⊖ one) ⊘ tau) strike vol t
 
@@ -35,7 +35,7 @@ lastOf (p ∷ []) = p
 lastOf (p ∷ q ∷ ps) = lastOf (q ∷ ps)
 
 -- a swaption: annuity × call, on the forward (P(t) - P(end))/annuity
-unfoldable pub swaptionMarketOf : Quote → Float → Float → Float → List Float → Float → List Float → Float
-swaptionMarketOf quote strike t vol accruals pt ps =
+unfoldable pub swaptionMarketPriceOf : Quote → Float → Float → Float → List Float → Float → List Float → Float
+swaptionMarketPriceOf quote strike t vol accruals pt ps =
     let annuity = annuityOf accruals ps in
     annuity ⊗ vanillaCallOf quote ((pt ⊖ lastOf ps) ⊘ annuity) strike vol t

@@ -2,7 +2,7 @@
 ghost use mathlib.Core.Path.{_≡_};
 ghost use Prim.Native.Nat.{_<_};
 ghost use lib.ListN.{length};
-ghost use Rattle.objectives.specs.Market.{vanillaCallOf, capletMarketOf, annuityOf, swaptionMarketOf};
+ghost use Rattle.objectives.specs.Market.{vanillaCallOf, capletMarketPriceOf, annuityOf, swaptionMarketPriceOf};
 
 // What a quoted volatility is one of.
 pub enum Quote {
@@ -20,7 +20,7 @@ fn vanilla_call(quote: Quote, fwd: f64, strike: f64, vol: f64, tau: f64) -> f64
 }
 
 // p_t and p_end are the factors at the caplet's start and end.
-pub fn caplet_market(
+pub fn caplet_market_price(
     quote: Quote,
     strike: f64,
     t: f64,
@@ -29,7 +29,7 @@ pub fn caplet_market(
     p_t: f64,
     p_end: f64,
 ) -> f64
-    ensures { λ r. ⌜ r ≡ capletMarketOf quote strike t end vol «p_t» «p_end» ⌝ }
+    ensures { λ r. ⌜ r ≡ capletMarketPriceOf quote strike t end vol «p_t» «p_end» ⌝ }
 {
     let tau = end - t;
     let fwd = (p_t / p_end - 1.0) / tau;
@@ -54,7 +54,7 @@ fn annuity(accruals: &[f64], p: &[f64]) -> f64
 
 // p_t is the factor at the option time, p those at the payment times; the swap ends at the last listed payment.
 // A caller that has asked rules 1 and 7 has the lists of one length, and a coupon.
-pub fn swaption_market(
+pub fn swaption_market_price(
     quote: Quote,
     strike: f64,
     t: f64,
@@ -64,7 +64,7 @@ pub fn swaption_market(
     p: &[f64],
 ) -> f64
     requires { ⌜ (length (now p) ≡ length (now accruals)) × (0 < length (now p)) ⌝ }
-    ensures { λ r. ⌜ r ≡ swaptionMarketOf quote strike t vol (now (accruals .entry)) «p_t» (now (p .entry)) ⌝ }
+    ensures { λ r. ⌜ r ≡ swaptionMarketPriceOf quote strike t vol (now (accruals .entry)) «p_t» (now (p .entry)) ⌝ }
 {
     let sum = annuity(accruals, p);
     let fwd = (p_t - p[p.len() - 1]) / sum;

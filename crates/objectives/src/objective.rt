@@ -27,7 +27,7 @@ pub enum Instrument {
     },
     Swaption {
         alpha: f64,
-        decay: f64,
+        share: f64,
         deviation: f64,
         p_t: f64,
     },
@@ -46,23 +46,23 @@ fn caplet_at(
 ) -> f64
     ensures { λ r. ⌜ r ≡ capletAt sigma b deviation «bond_strike» strike t end «p_t» «p_end» ⌝ }
 {
-    let sigma_p = formulas::volatility_at(sigma, b, deviation);
+    let sigma_p = formulas::zcb_price_volatility_at(sigma, b, deviation);
     let put = formulas::bond_put_of(sigma_p, bond_strike, p_t, p_end);
     formulas::growth_of(end - t, strike) * put
 }
 
-// The model price at a sigma. The lists are a swaption's coefficients, B, drifts and factors; a caplet has
+// The model price at a sigma. The lists are a swaption's coefficients, B, curve's parts and factors; a caplet has
 // none. A caller that has worked them ahead has them of one length of at most 64.
 fn model_price(
     instrument: Instrument,
     c: &[f64],
     b: &[f64],
-    drift: &[f64],
+    curve_part: &[f64],
     p: &[f64],
     sigma: f64,
 ) -> Price
-    requires { ⌜ (length (now c) ≤ 64) × (length (now b) ≡ length (now c)) × (length (now drift) ≡ length (now c)) × (length (now p) ≡ length (now c)) ⌝ }
-    ensures { λ r. ⌜ outcomeOf r ≡ modelPriceOf instrument (now (c .entry)) (now (b .entry)) (now (drift .entry)) (now (p .entry)) sigma ⌝ }
+    requires { ⌜ (length (now c) ≤ 64) × (length (now b) ≡ length (now c)) × (length (now «curve_part») ≡ length (now c)) × (length (now p) ≡ length (now c)) ⌝ }
+    ensures { λ r. ⌜ outcomeOf r ≡ modelPriceOf instrument (now (c .entry)) (now (b .entry)) (now («curve_part» .entry)) (now (p .entry)) sigma ⌝ }
 {
     match instrument {
         Instrument::Caplet {
@@ -87,10 +87,20 @@ fn model_price(
         )),
         Instrument::Swaption {
             alpha,
-            decay,
+            share,
             deviation,
             p_t,
-        } => value_of(jamshidian::price_at(alpha, sigma, decay, deviation, p_t, c, b, drift, p)),
+        } => value_of(jamshidian::price_at(
+            alpha,
+            sigma,
+            share,
+            deviation,
+            p_t,
+            c,
+            b,
+            curve_part,
+            p,
+        )),
     }
 }
 
@@ -111,14 +121,14 @@ pub fn residual(
     market: f64,
     c: &[f64],
     b: &[f64],
-    drift: &[f64],
+    curve_part: &[f64],
     p: &[f64],
     sigma: f64,
 ) -> Price
-    requires { ⌜ (length (now c) ≤ 64) × (length (now b) ≡ length (now c)) × (length (now drift) ≡ length (now c)) × (length (now p) ≡ length (now c)) ⌝ }
-    ensures { λ r. ⌜ outcomeOf r ≡ residualAt (objectiveOf instrument market (now (c .entry)) (now (b .entry)) (now (drift .entry)) (now (p .entry))) sigma ⌝ }
+    requires { ⌜ (length (now c) ≤ 64) × (length (now b) ≡ length (now c)) × (length (now «curve_part») ≡ length (now c)) × (length (now p) ≡ length (now c)) ⌝ }
+    ensures { λ r. ⌜ outcomeOf r ≡ residualAt (objectiveOf instrument market (now (c .entry)) (now (b .entry)) (now («curve_part» .entry)) (now (p .entry))) sigma ⌝ }
 {
-    let price = model_price(instrument, c, b, drift, p, sigma);
+    let price = model_price(instrument, c, b, curve_part, p, sigma);
     let Price::Served(model) = price else {
         return price;
     };

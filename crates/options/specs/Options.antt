@@ -5,7 +5,7 @@ use Rattle.ieee.specs.Rounded.{_⊗_}
 use Rattle.lists.specs.Refusals.{Outcome, unless, finishing}
 use Rattle.lookups.specs.Lookups.{factorAt, needing}
 use Rattle.lists.specs.Faults.{curveFaults}
-use Rattle.formulas.specs.HullWhite.{volatilityOf, moneynessOf, bondPutAt, bondCallAt, optionletStrikeOf, optionletOf}
+use Rattle.formulas.specs.HullWhite.{zcbPriceVolatilityOf, moneynessOf, bondPutAt, bondCallAt, optionletStrikeOf, optionletOf}
 use Rattle.options.specs.declared.options.BondOption.{BondOption}
 use Rattle.options.specs.declared.options.BondOption.the-variants.{Put, Call}
 use Rattle.options.specs.Rules.{optionRules}
@@ -24,7 +24,7 @@ unfoldable pub bondOptionPriced : BondOption → Float → List Float → List F
 bondOptionPriced option alpha ts fs t T strike sigma =
     needing (factorAt ts fs t) (λ pt.
     needing (factorAt ts fs T) (λ pT.
-    finishing (bondOptionOf option (volatilityOf alpha sigma t T) strike pt pT)))
+    finishing (bondOptionOf option (zcbPriceVolatilityOf alpha sigma t T) strike pt pT)))
 
 -- kinds 3 and 4: option time, bond time, strike, sigma
 unfoldable pub bondOptionOutcome : BondOption → Float → List Float → List Float → Float → Float → Float → Float → Outcome Float
@@ -35,7 +35,7 @@ unfoldable pub optionletPriced : BondOption → Float → List Float → List Fl
 optionletPriced option alpha ts fs strike t S sigma =
     needing (factorAt ts fs t) (λ pt.
     needing (factorAt ts fs S) (λ pS.
-    finishing (optionletOf strike t S (bondOptionOf option (volatilityOf alpha sigma t S) (optionletStrikeOf strike t S) pt pS))))
+    finishing (optionletOf strike t S (bondOptionOf option (zcbPriceVolatilityOf alpha sigma t S) (optionletStrikeOf strike t S) pt pS))))
 
 -- kinds 1 and 2: strike, start, end, sigma
 unfoldable pub optionletOutcome : BondOption → Float → List Float → List Float → Float → Float → Float → Float → Outcome Float

@@ -195,8 +195,8 @@ fn bond_option_priced(
     };
     let strike_value = strike * p_t;
     let moneyness = formulas::moneyness_of(p_bond, strike_value);
-    let sigma_p = formulas::volatility_at(sigma, parts.b, ieee::sqrt(parts.variance));
-    lists::served(bond_option(option, sigma_p, moneyness, strike_value, p_bond))
+    let sigma_p = formulas::zcb_price_volatility_at(sigma, parts.b, ieee::sqrt(parts.variance));
+    lists::served(put_or_call(option, sigma_p, moneyness, strike_value, p_bond))
 }
 
 // The same of a caplet or a floorlet; a caller has asked the rules too.
@@ -223,12 +223,12 @@ fn optionlet_priced(
     let growth = formulas::growth_of(end - t, strike);
     let strike_value = 1.0 / growth * p_t;
     let moneyness = formulas::moneyness_of(p_end, strike_value);
-    let sigma_p = formulas::volatility_at(sigma, parts.b, ieee::sqrt(parts.variance));
-    let price = bond_option(option, sigma_p, moneyness, strike_value, p_end);
+    let sigma_p = formulas::zcb_price_volatility_at(sigma, parts.b, ieee::sqrt(parts.variance));
+    let price = put_or_call(option, sigma_p, moneyness, strike_value, p_end);
     lists::served(growth * price)
 }
 
-fn bond_option(
+fn put_or_call(
     option: BondOption,
     sigma_p: f64,
     moneyness: f64,

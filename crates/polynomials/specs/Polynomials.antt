@@ -38,9 +38,9 @@ abbrev pub productThenSum : Float → Float → Float → Float
 productThenSum a z c = a ⊗ z ⊕ c
 
 -- the step of the DualFwd function, and that of the f64 one
-abbrev pub stepOf : Bool → Float → Float → Float → Float
-stepOf true = productThenSum
-stepOf false = fusedOf
+abbrev pub hornerStepOf : Bool → Float → Float → Float → Float
+hornerStepOf true = productThenSum
+hornerStepOf false = fusedOf
 
 -- a becomes a × z + c, by the step, for each c of the list in turn
 abbrev pub horner : (Float → Float → Float → Float) → Float → Float → List Float → Float

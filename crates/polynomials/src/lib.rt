@@ -3,7 +3,7 @@
 ghost use mathlib.Core.Path.{_≡_};
 ghost use mathlib.Core.Bool.{true};
 ghost use Rattle.ieee.specs.Fused.{fusedOf};
-ghost use Rattle.polynomials.specs.Polynomials.{productThenSum, stepOf, horner, numFirst, numRest, denFirst, denRest, hartOf};
+ghost use Rattle.polynomials.specs.Polynomials.{productThenSum, hornerStepOf, horner, numFirst, numRest, denFirst, denRest, hartOf};
 ghost use Rattle.polynomials.specs.Sized.{Sized, Ordinary};
 
 // The coefficients as norm_cdf.rs prints them, the highest power's first.
@@ -39,7 +39,7 @@ const DEN_7: f64 = 440.413735824752;
 
 // The quotient of Hart's two polynomials.
 pub fn hart(z: f64, e: f64, dual: bool) -> f64
-    ensures { λ r. ⌜ r ≡ hartOf (stepOf dual) z e ⌝ }
+    ensures { λ r. ⌜ r ≡ hartOf (hornerStepOf dual) z e ⌝ }
 {
     if dual {
         e * num_dual(z) / den_dual(z)

@@ -15,7 +15,7 @@ use Rattle.lists.specs.Refusals.{Outcome, served, refused, answerNumber, answer
 use Rattle.lists.specs.Checks.{allOf}
 use Rattle.lists.proofs.Outcomes.{not-both}
 use Rattle.formulas.specs.HullWhite.{forwardOf}
-use Rattle.schedules.specs.Variance.{varianceOf}
+use Rattle.schedules.specs.Variance.{piecewiseVarianceOf}
 use Rattle.coupons.specs.Sum.{couponSum}
 use Rattle.search.specs.Values.{Values}
 use Rattle.search.specs.Reached.{Unbracketed}
@@ -25,46 +25,46 @@ use Rattle.terms.specs.Terms.{coefficientsOf, bsOf}
 use Rattle.terms.specs.Begun.{RootFound, WantsBracket}
 use Rattle.terms.proofs.Begun.{searches, begins}
 use Rattle.closedform.specs.declared.bond_option.SwaptionType.{SwaptionType}
-use Rattle.closedform.specs.Affine.{deviationOf, affinesOf}
+use Rattle.closedform.specs.Affine.{pricerDeviationOf, affineAListOf}
 use Rattle.closedform.specs.Newton.{flatLimit, sumsOf, stepped}
 use Rattle.closedform.specs.Components.{componentsOf}
-use Rattle.valuations.specs.Value.{Valued, finishingValuation, pricedBy, swaptionPriced}
-use Rattle.pricers.specs.Pricer.{rulesOn, pricerOutcome}
-use Rattle.pricers.specs.Demand3.{sumOf}
+use Rattle.valuations.specs.Value.{PricerValued, finishingValuation, pricedBy, swaptionPriced}
+use Rattle.pricers.specs.Pricer.{pricerRulesOn, pricerOutcome}
+use Rattle.pricers.specs.Demand3.{pricerSumOf}
 
 -- ---- rule 13
-keeps : (w v : Valued) → finishingValuation w ≡ served v → w ≡ v
+keeps : (w v : PricerValued) → finishingValuation w ≡ served v → w ≡ v
 keeps w v e =
     let b = w .root .bracket in
     ends-so (finite (w .value) && finite (w .after-step) && finite (w .root .rate) && finite (b .lower) && finite (b .upper) && finite (b .«lower_sum») && finite (b .«upper_sum»)) w e
 
-otherwise : (w : Valued) → finishingValuation w ≡ refused R.NoBracket → ⊥
+otherwise : (w : PricerValued) → finishingValuation w ≡ refused R.NoBracket → ⊥
 otherwise w e =
     let b = w .root .bracket in
     ends-otherwise (finite (w .value) && finite (w .after-step) && finite (w .root .rate) && finite (b .lower) && finite (b .upper) && finite (b .«lower_sum») && finite (b .«upper_sum»)) w e
 
 -- ---- the Newton step refuses by 11 alone
-step-served : (o : Outcome Float) (rest : Float → Outcome Valued) {v : Valued} → following o rest ≡ served v → (s : Float) × (rest s ≡ served v)
+step-served : (o : Outcome Float) (rest : Float → Outcome PricerValued) {v : PricerValued} → following o rest ≡ served v → (s : Float) × (rest s ≡ served v)
 step-served (served s) rest e = (s, e)
 step-served (refused q) rest e = absurd (not-both e)
 
-step-otherwise : (b : Bool) (x : Float) (rest : Float → Outcome Valued) → ((s : Float) → rest s ≡ refused R.NoBracket → ⊥) → following (cond b (refused R.FlatDerivative) (served x)) rest ≡ refused R.NoBracket → ⊥
+step-otherwise : (b : Bool) (x : Float) (rest : Float → Outcome PricerValued) → ((s : Float) → rest s ≡ refused R.NoBracket → ⊥) → following (cond b (refused R.FlatDerivative) (served x)) rest ≡ refused R.NoBracket → ⊥
 step-otherwise true x rest h e = let z = ap (λ o. answerNumber (answerOf o)) e in omega arith
 step-otherwise false x rest h e = h x e
 
 -- ---- the terms priced: a search, and what follows it
 module _ (option : SwaptionType) (deviation pt : Float) (cs affs bs ps owns : List Float) (notional side : Float) where
-  value : Values → Float → Valued
+  value : Values → Float → PricerValued
   value root s = record { value = componentsOf option (not (allOf Zero owns)) deviation pt s cs affs bs ps owns ⊗ notional ⊗ side; after-step = s; root = root }
 
-  onward : Values → Outcome Valued
+  onward : Values → Outcome PricerValued
   onward root = following (stepped (root .rate) (sumsOf (root .rate) cs affs bs)) (λ s. finishingValuation (value root s))
 
-  onward-served : (root : Values) (v : Valued) → onward root ≡ served v → root ≡ v .root
+  onward-served : (root : Values) (v : PricerValued) → onward root ≡ served v → root ≡ v .root
   unfolding onward value
   onward-served root v e =
       let s = step-served (stepped (root .rate) (sumsOf (root .rate) cs affs bs)) (λ s. finishingValuation (value root s)) e in
-      ap (λ (u : Valued). u .root) (keeps (value root (s .0)) v (s .1))
+      ap (λ (u : PricerValued). u .root) (keeps (value root (s .0)) v (s .1))
 
   onward-otherwise : (root : Values) → onward root ≡ refused R.NoBracket → ⊥
   unfolding onward stepped
@@ -72,7 +72,7 @@ module _ (option : SwaptionType) (deviation pt : Float) (cs affs bs ps owns : Li
       let sums = sumsOf (root .rate) cs affs bs in
       step-otherwise (lt (absOf (sums .derivative)) flatLimit) (root .rate ⊖ sums .objective ⊘ sums .derivative) (λ s. finishingValuation (value root s)) (λ s. otherwise (value root s)) e
 
-  located : (v : Valued) → pricedBy option deviation pt cs affs bs ps owns notional side ≡ served v → Located (couponSum cs affs bs) (v .root)
+  located : (v : PricerValued) → pricedBy option deviation pt cs affs bs ps owns notional side ≡ served v → Located (couponSum cs affs bs) (v .root)
   unfolding pricedBy onward value
   located v e =
       let r = root-located (couponSum cs affs bs) onward v e in
@@ -89,22 +89,22 @@ module _ (option : SwaptionType) (deviation pt : Float) (cs affs bs ps owns : Li
 -- ---- the call
 module _ (option : SwaptionType) (alpha : Float) (pls ss ts fs payments accruals owns : List Float) (strike t notional side : Float) where
   -- the terms on the factors at t, t + h and the payment times, and their price
-  on : Float → Float → List Float → Outcome Valued
+  on : Float → Float → List Float → Outcome PricerValued
   on pt pPlus ps =
-      pricedBy option (deviationOf (varianceOf alpha pls ss zero t)) pt (coefficientsOf strike accruals) (affinesOf (varianceOf alpha pls ss zero t) (forwardOf pt pPlus) pt (bsOf alpha t payments) ps) (bsOf alpha t payments) ps owns notional side
+      pricedBy option (pricerDeviationOf (piecewiseVarianceOf alpha pls ss zero t)) pt (coefficientsOf strike accruals) (affineAListOf (piecewiseVarianceOf alpha pls ss zero t) (forwardOf pt pPlus) pt (bsOf alpha t payments) ps) (bsOf alpha t payments) ps owns notional side
 
-  -- ---- of any answer whose outcome is the one defined: `Rooted` and `RefusedSo`
-  module _ {o : Outcome Valued} (is : o ≡ pricerOutcome option alpha pls ss ts fs payments accruals owns strike t notional side) where
-    pub rooted : (v : Valued) → o ≡ served v → RootFound (rulesOn alpha pls ss ts fs payments accruals owns strike t notional side) ts fs payments t (sumOf alpha pls ss t payments accruals strike) (v .root)
+  -- ---- of any answer whose outcome is the one defined: `PricerRootLocated` and `PricerNoBracketExactly`
+  module _ {o : Outcome PricerValued} (is : o ≡ pricerOutcome option alpha pls ss ts fs payments accruals owns strike t notional side) where
+    pub rooted : (v : PricerValued) → o ≡ served v → RootFound (pricerRulesOn alpha pls ss ts fs payments accruals owns strike t notional side) ts fs payments t (pricerSumOf alpha pls ss t payments accruals strike) (v .root)
     unfolding pricerOutcome swaptionPriced on
     rooted v e =
-        let s = searches (rulesOn alpha pls ss ts fs payments accruals owns strike t notional side) ts fs payments t on tt (served v) tt (sym is ∙ e) in
+        let s = searches (pricerRulesOn alpha pls ss ts fs payments accruals owns strike t notional side) ts fs payments t on tt (served v) tt (sym is ∙ e) in
         record { begun = s .begun; located = located _ _ _ _ _ _ _ _ _ _ v (s .goes-on) }
 
-    pub refused-so : (o ≡ refused R.NoBracket) ↔ WantsBracket (rulesOn alpha pls ss ts fs payments accruals owns strike t notional side) ts fs payments t (sumOf alpha pls ss t payments accruals strike)
+    pub refused-so : (o ≡ refused R.NoBracket) ↔ WantsBracket (pricerRulesOn alpha pls ss ts fs payments accruals owns strike t notional side) ts fs payments t (pricerSumOf alpha pls ss t payments accruals strike)
     unfolding pricerOutcome swaptionPriced on
     refused-so = (
-      λ e. let s = searches (rulesOn alpha pls ss ts fs payments accruals owns strike t notional side) ts fs payments t on tt (refused R.NoBracket) tt (sym is ∙ e) in
+      λ e. let s = searches (pricerRulesOn alpha pls ss ts fs payments accruals owns strike t notional side) ts fs payments t on tt (refused R.NoBracket) tt (sym is ∙ e) in
           record { begun = s .begun; unbracketed = unbracketed _ _ _ _ _ _ _ _ _ _ (s .goes-on) },
-      λ w. is ∙ begins (rulesOn alpha pls ss ts fs payments accruals owns strike t notional side) ts fs payments t on (w .begun) ∙ bracket-wanted _ _ _ _ _ _ _ _ _ _ (w .unbracketed),
+      λ w. is ∙ begins (pricerRulesOn alpha pls ss ts fs payments accruals owns strike t notional side) ts fs payments t on (w .begun) ∙ bracket-wanted _ _ _ _ _ _ _ _ _ _ (w .unbracketed),
     )

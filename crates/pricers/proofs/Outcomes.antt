@@ -19,7 +19,7 @@ use Rattle.lists.proofs.Outcomes.{neither}
 use Rattle.lists.proofs.CurveLaws.{curve-rises}
 use Rattle.closedform.specs.declared.bond_option.SwaptionType.{SwaptionType}
 use Rattle.valuations.specs.Value.{swaptionPriced}
-use Rattle.pricers.specs.Pricer.{pricerRules, rulesOn, pricerOutcome}
+use Rattle.pricers.specs.Pricer.{pricerRules, pricerRulesOn, pricerOutcome}
 
 -- ---- the rules do not ask where the faults and tests come from
 pub same-rules : {curve curve' schedule schedule' coupons coupons' : Faults} {finite finite' fit fit' later later' : Bool} (unpaired empty : Bool) (alpha strike t notional side : Float) {answer : Answer}
@@ -30,7 +30,7 @@ same-rules unpaired empty alpha strike t notional side c s k f g a r = rw (← c
 
 -- ---- they turn the call down, or let it through
 module _ (option : SwaptionType) (alpha : Float) (pls ss ts fs payments accruals owns : List Float) (strike t notional side : Float) {answer : Answer}
-    (r : answer ≡ firstOf (rulesOn alpha pls ss ts fs payments accruals owns strike t notional side)) where
+    (r : answer ≡ firstOf (pricerRulesOn alpha pls ss ts fs payments accruals owns strike t notional side)) where
   pub turned-down : {q : Refusal} → answer ≡ A.Refused q → refused q ≡ pricerOutcome option alpha pls ss ts fs payments accruals owns strike t notional side
   unfolding pricerOutcome
   turned-down e = rw (← r, e)
@@ -42,7 +42,7 @@ module _ (option : SwaptionType) (alpha : Float) (pls ss ts fs payments accruals
   -- by rule 1 the coupons' lists are of one length of at most 64, by rule 4 the curve's times strictly rise
   pub lists-fit : answer ≡ A.Served → (length payments ≤ 64) × (length accruals ≡ length payments) × (length owns ≡ length payments) × (inOrder true ts ≡ true)
   lists-fit e =
-      let none = none-applies (rulesOn alpha pls ss ts fs payments accruals owns strike t notional side) .0 (sym r ∙ e) in
+      let none = none-applies (pricerRulesOn alpha pls ss ts fs payments accruals owns strike t notional side) .0 (sym r ∙ e) in
       let curve = curveFaults ts fs in
       let schedule = pillarFaults pls ss in
       let coupons = couponFaults payments accruals in

@@ -7,26 +7,26 @@ use mathlib.Core.Logic.{_↔_}
 use Rattle.lists.specs.declared.refusals.Refusal.the-variants as R
 use Rattle.lists.specs.Refusals.{served, refused}
 use Rattle.formulas.specs.HullWhite.{forwardOf}
-use Rattle.schedules.specs.Variance.{varianceOf}
+use Rattle.schedules.specs.Variance.{piecewiseVarianceOf}
 use Rattle.coupons.specs.Sum.{couponSum}
 use Rattle.terms.specs.Terms.{coefficientsOf, bsOf}
 use Rattle.terms.specs.Begun.{RootFound, WantsBracket}
 use Rattle.valuations.specs.declared.value.Valuation.{Valuation}
-use Rattle.closedform.specs.Affine.{affinesOf}
-use Rattle.valuations.specs.Value.{Valued, valuationOutcome}
-use Rattle.pricers.specs.Pricer.{rulesOn}
+use Rattle.closedform.specs.Affine.{affineAListOf}
+use Rattle.valuations.specs.Value.{PricerValued, valuationOutcome}
+use Rattle.pricers.specs.Pricer.{pricerRulesOn}
 
 -- the priced coupon sum, as a function of the rate, of a swaption whose factors at t, t + h and the payment times are pt, pPlus and ps
-abbrev pub sumOf : Float → List Float → List Float → Float → List Float → List Float → Float → Float → Float → List Float → Float → Float
-sumOf alpha pls ss t payments accruals strike pt pPlus ps =
+abbrev pub pricerSumOf : Float → List Float → List Float → Float → List Float → List Float → Float → Float → Float → List Float → Float → Float
+pricerSumOf alpha pls ss t payments accruals strike pt pPlus ps =
     let bs = bsOf alpha t payments in
-    couponSum (coefficientsOf strike accruals) (affinesOf (varianceOf alpha pls ss zero t) (forwardOf pt pPlus) pt bs ps) bs
+    couponSum (coefficientsOf strike accruals) (affineAListOf (piecewiseVarianceOf alpha pls ss zero t) (forwardOf pt pPlus) pt bs ps) bs
 
 module _ (alpha : Float) (pls ss ts fs payments accruals owns : List Float) (strike t notional side : Float) where
   -- an accepted answer: its root is located among the sums of the terms priced
-  abbrev pub Rooted : Valuation → Type 0
-  Rooted r = (v : Valued) → valuationOutcome r ≡ served v → RootFound (rulesOn alpha pls ss ts fs payments accruals owns strike t notional side) ts fs payments t (sumOf alpha pls ss t payments accruals strike) (v .root)
+  abbrev pub PricerRootLocated : Valuation → Type 0
+  PricerRootLocated r = (v : PricerValued) → valuationOutcome r ≡ served v → RootFound (pricerRulesOn alpha pls ss ts fs payments accruals owns strike t notional side) ts fs payments t (pricerSumOf alpha pls ss t payments accruals strike) (v .root)
 
   -- "no call is refused so on any other ground"
-  abbrev pub RefusedSo : Valuation → Type 0
-  RefusedSo r = (valuationOutcome r ≡ refused R.NoBracket) ↔ WantsBracket (rulesOn alpha pls ss ts fs payments accruals owns strike t notional side) ts fs payments t (sumOf alpha pls ss t payments accruals strike)
+  abbrev pub PricerNoBracketExactly : Valuation → Type 0
+  PricerNoBracketExactly r = (valuationOutcome r ≡ refused R.NoBracket) ↔ WantsBracket (pricerRulesOn alpha pls ss ts fs payments accruals owns strike t notional side) ts fs payments t (pricerSumOf alpha pls ss t payments accruals strike)

@@ -13,7 +13,7 @@ use Rattle.lists.specs.Refusals.{Outcome, Rule, rule, unless}
 use Rattle.lists.specs.Checks.{allOf}
 use Rattle.lists.specs.Faults.{curveFaults, pillarFaults, couponFaults}
 use Rattle.closedform.specs.declared.bond_option.SwaptionType.{SwaptionType}
-use Rattle.valuations.specs.Value.{Valued, swaptionPriced}
+use Rattle.valuations.specs.Value.{PricerValued, swaptionPriced}
 
 -- ---- rules 1 to 7, a line a rule
 
@@ -34,13 +34,13 @@ pricerRules curve schedule coupons unpaired ownFinite ownFit later empty alpha s
     ∷ []
 
 -- the rules on a call's own lists and numbers
-abbrev pub rulesOn : Float → List Float → List Float → List Float → List Float → List Float → List Float → List Float → Float → Float → Float → Float → List Rule
-rulesOn alpha pls ss ts fs payments accruals owns strike t notional side =
+abbrev pub pricerRulesOn : Float → List Float → List Float → List Float → List Float → List Float → List Float → List Float → Float → Float → Float → Float → List Rule
+pricerRulesOn alpha pls ss ts fs payments accruals owns strike t notional side =
     pricerRules (curveFaults ts fs) (pillarFaults pls ss) (couponFaults payments accruals) (not (eqb (length payments) (length owns))) (allOf Finite owns) (ownFits owns) (allOf (Above t) payments)
     (eqb (length payments) 0 || eqb (length pls) 0) alpha strike t notional side
 
 -- ---- the rules, then the value
 
-unfoldable pub pricerOutcome : SwaptionType → Float → List Float → List Float → List Float → List Float → List Float → List Float → List Float → Float → Float → Float → Float → Outcome Valued
+unfoldable pub pricerOutcome : SwaptionType → Float → List Float → List Float → List Float → List Float → List Float → List Float → List Float → Float → Float → Float → Float → Outcome PricerValued
 pricerOutcome option alpha pls ss ts fs payments accruals owns strike t notional side =
-    unless (rulesOn alpha pls ss ts fs payments accruals owns strike t notional side) (swaptionPriced option alpha pls ss ts fs payments accruals owns strike t notional side)
+    unless (pricerRulesOn alpha pls ss ts fs payments accruals owns strike t notional side) (swaptionPriced option alpha pls ss ts fs payments accruals owns strike t notional side)

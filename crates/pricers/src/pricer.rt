@@ -2,9 +2,9 @@
 ghost use mathlib.Core.Path.{_≡_};
 ghost use Rattle.lists.specs.Refusals.{reported, firstOf};
 ghost use Rattle.lists.specs.Faults.{curveFaults};
-ghost use Rattle.valuations.specs.Value.{valuationOutcome, noValued};
+ghost use Rattle.valuations.specs.Value.{valuationOutcome, noPricerValued};
 ghost use Rattle.pricers.specs.Pricer.{ownFits, pricerRules, pricerOutcome};
-ghost use Rattle.pricers.specs.Demand3.{Rooted, RefusedSo};
+ghost use Rattle.pricers.specs.Demand3.{PricerRootLocated, PricerNoBracketExactly};
 use closedform::SwaptionType;
 use lists::Answer;
 use lists::Faults;
@@ -30,9 +30,9 @@ pub fn swaption_value(
     side: f64,
 ) -> Valuation
     ensures answer { λ r. ⌜ valuationOutcome r ≡ pricerOutcome option alpha (now (pillars .entry)) (now (sigmas .entry)) (now (times .entry)) (now (factors .entry)) (now (payments .entry)) (now (accruals .entry)) (now («own_dfs» .entry)) strike t notional side ⌝ }
-    ensures rooted { λ r. ⌜ Rooted alpha (now (pillars .entry)) (now (sigmas .entry)) (now (times .entry)) (now (factors .entry)) (now (payments .entry)) (now (accruals .entry)) (now («own_dfs» .entry)) strike t notional side r ⌝ }
-    ensures bracket { λ r. ⌜ RefusedSo alpha (now (pillars .entry)) (now (sigmas .entry)) (now (times .entry)) (now (factors .entry)) (now (payments .entry)) (now (accruals .entry)) (now («own_dfs» .entry)) strike t notional side r ⌝ }
-    ensures report { λ r. ⌜ reported noValued (valuationOutcome r) ≡ reported noValued (pricerOutcome option alpha (now (pillars .entry)) (now (sigmas .entry)) (now (times .entry)) (now (factors .entry)) (now (payments .entry)) (now (accruals .entry)) (now («own_dfs» .entry)) strike t notional side) ⌝ }
+    ensures rooted { λ r. ⌜ PricerRootLocated alpha (now (pillars .entry)) (now (sigmas .entry)) (now (times .entry)) (now (factors .entry)) (now (payments .entry)) (now (accruals .entry)) (now («own_dfs» .entry)) strike t notional side r ⌝ }
+    ensures bracket { λ r. ⌜ PricerNoBracketExactly alpha (now (pillars .entry)) (now (sigmas .entry)) (now (times .entry)) (now (factors .entry)) (now (payments .entry)) (now (accruals .entry)) (now («own_dfs» .entry)) strike t notional side r ⌝ }
+    ensures report { λ r. ⌜ reported noPricerValued (valuationOutcome r) ≡ reported noPricerValued (pricerOutcome option alpha (now (pillars .entry)) (now (sigmas .entry)) (now (times .entry)) (now (factors .entry)) (now (payments .entry)) (now (accruals .entry)) (now («own_dfs» .entry)) strike t notional side) ⌝ }
 {
     let curve = lists::curve_faults(times, factors);
     swaption_value_on(
@@ -73,9 +73,9 @@ pub fn swaption_value_on(
 ) -> Valuation
     requires { ⌜ curve ≡ curveFaults (now times) (now factors) ⌝ }
     ensures answer { λ r. ⌜ valuationOutcome r ≡ pricerOutcome option alpha (now (pillars .entry)) (now (sigmas .entry)) (now (times .entry)) (now (factors .entry)) (now (payments .entry)) (now (accruals .entry)) (now («own_dfs» .entry)) strike t notional side ⌝ }
-    ensures rooted { λ r. ⌜ Rooted alpha (now (pillars .entry)) (now (sigmas .entry)) (now (times .entry)) (now (factors .entry)) (now (payments .entry)) (now (accruals .entry)) (now («own_dfs» .entry)) strike t notional side r ⌝ }
-    ensures bracket { λ r. ⌜ RefusedSo alpha (now (pillars .entry)) (now (sigmas .entry)) (now (times .entry)) (now (factors .entry)) (now (payments .entry)) (now (accruals .entry)) (now («own_dfs» .entry)) strike t notional side r ⌝ }
-    ensures report { λ r. ⌜ reported noValued (valuationOutcome r) ≡ reported noValued (pricerOutcome option alpha (now (pillars .entry)) (now (sigmas .entry)) (now (times .entry)) (now (factors .entry)) (now (payments .entry)) (now (accruals .entry)) (now («own_dfs» .entry)) strike t notional side) ⌝ }
+    ensures rooted { λ r. ⌜ PricerRootLocated alpha (now (pillars .entry)) (now (sigmas .entry)) (now (times .entry)) (now (factors .entry)) (now (payments .entry)) (now (accruals .entry)) (now («own_dfs» .entry)) strike t notional side r ⌝ }
+    ensures bracket { λ r. ⌜ PricerNoBracketExactly alpha (now (pillars .entry)) (now (sigmas .entry)) (now (times .entry)) (now (factors .entry)) (now (payments .entry)) (now (accruals .entry)) (now («own_dfs» .entry)) strike t notional side r ⌝ }
+    ensures report { λ r. ⌜ reported noPricerValued (valuationOutcome r) ≡ reported noPricerValued (pricerOutcome option alpha (now (pillars .entry)) (now (sigmas .entry)) (now (times .entry)) (now (factors .entry)) (now (payments .entry)) (now (accruals .entry)) (now («own_dfs» .entry)) strike t notional side) ⌝ }
 {
     let schedule = lists::pillar_faults(pillars, sigmas);
     let coupons = lists::coupon_faults(payments, accruals);

@@ -25,7 +25,7 @@ use Rattle.exponential.specs.Exp.{kOf, reducedOf, turnOf, seriesOf, withinLimit
 use Rattle.exponential.proofs.Limits.{from-parts}
 use Rattle.polynomials.specs.Polynomials.{horner, numFirst, numRest, numAt, denFirst, denRest, denAt}
 use Rattle.probability.specs.NormCdf.{limit, threshold, upperOf}
-use Rattle.probability.specs.Turns.{numFixed, denFixed, Room, Begun, Turned, Ended}
+use Rattle.probability.specs.Turns.{numFixed, denFixed, Room, TurnsBegun, Turned, Ended}
 
 -- ---- the coefficients in fixed point: antt compares each with the printed one
 
@@ -135,10 +135,10 @@ pub record Sizes (n num den num2 den2 : ℕ) : Type 0 where
   pub first : Within n num den
   pub second : Within n num2 den2
 
-begun-within : {y : ℕ} {r : Float} {num den : ℕ} {p : Float} → Begun y r num den p → Within 0 num den
+begun-within : {y : ℕ} {r : Float} {num den : ℕ} {p : Float} → TurnsBegun y r num den p → Within 0 num den
 begun-within b = (le-of-eq (b .numerator), b .denominator .most)
 
-pub begins : {y x : ℕ} {r q : Float} {num den num2 den2 : ℕ} {p p2 : Float} → Begun y r num den p → Begun x q num2 den2 p2 → Sizes 0 num den num2 den2
+pub begins : {y x : ℕ} {r q : Float} {num den num2 den2 : ℕ} {p p2 : Float} → TurnsBegun y r num den p → TurnsBegun x q num2 den2 p2 → Sizes 0 num den num2 den2
 begins b b2 = record { first = begun-within b; second = begun-within b2 }
 
 module _ (n : ℕ) {num den num2 den2 : ℕ} (s : Sizes n num den num2 den2) where
@@ -222,7 +222,7 @@ k-small k h = subst (λ (j : ℤ). mag j < 2000) (sym (k-back k h)) h
 -- ---- one argument's work put together
 
 pub assembled : (z a r v : Float) (y : ℕ) (k : ℤ) {n0 d1 n1 d2 n2 d3 n3 d4 n4 d5 n5 d6 : ℕ} {p0 p1 p2 p3 p4 p5 : Float} → y < 2 ^ 64 → Held z y 62 → a ≡ neg z ⊗ z ⊗ half → withinLimits a ≡ true
-    → r ≡ reducedOf a (kOf a) → k ≡ kOf a → Begun y r n0 d1 p0
+    → r ≡ reducedOf a (kOf a) → k ≡ kOf a → TurnsBegun y r n0 d1 p0
     → Turned n0 d1 p0 y r (numFixed 1) (denFixed 2) (lit 0x4028_0000_0000_0000) (lit 0x4026_0000_0000_0000) n1 d2 p1
     → Turned n1 d2 p1 y r (numFixed 2) (denFixed 3) (lit 0x4024_0000_0000_0000) (lit 0x4022_0000_0000_0000) n2 d3 p2
     → Turned n2 d3 p2 y r (numFixed 3) (denFixed 4) (lit 0x4020_0000_0000_0000) (lit 0x401c_0000_0000_0000) n3 d4 p3

@@ -24,7 +24,7 @@ abbrev pub Room : ℕ → ℕ → ℕ → ℕ → Type 0
 Room num den c d = (2 ^ 53 ≤ c) × (num + c < 2 ^ 62) × (2 ^ 53 ≤ d) × (den + d < 2 ^ 62)
 
 -- before the first turn
-pub record Begun (y : ℕ) (r : Float) (num den : ℕ) (p : Float) : Type 0 where
+pub record TurnsBegun (y : ℕ) (r : Float) (num den : ℕ) (p : Float) : Type 0 where
   pub numerator : num ≡ numFixed 0
   pub denominator : Stepped (denFixed 0) y (denFixed 1) den
   pub series : p ≡ turnOf r one (ofInt binary64 (pos 13))

@@ -12,7 +12,7 @@ ghost use Rattle.ieee.specs.Fused.{fusedOf};
 ghost use Rattle.exponential.specs.Exp.{withinLimits};
 ghost use Rattle.probability.specs.NormCdf.{upperOf};
 ghost use Rattle.polynomials.specs.Sized.{Near};
-ghost use Rattle.probability.specs.Turns.{numFixed, denFixed, Room, Turned, Begun, Ended};
+ghost use Rattle.probability.specs.Turns.{numFixed, denFixed, Room, Turned, TurnsBegun, Ended};
 
 // Hart's coefficients, the n-th times 2^(59 - 2 n): a step takes two places off. They are constants of their
 // own beside those of `polynomials`: no constant is worked from another by a call. The proofs hold each
@@ -103,7 +103,7 @@ pub fn quotients(z: f64, w: f64, a: f64, b: f64) -> exponential::Two
 
 // The denominators' first step, since they have one more than the numerators, and the first terms of exp.
 fn begun(y: u64, x: u64, r: f64, q: f64) -> Shares
-    ensures { λ s. ⌜ Begun y r (s .num) (s .den) (s .p) × Begun x q (s .num2) (s .den2) (s .p2) ⌝ }
+    ensures { λ s. ⌜ TurnsBegun y r (s .num) (s .den) (s .p) × TurnsBegun x q (s .num2) (s .den2) (s .p2) ⌝ }
 {
     Shares {
         num: NUM_0,

@@ -8,7 +8,7 @@ ghost use Rattle.ieee.specs.Rounded.{_⊖_, _⊗_};
 ghost use Rattle.ieee.specs.Numbers.{zero, half, one};
 ghost use Rattle.exponential.specs.Exp.{expOf, withinLimits};
 ghost use Rattle.probability.specs.NormCdf.{tailOf, upperOf, normCdfOf, normCdfDualOf};
-ghost use Rattle.polynomials.specs.Polynomials.{stepOf};
+ghost use Rattle.polynomials.specs.Polynomials.{hornerStepOf};
 ghost use Rattle.polynomials.specs.Sized.{Near};
 ghost use Rattle.probability.specs.Between.{Probability};
 ghost use Rattle.probability.specs.AsWritten.{normCdfDualAsWritten};
@@ -65,7 +65,7 @@ fn below(x: f64, cum: f64) -> f64
 
 // What lies above z, for a z at or above 0.
 fn upper(z: f64, dual: bool) -> f64
-    ensures { λ r. ⌜ r ≡ upperOf (stepOf dual) z ⌝ }
+    ensures { λ r. ⌜ r ≡ upperOf (hornerStepOf dual) z ⌝ }
 {
     upper_by(z, exponential::exp(-z * z * 0.5), dual)
 }
@@ -73,7 +73,7 @@ fn upper(z: f64, dual: bool) -> f64
 // The same, where a caller has worked the exp.
 fn upper_by(z: f64, e: f64, dual: bool) -> f64
     requires { ⌜ e ≡ expOf (neg z ⊗ z ⊗ half) ⌝ }
-    ensures { λ r. ⌜ r ≡ upperOf (stepOf dual) z ⌝ }
+    ensures { λ r. ⌜ r ≡ upperOf (hornerStepOf dual) z ⌝ }
 {
     if z > 37.0 {
         return 0.0;

@@ -9,20 +9,20 @@ use Rattle.exponential.specs.Density.{densityOf}
 use Rattle.probability.specs.NormCdf.{normCdfOf}
 
 -- d1 = 0.5 × vol × √tau + ln(F/K)/(vol × √tau), the sum fused
-unfoldable pub d1Of : Float → Float → Float → Float → Float
-d1Of fwd strike vol tau = fusedOf (half ⊗ vol) (sqrtOf tau) (lnOf (fwd ⊘ strike) ⊘ (vol ⊗ sqrtOf tau))
+unfoldable pub quoteD1Of : Float → Float → Float → Float → Float
+quoteD1Of fwd strike vol tau = fusedOf (half ⊗ vol) (sqrtOf tau) (lnOf (fwd ⊘ strike) ⊘ (vol ⊗ sqrtOf tau))
 
 -- d2 = d1 - vol × √tau, fused
-unfoldable pub d2Of : Float → Float → Float → Float
-d2Of vol tau d1 = fusedOf vol (neg (sqrtOf tau)) d1
+unfoldable pub quoteD2Of : Float → Float → Float → Float
+quoteD2Of vol tau d1 = fusedOf vol (neg (sqrtOf tau)) d1
 
 -- F × N(d1) - K × N(d2), fused
 unfoldable pub blackCallOf : Float → Float → Float → Float → Float
-blackCallOf fwd strike vol tau = let d1 = d1Of fwd strike vol tau in fusedOf fwd (normCdfOf d1) (neg (strike ⊗ normCdfOf (d2Of vol tau d1)))
+blackCallOf fwd strike vol tau = let d1 = quoteD1Of fwd strike vol tau in fusedOf fwd (normCdfOf d1) (neg (strike ⊗ normCdfOf (quoteD2Of vol tau d1)))
 
 -- K × N(-d2) - F × N(-d1), fused
 unfoldable pub blackPutOf : Float → Float → Float → Float → Float
-blackPutOf fwd strike vol tau = let d1 = d1Of fwd strike vol tau in fusedOf strike (normCdfOf (neg (d2Of vol tau d1))) (neg (fwd ⊗ normCdfOf (neg d1)))
+blackPutOf fwd strike vol tau = let d1 = quoteD1Of fwd strike vol tau in fusedOf strike (normCdfOf (neg (quoteD2Of vol tau d1))) (neg (fwd ⊗ normCdfOf (neg d1)))
 
 -- (F - K) × N(d) + s × φ(d), fused, where s = vol × √tau and d = (F - K)/s
 unfoldable pub bachelierCallOf : Float → Float → Float → Float → Float

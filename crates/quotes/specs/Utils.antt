@@ -8,32 +8,32 @@ use Rattle.lists.specs.declared.refusals.Refusal.the-variants as R
 use Rattle.lists.specs.Refusals.{Outcome, served, refused, unless, finishing}
 use Rattle.lookups.specs.Lookups.{factorAt, needing}
 use Rattle.lists.specs.Faults.{curveFaults, couponFaults}
-use Rattle.quotes.specs.Formulas.{d1Of, d2Of, blackCallOf, blackPutOf, bachelierCallOf, annuityStep}
-use Rattle.quotes.specs.declared.utils.Pair.{Pair}
-use Rattle.quotes.specs.declared.utils.Pair.the-variants as P
+use Rattle.quotes.specs.Formulas.{quoteD1Of, quoteD2Of, blackCallOf, blackPutOf, bachelierCallOf, annuityStep}
+use Rattle.quotes.specs.declared.utils.D1D2.{D1D2}
+use Rattle.quotes.specs.declared.utils.D1D2.the-variants as P
 use Rattle.quotes.specs.Rules.{quoteRules, annuityRules}
 
 -- the outcome of a call with two values, from the code's answer
-pub record Two : Type 0 where
+pub record D1D2Values : Type 0 where
   pub first : Float
   pub second : Float
 
 -- beside a refusal's number
-abbrev pub noTwo : Two
-noTwo = record { first = zero; second = zero }
+abbrev pub noD1D2 : D1D2Values
+noD1D2 = record { first = zero; second = zero }
 
-abbrev pub pairOutcome : Pair → Outcome Two
-pairOutcome (P.Served x y) = served (record { first = x; second = y })
-pairOutcome (P.Refused r) = refused r
+abbrev pub d1d2AnswerOf : D1D2 → Outcome D1D2Values
+d1d2AnswerOf (P.Served x y) = served (record { first = x; second = y })
+d1d2AnswerOf (P.Refused r) = refused r
 
 -- d1 and d2; rule 13 looks at both
-unfoldable pub d1d2Worked : Float → Float → Float → Float → Outcome Two
+unfoldable pub d1d2Worked : Float → Float → Float → Float → Outcome D1D2Values
 d1d2Worked fwd strike vol tau =
-    let d1 = d1Of fwd strike vol tau in
-    let d2 = d2Of vol tau d1 in
+    let d1 = quoteD1Of fwd strike vol tau in
+    let d2 = quoteD2Of vol tau d1 in
     cond (finite d1 && finite d2) (served (record { first = d1; second = d2 })) (refused R.Overflow)
 
-unfoldable pub d1d2Outcome : Float → Float → Float → Float → Outcome Two
+unfoldable pub d1d2Outcome : Float → Float → Float → Float → Outcome D1D2Values
 d1d2Outcome fwd strike vol tau = unless (quoteRules true fwd strike vol tau) (d1d2Worked fwd strike vol tau)
 
 unfoldable pub blackCallOutcome : Float → Float → Float → Float → Outcome Float

@@ -1,9 +1,9 @@
 // utils.rs: the market's formulas for a quoted volatility, and the annuity. Nothing is refused here.
 ghost use mathlib.Core.Path.{_≡_};
-ghost use Rattle.quotes.specs.Formulas.{d1Of, d2Of, blackCallOf, blackPutOf, bachelierCallOf, annuityStep};
+ghost use Rattle.quotes.specs.Formulas.{quoteD1Of, quoteD2Of, blackCallOf, blackPutOf, bachelierCallOf, annuityStep};
 
-pub fn d1_of(fwd: f64, strike: f64, vol: f64, tau: f64) -> f64
-    ensures { λ r. ⌜ r ≡ d1Of fwd strike vol tau ⌝ }
+pub fn quote_d1_of(fwd: f64, strike: f64, vol: f64, tau: f64) -> f64
+    ensures { λ r. ⌜ r ≡ quoteD1Of fwd strike vol tau ⌝ }
 {
     let sqrt_tau = ieee::sqrt(tau);
     ieee::fused(
@@ -13,8 +13,8 @@ pub fn d1_of(fwd: f64, strike: f64, vol: f64, tau: f64) -> f64
     )
 }
 
-pub fn d2_of(vol: f64, tau: f64, d1: f64) -> f64
-    ensures { λ r. ⌜ r ≡ d2Of vol tau d1 ⌝ }
+pub fn quote_d2_of(vol: f64, tau: f64, d1: f64) -> f64
+    ensures { λ r. ⌜ r ≡ quoteD2Of vol tau d1 ⌝ }
 {
     ieee::fused(vol, -ieee::sqrt(tau), d1)
 }
@@ -22,16 +22,16 @@ pub fn d2_of(vol: f64, tau: f64, d1: f64) -> f64
 pub fn black_call_of(fwd: f64, strike: f64, vol: f64, tau: f64) -> f64
     ensures { λ r. ⌜ r ≡ blackCallOf fwd strike vol tau ⌝ }
 {
-    let d1 = d1_of(fwd, strike, vol, tau);
-    let taken = strike * probability::norm_cdf(d2_of(vol, tau, d1));
+    let d1 = quote_d1_of(fwd, strike, vol, tau);
+    let taken = strike * probability::norm_cdf(quote_d2_of(vol, tau, d1));
     ieee::fused(fwd, probability::norm_cdf(d1), -taken)
 }
 
 pub fn black_put_of(fwd: f64, strike: f64, vol: f64, tau: f64) -> f64
     ensures { λ r. ⌜ r ≡ blackPutOf fwd strike vol tau ⌝ }
 {
-    let d1 = d1_of(fwd, strike, vol, tau);
-    let d2 = d2_of(vol, tau, d1);
+    let d1 = quote_d1_of(fwd, strike, vol, tau);
+    let d2 = quote_d2_of(vol, tau, d1);
     let taken = fwd * probability::norm_cdf(-d1);
     ieee::fused(strike, probability::norm_cdf(-d2), -taken)
 }

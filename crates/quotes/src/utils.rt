@@ -3,7 +3,7 @@ ghost use mathlib.Core.Path.{_≡_};
 ghost use mathlib.Core.Bool.{true};
 ghost use Rattle.lists.specs.Checks.{inOrder};
 ghost use Rattle.lists.specs.Refusals.{Priced, outcomeOf, reported};
-ghost use Rattle.quotes.specs.Utils.{noTwo, pairOutcome, d1d2Worked, d1d2Outcome, blackCallOutcome, blackPutOutcome, bachelierCallOutcome, annuityPriced, annuityOutcome};
+ghost use Rattle.quotes.specs.Utils.{noD1D2, d1d2AnswerOf, d1d2Worked, d1d2Outcome, blackCallOutcome, blackPutOutcome, bachelierCallOutcome, annuityPriced, annuityOutcome};
 use super::quoted;
 use super::rules;
 use lists::Answer;
@@ -12,31 +12,31 @@ use lists::Refusal;
 use lookups::Found;
 
 // The answer of a call with two values.
-pub enum Pair {
+pub enum D1D2 {
     Served(f64, f64),
     Refused(Refusal),
 }
 
-pub fn d1_d2(fwd: f64, strike: f64, vol: f64, tau: f64) -> Pair
-    ensures answer { λ r. ⌜ pairOutcome r ≡ d1d2Outcome fwd strike vol tau ⌝ }
-    ensures report { λ r. ⌜ reported noTwo (pairOutcome r) ≡ reported noTwo (d1d2Outcome fwd strike vol tau) ⌝ }
+pub fn d1_d2(fwd: f64, strike: f64, vol: f64, tau: f64) -> D1D2
+    ensures answer { λ r. ⌜ d1d2AnswerOf r ≡ d1d2Outcome fwd strike vol tau ⌝ }
+    ensures report { λ r. ⌜ reported noD1D2 (d1d2AnswerOf r) ≡ reported noD1D2 (d1d2Outcome fwd strike vol tau) ⌝ }
 {
     let answer = rules::quote_rules(true, fwd, strike, vol, tau);
     match answer {
-        Answer::Refused(refusal) => Pair::Refused(refusal),
+        Answer::Refused(refusal) => D1D2::Refused(refusal),
         Answer::Served => d1_d2_worked(fwd, strike, vol, tau),
     }
 }
 
-fn d1_d2_worked(fwd: f64, strike: f64, vol: f64, tau: f64) -> Pair
-    ensures { λ r. ⌜ pairOutcome r ≡ d1d2Worked fwd strike vol tau ⌝ }
+fn d1_d2_worked(fwd: f64, strike: f64, vol: f64, tau: f64) -> D1D2
+    ensures { λ r. ⌜ d1d2AnswerOf r ≡ d1d2Worked fwd strike vol tau ⌝ }
 {
-    let d1 = quoted::d1_of(fwd, strike, vol, tau);
-    let d2 = quoted::d2_of(vol, tau, d1);
+    let d1 = quoted::quote_d1_of(fwd, strike, vol, tau);
+    let d2 = quoted::quote_d2_of(vol, tau, d1);
     if elementary::is_finite(d1) & elementary::is_finite(d2) {
-        Pair::Served(d1, d2)
+        D1D2::Served(d1, d2)
     } else {
-        Pair::Refused(Refusal::Overflow)
+        D1D2::Refused(Refusal::Overflow)
     }
 }
 
@@ -71,7 +71,12 @@ pub fn bachelier_call(fwd: f64, strike: f64, vol: f64, tau: f64) -> Price
 }
 
 // The annuity of the coupons listed: payment times and accruals.
-pub fn annuity(times: &[f64], factors: &[f64], payments: &[f64], accruals: &[f64]) -> Price
+pub fn swap_annuity_from_curve(
+    times: &[f64],
+    factors: &[f64],
+    payments: &[f64],
+    accruals: &[f64],
+) -> Price
     ensures { λ r. ⌜ Priced r (annuityOutcome (now (times .entry)) (now (factors .entry)) (now (payments .entry)) (now (accruals .entry))) ⌝ }
 {
     let curve = lists::curve_faults(times, factors);

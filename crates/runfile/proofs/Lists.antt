@@ -7,7 +7,7 @@ use Rattle.layout.specs.declared.parts.Layout.{Layout}
 use Rattle.layout.specs.Bytes.{floatAt}
 use Rattle.layout.specs.Request.{requestOf, jobsOf}
 use Rattle.layout.specs.Lists.{listOf}
-use Rattle.kinds.specs.Told.{listsOf}
+use Rattle.kinds.specs.Results.{requestOfLists}
 
 pub lists-are : (file : List ℕ) (l : Layout) (alpha : Float) (pillars sigmas times factors payments accruals owns grid draws : List Float) → let q = requestOf file l in
     alpha ≡ floatAt file (l .model .offset)
@@ -20,6 +20,6 @@ pub lists-are : (file : List ℕ) (l : Layout) (alpha : Float) (pillars sigmas t
     → owns ≡ listOf q 6
     → grid ≡ listOf q 7
     → draws ≡ listOf q 8
-    → listsOf alpha pillars sigmas times factors payments accruals owns grid draws (jobsOf file (l .jobs)) ≡ q
+    → requestOfLists alpha pillars sigmas times factors payments accruals owns grid draws (jobsOf file (l .jobs)) ≡ q
 unfolding requestOf
 lists-are file l alpha pillars sigmas times factors payments accruals owns grid draws a e0 e1 e2 e3 e4 e5 e6 e7 e8 = rw (a, e0, e1, e2, e3, e4, e5, e6, e7, e8)

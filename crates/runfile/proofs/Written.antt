@@ -23,10 +23,10 @@ use Rattle.layout.proofs.Lists.{column-length}
 use Rattle.fields.specs.Text.{Begins}
 use Rattle.fields.specs.Fields.{bitsOf}
 use Rattle.lines.specs.Lines.{lineOf}
-use Rattle.kinds.specs.declared.told.Told.{Told}
-use Rattle.kinds.specs.Told.{listsOf, optionTold, toldOf}
-use Rattle.kinds.specs.Worked.{Whole, toldFrom, swaptionWhole, fitWhole, workOf, told-is}
-use Rattle.runfile.specs.Output.{toldLine, pointLines, pathLines, pathOf, jobLines}
+use Rattle.kinds.specs.declared.results.JobResult.{JobResult}
+use Rattle.kinds.specs.Results.{requestOfLists, optionResult, jobResultOf}
+use Rattle.kinds.specs.Worked.{Whole, resultFrom, swaptionWhole, fitWhole, workOf, result-is}
+use Rattle.runfile.specs.Output.{resultLine, pointLines, pathLines, pathOf, jobLines}
 
 -- ---- an outcome, from the answer without its values
 module _ {B : Type 0} (o : Outcome B) (answer : Answer) where
@@ -69,7 +69,7 @@ module _ (k : ℕ) (o : Outcome (List Float)) (res : ℕ) (d out : List ℕ) whe
   point-by-point (x ∷ xs) vs e h q b = rw e (rw q at b)
 
 -- ---- the lines of a job
-pub same-told : (k kind res : ℕ) (d out : List ℕ) (t t′ : Told) → t ≡ t′ → Begins res (toldLine k kind t) d out → Begins res (toldLine k kind t′) d out
+pub same-told : (k kind res : ℕ) (d out : List ℕ) (t t′ : JobResult) → t ≡ t′ → Begins res (resultLine k kind t) d out → Begins res (resultLine k kind t′) d out
 same-told k kind res d out t t′ e b = rw (← e) b
 
 module _ (q q′ : Request) (j j′ : Job) (k res : ℕ) (d out : List ℕ) (e : q ≡ q′) (f : j ≡ j′) where
@@ -77,21 +77,21 @@ module _ (q q′ : Request) (j j′ : Job) (k res : ℕ) (d out : List ℕ) (e :
   unfolding jobLines
   path-job h b = rw (← e, ← f, eq-eqb (j .kind) 12 h) b
 
-  pub option-job : (t : Told) → j .kind < 5 → t ≡ optionTold q j → Begins res (toldLine k (j .kind) t) d out → Begins res (jobLines q′ k j′) d out
-  unfolding jobLines toldOf
+  pub option-job : (t : JobResult) → j .kind < 5 → t ≡ optionResult q j → Begins res (resultLine k (j .kind) t) d out → Begins res (jobLines q′ k j′) d out
+  unfolding jobLines jobResultOf
   option-job t h p b = rw (← e, ← f, ne-eqb (j .kind) 12 (λ z. let y : ⊥ = omega arith in y), lt-ltb (j .kind) 5 h, ← p) b
 
-  pub worked-job : (w : Whole) → (j .kind ≡ 12 → ⊥) → 5 ≤ j .kind → w ≡ workOf q j → Begins res (toldLine k (j .kind) (toldFrom w)) d out → Begins res (jobLines q′ k j′) d out
+  pub worked-job : (w : Whole) → (j .kind ≡ 12 → ⊥) → 5 ≤ j .kind → w ≡ workOf q j → Begins res (resultLine k (j .kind) (resultFrom w)) d out → Begins res (jobLines q′ k j′) d out
   unfolding jobLines
-  worked-job w h i p b = rw (← e, ← f, ne-eqb (j .kind) 12 h, ← told-is q j (le-ltb (j .kind) 5 i), ← p) b
+  worked-job w h i p b = rw (← e, ← f, ne-eqb (j .kind) 12 h, ← result-is q j (le-ltb (j .kind) 5 i), ← p) b
 
 -- kinds 1 to 4 look at alpha and the curve alone, kinds 5 to 11 at no grid and at no other job
 module _ (alpha : Float) (pillars sigmas times factors payments accruals owns grid draws : List Float) (jobs : List Job) (j : Job) where
-  pub option-lists : optionTold (listsOf alpha [] [] times factors [] [] [] [] [] []) j ≡ optionTold (listsOf alpha pillars sigmas times factors payments accruals owns grid draws jobs) j
-  unfolding optionTold
+  pub option-lists : optionResult (requestOfLists alpha [] [] times factors [] [] [] [] [] []) j ≡ optionResult (requestOfLists alpha pillars sigmas times factors payments accruals owns grid draws jobs) j
+  unfolding optionResult
   option-lists = refl
 
-  pub work-lists : workOf (listsOf alpha pillars sigmas times factors payments accruals owns [] [] []) j ≡ workOf (listsOf alpha pillars sigmas times factors payments accruals owns grid draws jobs) j
+  pub work-lists : workOf (requestOfLists alpha pillars sigmas times factors payments accruals owns [] [] []) j ≡ workOf (requestOfLists alpha pillars sigmas times factors payments accruals owns grid draws jobs) j
   unfolding workOf swaptionWhole fitWhole
   work-lists = refl
 

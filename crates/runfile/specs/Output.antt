@@ -15,12 +15,12 @@ use Rattle.layout.specs.Layout.{layoutOf}
 use Rattle.layout.specs.Request.{Request, requestOf}
 use Rattle.fields.specs.Fields.{bitsOf}
 use Rattle.lines.specs.Lines.{header, refusedLine, lineOf}
-use Rattle.kinds.specs.declared.told.Told.{Told}
-use Rattle.kinds.specs.Told.{toldOf}
+use Rattle.kinds.specs.declared.results.JobResult.{JobResult}
+use Rattle.kinds.specs.Results.{jobResultOf}
 
 -- kinds 1 to 11: one line
-abbrev pub toldLine : ℕ → ℕ → Told → List ℕ
-toldLine k kind t = lineOf k kind (t .answer) (bitsOf (t .value)) (t .note)
+abbrev pub resultLine : ℕ → ℕ → JobResult → List ℕ
+resultLine k kind t = lineOf k kind (t .answer) (bitsOf (t .value)) (t .note)
 
 -- "A served path prints a line a grid point, the note being the point from 0"
 unfoldable pub pointLines : ℕ → ℕ → List Float → List ℕ
@@ -39,7 +39,7 @@ pathOf q = generateOutcome (q .alpha) (q .pillarTimes) (q .pillarSigmas) (q .cur
 
 -- the lines of job k, which is j
 unfoldable pub jobLines : Request → ℕ → Job → List ℕ
-jobLines q k j = cond (eqb (j .kind) 12) (pathLines k (pathOf q)) (toldLine k (j .kind) (toldOf q j))
+jobLines q k j = cond (eqb (j .kind) 12) (pathLines k (pathOf q)) (resultLine k (j .kind) (jobResultOf q j))
 
 -- the lines of the jobs from job k on
 unfoldable pub linesFrom : Request → ℕ → List Job → List ℕ

@@ -10,10 +10,10 @@ ghost use Rattle.layout.specs.Request.{requestOf, jobAt, jobsOf};
 ghost use Rattle.fields.specs.Text.{Begins};
 ghost use Rattle.fields.specs.Fields.{bitsOf};
 ghost use Rattle.lines.specs.Lines.{lineOf};
-ghost use Rattle.kinds.specs.Told.{listsOf};
-ghost use Rattle.kinds.specs.Worked.{wholeOf, toldFrom};
-ghost use Rattle.runfile.specs.Output.{toldLine, pointLines, pathLines, jobLines};
-use kinds::Told;
+ghost use Rattle.kinds.specs.Results.{requestOfLists};
+ghost use Rattle.kinds.specs.Worked.{wholeOf, resultFrom};
+ghost use Rattle.runfile.specs.Output.{resultLine, pointLines, pathLines, jobLines};
+use kinds::JobResult;
 use kinds::Worked;
 use layout::Layout;
 use lines::Line;
@@ -43,9 +43,9 @@ fn one_line(l: Line, out: &mut [u8]) -> usize
 }
 
 // The line of a job of kinds 1 to 11, of which `told` is told. A caller lends 128 bytes for it.
-fn told_line(k: u64, kind: u64, told: Told, out: &mut [u8]) -> usize
+fn result_line(k: u64, kind: u64, told: JobResult, out: &mut [u8]) -> usize
     requires { ⌜ 128 ≤ length (now out) ⌝ }
-    ensures { λ r. ⌜ Begins r (toldLine k kind told) (now (out .entry)) (now (out .exit)) ⌝ }
+    ensures { λ r. ⌜ Begins r (resultLine k kind told) (now (out .entry)) (now (out .exit)) ⌝ }
 {
     one_line(
         Line {
@@ -62,9 +62,9 @@ fn told_line(k: u64, kind: u64, told: Told, out: &mut [u8]) -> usize
 // The line of a job of kinds 5 to 11, from all that its call returned. A caller lends 128 bytes for it.
 pub fn worked_line(k: u64, kind: u64, worked: Worked, out: &mut [u8]) -> usize
     requires { ⌜ 128 ≤ length (now out) ⌝ }
-    ensures { λ r. ⌜ Begins r (toldLine k kind (toldFrom (wholeOf worked))) (now (out .entry)) (now (out .exit)) ⌝ }
+    ensures { λ r. ⌜ Begins r (resultLine k kind (resultFrom (wholeOf worked))) (now (out .entry)) (now (out .exit)) ⌝ }
 {
-    told_line(k, kind, kinds::tell(worked), out)
+    result_line(k, kind, kinds::job_result(worked), out)
 }
 
 // Kind 12. A grid without points is served with one line of zeros. A caller has the curve's faults and the grid
@@ -146,7 +146,7 @@ pub fn job_lines(
 ) -> usize
     requires { ⌜ (layoutOf (now file) ≡ Parts l) × (k < l .jobs .length / 40) × (131072 ≤ length (now out)) ⌝ }
     requires { ⌜ curve ≡ curveFaults (now times) (now factors) ⌝ }
-    requires { ⌜ listsOf alpha (now pillars) (now sigmas) (now times) (now factors) (now payments) (now accruals) (now owns) (now grid) (now draws) (jobsOf (now file) (l .jobs)) ≡ requestOf (now file) l ⌝ }
+    requires { ⌜ requestOfLists alpha (now pillars) (now sigmas) (now times) (now factors) (now payments) (now accruals) (now owns) (now grid) (now draws) (jobsOf (now file) (l .jobs)) ≡ requestOf (now file) l ⌝ }
     ensures { λ r. ⌜ Begins r (jobLines (requestOf (now (file .entry)) l) k (jobAt (now (file .entry)) (l .jobs .offset + 40 * k))) (now (out .entry)) (now (out .exit)) ⌝ }
 {
     let j = layout::nth_job(file, l.jobs, k);
@@ -165,8 +165,8 @@ pub fn job_lines(
         );
     }
     if j.kind < 5 {
-        let told = kinds::option_told(curve, alpha, times, factors, j);
-        return told_line(k as u64, j.kind, told, out);
+        let told = kinds::option_result(curve, alpha, times, factors, j);
+        return result_line(k as u64, j.kind, told, out);
     }
     let worked = kinds::work(
         curve,

@@ -1,4 +1,4 @@
--- One turn and the end of the walk along the pillars: what `piecesOf` says of the lists from place i on. Assumes nothing.
+-- One turn and the end of the walk along the pillars: what `variancePiecesOf` says of the lists from place i on. Assumes nothing.
 use mathlib.Core.Path.{_≡_}
 use mathlib.Core.Bool.{Bool, false}
 use mathlib.Core.List.{List}
@@ -7,24 +7,24 @@ use lib.ListN.{length, getD, drop}
 use lib.Ieee.{Float, nan}
 use Rattle.elementary.specs.Simple.{minOf}
 use Rattle.lists.proofs.Walks.{next, done}
-use Rattle.schedules.specs.Variance.{pieceOf, lowerOf, upperOf, piecesOf}
+use Rattle.schedules.specs.Variance.{variancePieceOf, pieceLowerOf, pieceUpperOf, variancePiecesOf}
 
-pub upper-next : (end : Float) (xs : List Float) (j : ℕ) → j < length xs → upperOf end (drop j xs) ≡ minOf end (getD xs j nan)
+pub upper-next : (end : Float) (xs : List Float) (j : ℕ) → j < length xs → pieceUpperOf end (drop j xs) ≡ minOf end (getD xs j nan)
 upper-next end xs j h = rw (next xs j h)
 
-pub upper-end : (end : Float) (xs : List Float) (j : ℕ) → length xs ≤ j → upperOf end (drop j xs) ≡ end
+pub upper-end : (end : Float) (xs : List Float) (j : ℕ) → length xs ≤ j → pieceUpperOf end (drop j xs) ≡ end
 upper-end end xs j h = rw (done xs j h)
 
 module _ (alpha start end : Float) (ts ss : List Float) (i : ℕ) (first : Bool) (v : Float) where
-  pub pieces-turn : i < length ts → i < length ss → piecesOf alpha first v (drop i ts) (drop i ss) start end
-      ≡ piecesOf alpha false (pieceOf alpha end (lowerOf first start (getD ts i nan)) (upperOf end (drop (i + 1) ts)) (getD ss i nan) v) (drop (i + 1) ts) (drop (i + 1) ss) start end
-  unfolding piecesOf
+  pub pieces-turn : i < length ts → i < length ss → variancePiecesOf alpha first v (drop i ts) (drop i ss) start end
+      ≡ variancePiecesOf alpha false (variancePieceOf alpha end (pieceLowerOf first start (getD ts i nan)) (pieceUpperOf end (drop (i + 1) ts)) (getD ss i nan) v) (drop (i + 1) ts) (drop (i + 1) ss) start end
+  unfolding variancePiecesOf
   pieces-turn h k = rw (next ts i h, next ss i k)
 
-  pub pieces-short : i < length ts → length ss ≤ i → piecesOf alpha first v (drop i ts) (drop i ss) start end ≡ v
-  unfolding piecesOf
+  pub pieces-short : i < length ts → length ss ≤ i → variancePiecesOf alpha first v (drop i ts) (drop i ss) start end ≡ v
+  unfolding variancePiecesOf
   pieces-short h k = rw (next ts i h, done ss i k)
 
-  pub pieces-end : length ts ≤ i → piecesOf alpha first v (drop i ts) (drop i ss) start end ≡ v
-  unfolding piecesOf
+  pub pieces-end : length ts ≤ i → variancePiecesOf alpha first v (drop i ts) (drop i ss) start end ≡ v
+  unfolding variancePiecesOf
   pieces-end h = rw (done ts i h)

@@ -9,7 +9,7 @@ use Rattle.lists.specs.declared.refusals.Answer.{Answer}
 use Rattle.lists.specs.Refusals.{Outcome, served, answerOf, answerNumber, reported, Rule, unless, finishing}
 use Rattle.lookups.specs.Lookups.{required, volatilityAt, upTo}
 use Rattle.lists.specs.Faults.{pillarFaults}
-use Rattle.schedules.specs.Variance.{varianceOf}
+use Rattle.schedules.specs.Variance.{piecewiseVarianceOf}
 use Rattle.schedules.specs.Rules.{volatilityRules, varianceRules}
 
 -- the rules on a volatility at t
@@ -33,5 +33,5 @@ pub record ReachedIs (answer : Answer) (part : List Float) (ts ss : List Float) 
   pub asVolatility : answer ≡ answerOf (volatilityOutcome ts ss t)
   pub handed : part ≡ reported [] (reachedOutcome ts ss t) .values
 
-unfoldable pub varianceOutcome : Float → List Float → List Float → Float → Float → Outcome Float
-varianceOutcome alpha ts ss start end = unless (varianceRules (pillarFaults ts ss) alpha start end) (finishing (varianceOf alpha ts ss start end))
+unfoldable pub piecewiseVarianceOutcome : Float → List Float → List Float → Float → Float → Outcome Float
+piecewiseVarianceOutcome alpha ts ss start end = unless (varianceRules (pillarFaults ts ss) alpha start end) (finishing (piecewiseVarianceOf alpha ts ss start end))

@@ -19,27 +19,27 @@ weightOf alpha end lower upper =
     (expOf (neg two ⊗ alpha ⊗ (end ⊖ upper)) ⊗ neg (expM1Of (neg two ⊗ alpha ⊗ (upper ⊖ lower))) ⊘ (two ⊗ alpha))
 
 -- an empty piece adds nothing; any other adds sigma² × weight
-unfoldable pub pieceOf : Float → Float → Float → Float → Float → Float → Float
+unfoldable pub variancePieceOf : Float → Float → Float → Float → Float → Float → Float
 unfolding weightOf
-pieceOf alpha end lower upper sigma variance = cond (le upper lower) variance (variance ⊕ sigma ⊗ sigma ⊗ weightOf alpha end lower upper)
+variancePieceOf alpha end lower upper sigma variance = cond (le upper lower) variance (variance ⊕ sigma ⊗ sigma ⊗ weightOf alpha end lower upper)
 
 -- a piece begins at its pillar's time, and at the start at the earliest; the first reaches back to the start
-abbrev pub lowerOf : Bool → Float → Float → Float
-lowerOf first start time = cond first start (maxOf start time)
+abbrev pub pieceLowerOf : Bool → Float → Float → Float
+pieceLowerOf first start time = cond first start (maxOf start time)
 
 -- a piece ends where the next pillar begins, and at `end` at the latest
-abbrev pub upperOf : Float → List Float → Float
-upperOf end [] = end
-upperOf end (next ∷ times) = minOf end next
+abbrev pub pieceUpperOf : Float → List Float → Float
+pieceUpperOf end [] = end
+pieceUpperOf end (next ∷ times) = minOf end next
 
 -- the pieces of the pillars that are left, `variance` being the sum so far
-unfoldable pub piecesOf : Float → Bool → Float → List Float → List Float → Float → Float → Float
-unfolding pieceOf
-piecesOf alpha first variance [] sigmas start end = variance
-piecesOf alpha first variance (time ∷ times) [] start end = variance
-piecesOf alpha first variance (time ∷ times) (sigma ∷ sigmas) start end =
-    piecesOf alpha false (pieceOf alpha end (lowerOf first start time) (upperOf end times) sigma variance) times sigmas start end
+unfoldable pub variancePiecesOf : Float → Bool → Float → List Float → List Float → Float → Float → Float
+unfolding variancePieceOf
+variancePiecesOf alpha first variance [] sigmas start end = variance
+variancePiecesOf alpha first variance (time ∷ times) [] start end = variance
+variancePiecesOf alpha first variance (time ∷ times) (sigma ∷ sigmas) start end =
+    variancePiecesOf alpha false (variancePieceOf alpha end (pieceLowerOf first start time) (pieceUpperOf end times) sigma variance) times sigmas start end
 
-unfoldable pub varianceOf : Float → List Float → List Float → Float → Float → Float
-unfolding piecesOf
-varianceOf alpha times sigmas start end = piecesOf alpha true zero times sigmas start end
+unfoldable pub piecewiseVarianceOf : Float → List Float → List Float → Float → Float → Float
+unfolding variancePiecesOf
+piecewiseVarianceOf alpha times sigmas start end = variancePiecesOf alpha true zero times sigmas start end

@@ -5,7 +5,7 @@ mod rules;
 mod variance;
 
 pub use parameters::Reached;
-pub use parameters::piecewise_variance;
+pub use parameters::hull_white_piecewise_variance;
 pub use parameters::pillars_reached;
 pub use parameters::volatility;
-pub use variance::variance_of;
+pub use variance::hull_white_piecewise_variance_of;

@@ -4,7 +4,7 @@ ghost use mathlib.Core.Path.{_≡_};
 ghost use mathlib.Core.List.{[]};
 ghost use Rattle.lists.specs.Refusals.{Priced, outcomeOf, valueOr, firstOf, after, served};
 ghost use Rattle.lookups.specs.Lookups.{upTo};
-ghost use Rattle.schedules.specs.Parameters.{rulesAt, volatilityFound, volatilityOutcome, ReachedIs, varianceOutcome};
+ghost use Rattle.schedules.specs.Parameters.{rulesAt, volatilityFound, volatilityOutcome, ReachedIs, piecewiseVarianceOutcome};
 use super::rules;
 use super::variance;
 use lists::Answer;
@@ -26,7 +26,7 @@ pub fn volatility(times: &[f64], sigmas: &[f64], t: f64) -> Price
 fn volatility_found(times: &[f64], sigmas: &[f64], t: f64) -> Price
     ensures { λ r. ⌜ outcomeOf r ≡ volatilityFound (now (times .entry)) (now (sigmas .entry)) t ⌝ }
 {
-    let Found::At(sigma) = lookups::volatility(times, sigmas, t) else {
+    let Found::At(sigma) = lookups::volatility_at(times, sigmas, t) else {
         return Price::Refused(Refusal::Empty);
     };
     lists::served(sigma)
@@ -67,13 +67,27 @@ fn reached_part(times: &[f64], answer: Answer, t: f64) -> &[f64]
     }
 }
 
-pub fn piecewise_variance(alpha: f64, times: &[f64], sigmas: &[f64], start: f64, end: f64) -> Price
-    ensures { λ r. ⌜ Priced r (varianceOutcome alpha (now (times .entry)) (now (sigmas .entry)) start end) ⌝ }
+pub fn hull_white_piecewise_variance(
+    alpha: f64,
+    times: &[f64],
+    sigmas: &[f64],
+    start: f64,
+    end: f64,
+) -> Price
+    ensures { λ r. ⌜ Priced r (piecewiseVarianceOutcome alpha (now (times .entry)) (now (sigmas .entry)) start end) ⌝ }
 {
     let pillars = lists::pillar_faults(times, sigmas);
     let answer = rules::variance_rules(pillars, alpha, start, end);
     match answer {
         Answer::Refused(refusal) => Price::Refused(refusal),
-        Answer::Served => { lists::served(variance::variance_of(alpha, times, sigmas, start, end)) }
+        Answer::Served => {
+            lists::served(variance::hull_white_piecewise_variance_of(
+                alpha,
+                times,
+                sigmas,
+                start,
+                end,
+            ))
+        }
     }
 }

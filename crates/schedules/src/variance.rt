@@ -2,11 +2,17 @@
 // refused here.
 ghost use mathlib.Core.Path.{_≡_};
 ghost use lib.ListN.{drop};
-ghost use Rattle.schedules.specs.Variance.{weightOf, pieceOf, upperOf, lowerOf, varianceOf};
+ghost use Rattle.schedules.specs.Variance.{weightOf, variancePieceOf, pieceUpperOf, pieceLowerOf, piecewiseVarianceOf};
 
 // The first pillar reaches back to the start; each other begins at its own time.
-pub fn variance_of(alpha: f64, times: &[f64], sigmas: &[f64], start: f64, end: f64) -> f64
-    ensures { λ r. ⌜ r ≡ varianceOf alpha (now (times .entry)) (now (sigmas .entry)) start end ⌝ }
+pub fn hull_white_piecewise_variance_of(
+    alpha: f64,
+    times: &[f64],
+    sigmas: &[f64],
+    start: f64,
+    end: f64,
+) -> f64
+    ensures { λ r. ⌜ r ≡ piecewiseVarianceOf alpha (now (times .entry)) (now (sigmas .entry)) start end ⌝ }
 {
     let mut variance = 0.0;
     let mut i = 0;
@@ -14,16 +20,16 @@ pub fn variance_of(alpha: f64, times: &[f64], sigmas: &[f64], start: f64, end: f
         if sigmas.len() <= i {
             return variance;
         }
-        let lower = lower_at(i == 0, start, times[i]);
-        let upper = upper_at(times, i + 1, end);
+        let lower = piece_lower(i == 0, start, times[i]);
+        let upper = piece_upper(times, i + 1, end);
         variance = piece(alpha, end, lower, upper, sigmas[i], variance);
         i += 1;
     }
     variance
 }
 
-fn lower_at(first: bool, start: f64, time: f64) -> f64
-    ensures { λ r. ⌜ r ≡ lowerOf first start time ⌝ }
+fn piece_lower(first: bool, start: f64, time: f64) -> f64
+    ensures { λ r. ⌜ r ≡ pieceLowerOf first start time ⌝ }
 {
     if first {
         start
@@ -33,8 +39,8 @@ fn lower_at(first: bool, start: f64, time: f64) -> f64
 }
 
 // Where the piece ends that the pillar before place j begins.
-fn upper_at(times: &[f64], j: usize, end: f64) -> f64
-    ensures { λ r. ⌜ r ≡ upperOf end (drop j (now (times .entry))) ⌝ }
+fn piece_upper(times: &[f64], j: usize, end: f64) -> f64
+    ensures { λ r. ⌜ r ≡ pieceUpperOf end (drop j (now (times .entry))) ⌝ }
 {
     if j < times.len() {
         elementary::min(end, times[j])
@@ -44,7 +50,7 @@ fn upper_at(times: &[f64], j: usize, end: f64) -> f64
 }
 
 fn piece(alpha: f64, end: f64, lower: f64, upper: f64, sigma: f64, variance: f64) -> f64
-    ensures { λ r. ⌜ r ≡ pieceOf alpha end lower upper sigma variance ⌝ }
+    ensures { λ r. ⌜ r ≡ variancePieceOf alpha end lower upper sigma variance ⌝ }
 {
     if upper <= lower {
         variance

@@ -1,4 +1,4 @@
--- The answer that is defined has all that specs/Facts.antt says of an answer, and with it a caller of `critical_rate` that gives weights. Assumes nothing.
+-- The answer that is defined has all that specs/Facts.antt says of an answer, and with it a caller of `critical_rate_of_weights` that gives weights. Assumes nothing.
 use mathlib.Core.Path.{_≡_, refl, sym, ap, _∙_, subst}
 use mathlib.Core.Bool.{Bool, true, false, _&&_}
 use mathlib.Core.List.{List}
@@ -16,7 +16,7 @@ use Rattle.search.proofs.Reaching.{exactly}
 pub answered : (sum : Float → Float) (r : Critical) → r ≡ criticalOf sum → Searched sum r
 answered sum r e = subst (Searched sum) (sym e) (record { is = refl; exactly = exactly sum; accepted = accepted sum; report = refl })
 
--- for a caller of `critical_rate`: with weights that are coefficient × A, its answer is that of the terms' priced coupon sum
+-- for a caller of `critical_rate_of_weights`: with weights that are coefficient × A, its answer is that of the terms' priced coupon sum
 pub priced : (coefficients affines bs weights : List Float) (r : Critical) → weights ≡ weightsOf coefficients affines → Searched (weightedSum weights bs) r → Searched (couponSum coefficients affines bs) r
 priced coefficients affines bs weights r e a = subst (λ (sum : Float → Float). Searched sum r) (ap (λ (ws : List Float). weightedSum ws bs) e ∙ sym (weights-ahead coefficients affines bs)) a
 

@@ -17,7 +17,7 @@ use Rattle.search.specs.declared.Critical.{Critical}
 use Rattle.search.specs.declared.ladder.Ladder.{Ladder}
 use Rattle.search.specs.declared.halving.Halving.{Halving}
 use Rattle.search.specs.Halving.{raised, lowered, Halvings, none, one-more, Start}
-use Rattle.search.specs.Rate.{rateAt, good, rungOf, orRung, ladderOf, movedTo, thenHalve, halvingsOf, finish, joined, criticalOf}
+use Rattle.search.specs.Rate.{rateAt, good, rungOf, orRung, ladderOf, bracketMovedTo, thenHalve, halvingsOf, finish, fromLadders, criticalOf}
 use Rattle.lists.specs.Refusals.{served}
 use Rattle.lists.proofs.Outcomes.{not-both, served-is}
 use Rattle.search.specs.Values.{Values, criticalOutcome}
@@ -74,8 +74,8 @@ record Carried (sum : Float → Float) (n : ℕ) (first b : Bracket) : Type 0 wh
   sides : Sides sum b
 
 module _ (sum : Float → Float) (first : Bracket) where
-  moved : (n : ℕ) (b : Bracket) → isNan (sum (mid b)) ≡ false → Carried sum n first b → Carried sum (suc n) first (movedTo b (mid b) (sum (mid b)))
-  unfolding movedTo
+  moved : (n : ℕ) (b : Bracket) → isNan (sum (mid b)) ≡ false → Carried sum n first b → Carried sum (suc n) first (bracketMovedTo b (mid b) (sum (mid b)))
+  unfolding bracketMovedTo
   moved n b number r = go (lt one (sum (mid b))) (λ e. le-of-lt one (sum (mid b)) e) (λ e. not-above (sum (mid b)) number (is-false (lt one (sum (mid b))) e))
     where
       s : Float
@@ -271,8 +271,8 @@ module _ (sum : Float → Float) where
         below = t .mid-below;
       })
 
-  accepted-joined : (l h : Ladder) → ladderOf sum true 61 ≡ l → ladderOf sum false 61 ≡ h → Accepted (joined sum l h)
-  unfolding joined
+  accepted-joined : (l h : Ladder) → ladderOf sum true 61 ≡ l → ladderOf sum false 61 ≡ h → Accepted (fromLadders sum l h)
+  unfolding fromLadders
   accepted-joined (Ladder.At i r s) (Ladder.At j r' s') e g v z =
       located i j r s r' s' (rung-of sum true 61 i r s e) (rung-of sum false 61 j r' s' g) (halvingsOf sum 200 (record { lower = r; upper = r'; «lower_sum» = s; «upper_sum» = s' })) refl v z
   accepted-joined (Ladder.At i r s) Ladder.NotANumber e g v z = absurd (not-both z)

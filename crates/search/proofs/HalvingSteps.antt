@@ -11,7 +11,7 @@ use Rattle.elementary.specs.Simple.{midpointOf}
 use Rattle.elementary.proofs.Floats.{nan-yes, nan-no}
 use Rattle.search.specs.declared.Bracket.{Bracket}
 use Rattle.search.specs.declared.halving.Halving.{Halving}
-use Rattle.search.specs.Rate.{movedTo, halveOf, thenHalve, halvingsOf}
+use Rattle.search.specs.Rate.{bracketMovedTo, halveOf, thenHalve, halvingsOf}
 
 abbrev pub mid : Bracket → Float
 mid b = midpointOf (b .lower) (b .upper)
@@ -25,24 +25,24 @@ lowered b m s = record { lower = b .lower; upper = m; «lower_sum» = b .«lower
 -- ---- one halving, with its midpoint m and the sum s there
 module _ (sum : Float → Float) (b : Bracket) (m s : Float) (f : m ≡ mid b) (e : s ≡ sum m) where
   abbrev after : Float → Float → Halving
-  after m s = cond (isNan s) Halving.Stopped (Halving.Next (movedTo b m s))
+  after m s = cond (isNan s) Halving.Stopped (Halving.Next (bracketMovedTo b m s))
 
   halve-is : halveOf sum b ≡ after m s
   unfolding halveOf
   halve-is = ap (λ (m : Float). after m (sum m)) (sym f) ∙ ap (λ (s : Float). after m s) (sym e)
 
   pub halve-nan : ne s s ≡ true → Halving.Stopped ≡ halveOf sum b
-  halve-nan h = sym (halve-is ∙ ap (λ (x : Bool). cond x Halving.Stopped (Halving.Next (movedTo b m s))) (nan-yes s h))
+  halve-nan h = sym (halve-is ∙ ap (λ (x : Bool). cond x Halving.Stopped (Halving.Next (bracketMovedTo b m s))) (nan-yes s h))
 
-  halve-next : ne s s ≡ false → Halving.Next (movedTo b m s) ≡ halveOf sum b
-  halve-next h = sym (halve-is ∙ ap (λ (x : Bool). cond x Halving.Stopped (Halving.Next (movedTo b m s))) (nan-no s h))
+  halve-next : ne s s ≡ false → Halving.Next (bracketMovedTo b m s) ≡ halveOf sum b
+  halve-next h = sym (halve-is ∙ ap (λ (x : Bool). cond x Halving.Stopped (Halving.Next (bracketMovedTo b m s))) (nan-no s h))
 
   pub halve-raised : ne s s ≡ false → lt one s ≡ true → Halving.Next (raised b m s) ≡ halveOf sum b
-  unfolding movedTo
+  unfolding bracketMovedTo
   halve-raised h k = sym (ap (λ (x : Bool). Halving.Next (cond x (raised b m s) (lowered b m s))) k) ∙ halve-next h
 
   pub halve-lowered : ne s s ≡ false → lt one s ≡ false → Halving.Next (lowered b m s) ≡ halveOf sum b
-  unfolding movedTo
+  unfolding bracketMovedTo
   halve-lowered h k = sym (ap (λ (x : Bool). Halving.Next (cond x (raised b m s) (lowered b m s))) k) ∙ halve-next h
 
 -- ---- a halving that goes on
@@ -51,18 +51,18 @@ clash x e = let z : _≡_ {A = ℕ} 0 1 = cc in absurd (omega arith)
 
 pub record Onward (sum : Float → Float) (b next : Bracket) : Type 0 where
   pub number : isNan (sum (mid b)) ≡ false
-  pub is : movedTo b (mid b) (sum (mid b)) ≡ next
+  pub is : bracketMovedTo b (mid b) (sum (mid b)) ≡ next
 
 pub onward : (sum : Float → Float) (b next : Bracket) → Halving.Next next ≡ halveOf sum b → Onward sum b next
 unfolding halveOf
 onward sum b next h = go (isNan (sum (mid b))) refl h
   where
-    go : (t : Bool) → isNan (sum (mid b)) ≡ t → Halving.Next next ≡ cond t Halving.Stopped (Halving.Next (movedTo b (mid b) (sum (mid b)))) → Onward sum b next
+    go : (t : Bool) → isNan (sum (mid b)) ≡ t → Halving.Next next ≡ cond t Halving.Stopped (Halving.Next (bracketMovedTo b (mid b) (sum (mid b)))) → Onward sum b next
     go true e k = clash next (sym k)
     go false e k = record { number = e; is = cc }
 
-moved-twice : (b : Bracket) (m s : Float) → movedTo (movedTo b m s) m s ≡ movedTo b m s
-unfolding movedTo
+moved-twice : (b : Bracket) (m s : Float) → bracketMovedTo (bracketMovedTo b m s) m s ≡ bracketMovedTo b m s
+unfolding bracketMovedTo
 moved-twice b m s = go (lt one s)
   where
     go : (t : Bool) → cond t (raised (cond t (raised b m s) (lowered b m s)) m s) (lowered (cond t (raised b m s) (lowered b m s)) m s) ≡ cond t (raised b m s) (lowered b m s)
@@ -76,9 +76,9 @@ module _ (sum : Float → Float) where
   still b next h p q =
       let o = onward sum b next h in
       let m : mid next ≡ mid b = ap (λ (x : Float). midpointOf x (next .upper)) p ∙ ap (λ (x : Float). midpointOf (b .lower) x) q in
-      ap (λ (x : Float). cond (isNan (sum x)) Halving.Stopped (Halving.Next (movedTo next x (sum x)))) m
-      ∙ ap (λ (t : Bool). cond t Halving.Stopped (Halving.Next (movedTo next (mid b) (sum (mid b))))) (o .number)
-      ∙ ap (λ (x : Bracket). Halving.Next (movedTo x (mid b) (sum (mid b)))) (sym (o .is))
+      ap (λ (x : Float). cond (isNan (sum x)) Halving.Stopped (Halving.Next (bracketMovedTo next x (sum x)))) m
+      ∙ ap (λ (t : Bool). cond t Halving.Stopped (Halving.Next (bracketMovedTo next (mid b) (sum (mid b))))) (o .number)
+      ∙ ap (λ (x : Bracket). Halving.Next (bracketMovedTo x (mid b) (sum (mid b)))) (sym (o .is))
       ∙ ap Halving.Next (moved-twice b (mid b) (sum (mid b)) ∙ o .is)
 
   -- ---- n halvings of a first bracket

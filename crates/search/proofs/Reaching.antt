@@ -13,7 +13,7 @@ use Rattle.search.specs.declared.Bracket.{Bracket}
 use Rattle.search.specs.declared.Critical.{Critical}
 use Rattle.search.specs.declared.ladder.Ladder.{Ladder}
 use Rattle.search.specs.declared.halving.Halving.{Halving}
-use Rattle.search.specs.Rate.{rateAt, good, rungOf, orRung, ladderOf, movedTo, halveOf, thenHalve, halvingsOf, finish, joined, criticalOf}
+use Rattle.search.specs.Rate.{rateAt, good, rungOf, orRung, ladderOf, bracketMovedTo, halveOf, thenHalve, halvingsOf, finish, fromLadders, criticalOf}
 use Rattle.search.specs.Reached.{ratesFrom, ladderRates, upToGood, fromGood, midpoints, onceBoth, reached, someNan, someGood, hasGood, Exactly}
 use Rattle.lists.specs.Refusals.{answerNumber, answerOf}
 use Rattle.search.specs.Values.{criticalOutcome}
@@ -127,8 +127,8 @@ module _ (sum : Float → Float) where
   made-cons r rs e (Halving.Next b) m = nan-cons r rs false e ∙ m
   made-cons r rs e Halving.Stopped m = nan-cons r rs false e ∙ m
 
-  moved-ends : (n : ℕ) (b : Bracket) (m s : Float) → midpoints sum n (movedTo b m s .lower) (movedTo b m s .upper) ≡ midpoints sum n (cond (lt one s) m (b .lower)) (cond (lt one s) (b .upper) m)
-  unfolding movedTo
+  moved-ends : (n : ℕ) (b : Bracket) (m s : Float) → midpoints sum n (bracketMovedTo b m s .lower) (bracketMovedTo b m s .upper) ≡ midpoints sum n (cond (lt one s) m (b .lower)) (cond (lt one s) (b .upper) m)
+  unfolding bracketMovedTo
   moved-ends n b m s = go (lt one s)
     where
       next : Bool → Bracket
@@ -144,18 +144,18 @@ module _ (sum : Float → Float) where
   made (suc n) b = go (isNan (sum (mid b))) refl (unfold halveOf in refl) (made n)
     where
       next : Bracket
-      next = movedTo b (mid b) (sum (mid b))
+      next = bracketMovedTo b (mid b) (sum (mid b))
 
       rest : List Float
       rest = midpoints sum n (cond (lt one (sum (mid b))) (mid b) (b .lower)) (cond (lt one (sum (mid b))) (b .upper) (mid b))
 
-      go : (a : Bool) → isNan (sum (mid b)) ≡ a → halveOf sum b ≡ cond (isNan (sum (mid b))) Halving.Stopped (Halving.Next (movedTo b (mid b) (sum (mid b))))
+      go : (a : Bool) → isNan (sum (mid b)) ≡ a → halveOf sum b ≡ cond (isNan (sum (mid b))) Halving.Stopped (Halving.Next (bracketMovedTo b (mid b) (sum (mid b))))
           → ((c : Bracket) → Made (midpoints sum n (c .lower) (c .upper)) (halvingsOf sum n c)) → Made (mid b ∷ rest) (halvingsOf sum (suc n) b)
       go true e k ih =
-          subst (Made (mid b ∷ rest)) (sym (halvings-stopped n b (k ∙ ap (λ (t : Bool). cond t Halving.Stopped (Halving.Next (movedTo b (mid b) (sum (mid b))))) e)))
+          subst (Made (mid b ∷ rest)) (sym (halvings-stopped n b (k ∙ ap (λ (t : Bool). cond t Halving.Stopped (Halving.Next (bracketMovedTo b (mid b) (sum (mid b))))) e)))
           (nan-cons (mid b) rest true e)
       go false e k ih =
-          subst (Made (mid b ∷ rest)) (sym (halvings-first n b next (k ∙ ap (λ (t : Bool). cond t Halving.Stopped (Halving.Next (movedTo b (mid b) (sum (mid b))))) e)))
+          subst (Made (mid b ∷ rest)) (sym (halvings-first n b next (k ∙ ap (λ (t : Bool). cond t Halving.Stopped (Halving.Next (bracketMovedTo b (mid b) (sum (mid b))))) e)))
           (made-cons (mid b) rest e (halvingsOf sum n next) (subst (λ (rs : List Float). Made rs (halvingsOf sum n next)) (moved-ends n b (mid b) (sum (mid b))) (ih next)))
 
   -- ---- the whole search
@@ -195,8 +195,8 @@ module _ (sum : Float → Float) where
   judged-finish i j g k rates e (Halving.Next b) m = (e ∙ m, g, k)
   judged-finish i j g k rates e Halving.Stopped m = e ∙ m
 
-  judged-joined : (l h : Ladder) → Walked sum true (ladderRates true) l → Walked sum false (ladderRates false) h → Judged (joined sum l h)
-  unfolding joined lows highs
+  judged-joined : (l h : Ladder) → Walked sum true (ladderRates true) l → Walked sum false (ladderRates false) h → Judged (fromLadders sum l h)
+  unfolding fromLadders lows highs
   judged-joined Ladder.NotANumber h a b = reached-nan true (someNan sum (upToGood sum false (ladderRates false))) (someNan sum (onceBoth sum lows highs)) a refl refl
   judged-joined (Ladder.At i r s) Ladder.NotANumber (a, g, x) b = reached-nan false true (someNan sum (onceBoth sum lows highs)) a b refl
   judged-joined Ladder.Nothing Ladder.NotANumber (a, g, n) b = reached-nan false true (someNan sum (onceBoth sum lows highs)) a b refl

@@ -34,13 +34,13 @@ ladderOf sum below zero = Ladder.Nothing
 ladderOf sum below (suc n) = orRung (ladderOf sum below n) sum below n
 
 -- "a sum above 1 moves the lower end", any other the upper one: the midpoint and its sum are put for it
-unfoldable pub movedTo : Bracket → Float → Float → Bracket
-movedTo b m s =
+unfoldable pub bracketMovedTo : Bracket → Float → Float → Bracket
+bracketMovedTo b m s =
     cond (lt one s) (record { lower = m; upper = b .upper; «lower_sum» = s; «upper_sum» = b .«upper_sum» }) (record { lower = b .lower; upper = m; «lower_sum» = b .«lower_sum»; «upper_sum» = s })
 
 -- one halving; a NaN sum stops the search
 unfoldable pub halveOf : (Float → Float) → Bracket → Halving
-halveOf sum b = let m = midpointOf (b .lower) (b .upper) in let s = sum m in cond (isNan s) Halving.Stopped (Halving.Next (movedTo b m s))
+halveOf sum b = let m = midpointOf (b .lower) (b .upper) in let s = sum m in cond (isNan s) Halving.Stopped (Halving.Next (bracketMovedTo b m s))
 
 unfoldable pub thenHalve : (Float → Float) → Halving → Halving
 thenHalve sum (Halving.Next b) = halveOf sum b
@@ -58,14 +58,14 @@ finish i j Halving.Stopped = Critical.NotANumber
 
 -- Refusals 9 and 10 "in the order of its evaluations": a NaN on the lower ladder, a NaN on the upper, then "One of the two ladders has
 -- no good rate, both having been run", then a NaN in a halving.
-unfoldable pub joined : (Float → Float) → Ladder → Ladder → Critical
-joined sum Ladder.NotANumber high = Critical.NotANumber
-joined sum (Ladder.At i r s) Ladder.NotANumber = Critical.NotANumber
-joined sum Ladder.Nothing Ladder.NotANumber = Critical.NotANumber
-joined sum Ladder.Nothing (Ladder.At j r s) = Critical.NoBracket
-joined sum Ladder.Nothing Ladder.Nothing = Critical.NoBracket
-joined sum (Ladder.At i r s) Ladder.Nothing = Critical.NoBracket
-joined sum (Ladder.At i r s) (Ladder.At j r' s') = finish i j (halvingsOf sum 200 (record { lower = r; upper = r'; «lower_sum» = s; «upper_sum» = s' }))
+unfoldable pub fromLadders : (Float → Float) → Ladder → Ladder → Critical
+fromLadders sum Ladder.NotANumber high = Critical.NotANumber
+fromLadders sum (Ladder.At i r s) Ladder.NotANumber = Critical.NotANumber
+fromLadders sum Ladder.Nothing Ladder.NotANumber = Critical.NotANumber
+fromLadders sum Ladder.Nothing (Ladder.At j r s) = Critical.NoBracket
+fromLadders sum Ladder.Nothing Ladder.Nothing = Critical.NoBracket
+fromLadders sum (Ladder.At i r s) Ladder.Nothing = Critical.NoBracket
+fromLadders sum (Ladder.At i r s) (Ladder.At j r' s') = finish i j (halvingsOf sum 200 (record { lower = r; upper = r'; «lower_sum» = s; «upper_sum» = s' }))
 
 unfoldable pub criticalOf : (Float → Float) → Critical
-criticalOf sum = joined sum (ladderOf sum true 61) (ladderOf sum false 61)
+criticalOf sum = fromLadders sum (ladderOf sum true 61) (ladderOf sum false 61)

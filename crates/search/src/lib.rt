@@ -31,7 +31,7 @@ pub enum Critical {
 
 // The search over terms that are given by their weights, coefficient × A, and their B. Both ladders
 // are run before a missing rung is refused, since a NaN on the upper one comes first.
-pub fn critical_rate(weights: &[f64], b: &[f64]) -> Critical
+pub fn critical_rate_of_weights(weights: &[f64], b: &[f64]) -> Critical
     ensures { λ r. ⌜ Searched (weightedSum (now (weights .entry)) (now (b .entry))) r ⌝ }
 {
     let low = ladder::climb(weights, b, true);

@@ -3,7 +3,7 @@ ghost use mathlib.Core.Path.{_≡_};
 ghost use mathlib.Core.Bool.{cond};
 ghost use Rattle.layout.specs.declared.parts.Laid.the-variants.{Parts};
 ghost use Rattle.layout.specs.Layout.{layoutOf};
-ghost use Rattle.layout.specs.Lists.{Holds};
+ghost use Rattle.layout.specs.Lists.{HoldsLists};
 ghost use Rattle.fields.specs.Text.{Begins};
 ghost use Rattle.lines.specs.Lines.{header, refusedLine};
 ghost use Rattle.serving.specs.Sending.{fileOf, Due, Done};
@@ -70,7 +70,7 @@ fn serve_jobs(file: &[u8], l: Layout, sent: Sent, due: &mut usize) -> Sent
 // The jobs in order: the lines of job k are piece k + 1. The curve's faults are worked once for all. The lists
 // are those of the file, whose header is sent.
 fn each_job(file: &[u8], l: Layout, floats: &[f64], sent: Sent, due: &mut usize) -> Sent
-    requires { ⌜ (layoutOf (now file) ≡ Parts l) × Holds (now file) l (now floats) × Due (now file) sent (now due) × (now due ≡ 1) ⌝ }
+    requires { ⌜ (layoutOf (now file) ≡ Parts l) × HoldsLists (now file) l (now floats) × Due (now file) sent (now due) × (now due ≡ 1) ⌝ }
     ensures { λ r. ⌜ Done (now (file .entry)) r ⌝ }
 {
     let alpha = layout::alpha(file, l.model);

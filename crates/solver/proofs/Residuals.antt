@@ -9,7 +9,7 @@ use Rattle.lists.specs.declared.refusals.Price.{Price}
 use Rattle.lists.specs.declared.refusals.Price.the-variants as P
 use Rattle.lists.specs.Refusals.{Outcome, served, refused, outcomeOf}
 use Rattle.bisection.specs.declared.halving.Ends.{Ends}
-use Rattle.bisection.specs.Solve.{lowest, highest, sameSign, closeEnough, residualAt, movedTo, unconvergedAt, halvingsFrom, endsOf, solveOf}
+use Rattle.bisection.specs.Solve.{lowest, highest, sameSign, closeEnough, residualAt, endsMovedTo, unconvergedAt, halvingsFrom, endsOf, solveOf}
 use Rattle.solver.specs.declared.bisect.Turn.the-variants as T
 use Rattle.solver.specs.Turn.{turnAt, solveAbove}
 use Rattle.solver.proofs.Literals.{lowest-is, highest-is}
@@ -24,7 +24,7 @@ module _ (f : Float → Outcome Float) (e : Ends) {sigma : Float} (s : sigma ≡
   unfolding turnAt
   halve-converged k p q = rw (← s, ← h, k, sym p ∙ q)
 
-  pub halve-moved : {v : Float} {b : Bool} {next : Ends} → r ≡ P.Served v → b ≡ closeEnough v → b ≡ false → next ≡ movedTo e sigma v → T.Moved next ≡ turnAt f e
+  pub halve-moved : {v : Float} {b : Bool} {next : Ends} → r ≡ P.Served v → b ≡ closeEnough v → b ≡ false → next ≡ endsMovedTo e sigma v → T.Moved next ≡ turnAt f e
   unfolding turnAt
   halve-moved k p q m = rw (← s, ← h, k, sym p ∙ q) (ap T.Moved m)
 

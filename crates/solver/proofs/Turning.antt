@@ -9,7 +9,7 @@ use Rattle.lists.specs.declared.refusals.Refusal.{Refusal}
 use Rattle.lists.specs.Refusals.{Outcome, served, refused}
 use Rattle.bisection.specs.declared.halving.Ends.{Ends}
 use Rattle.bisection.specs.declared.result.Fit.{Fit}
-use Rattle.bisection.specs.Solve.{closeEnough, residualAt, movedTo, unconvergedAt, halvingsFrom}
+use Rattle.bisection.specs.Solve.{closeEnough, residualAt, endsMovedTo, unconvergedAt, halvingsFrom}
 use Rattle.bisection.proofs.Steps.{mid, Met, stopped, close, away, met, halving-stopped, halving-close, halving-away, stays}
 use Rattle.solver.specs.declared.bisect.Turn.the-variants as T
 use Rattle.solver.specs.Turn.{turned, turnAt}
@@ -20,8 +20,8 @@ module _ (f : Float → Outcome Float) (e : Ends) where
   unfolding turnAt
   turn-is p = ap (λ (o : Outcome Float). turned e (mid e) o) p
 
-  turn-tested : {v : Float} {t : Bool} → residualAt f (mid e) ≡ served v → closeEnough v ≡ t → turnAt f e ≡ cond t (T.Converged (mid e) v) (T.Moved (movedTo e (mid e) v))
-  turn-tested {v} p q = turn-is p ∙ ap (λ (t : Bool). cond t (T.Converged (mid e) v) (T.Moved (movedTo e (mid e) v))) q
+  turn-tested : {v : Float} {t : Bool} → residualAt f (mid e) ≡ served v → closeEnough v ≡ t → turnAt f e ≡ cond t (T.Converged (mid e) v) (T.Moved (endsMovedTo e (mid e) v))
+  turn-tested {v} p q = turn-is p ∙ ap (λ (t : Bool). cond t (T.Converged (mid e) v) (T.Moved (endsMovedTo e (mid e) v))) q
 
 -- ---- what a turn tells of the halvings that are left
 other : {A : Type 0} → _≡_ {A = ℕ} 0 1 → A
@@ -59,7 +59,7 @@ module _ (f : Float → Outcome Float) (left made : ℕ) (e : Ends) where
       go (close v p q) = let k = sym (turn-tested f e p q) ∙ h in other (cc)
       go (away v p q) =
           let k = sym (turn-tested f e p q) ∙ h in
-          let s : movedTo e (mid e) v ≡ next = cc in
+          let s : endsMovedTo e (mid e) v ≡ next = cc in
           halving-away f made e left p q ∙ ap (λ (x : Ends). halvingsFrom f left (suc made) x) s
 
   pub turn-unmoved : {next : Ends} → turnAt f e ≡ T.Moved next → next ≡ e → halvingsFrom f left made e ≡ unconvergedAt f e
@@ -70,7 +70,7 @@ module _ (f : Float → Outcome Float) (left made : ℕ) (e : Ends) where
       go (close v p q) = let k = sym (turn-tested f e p q) ∙ h in other (cc)
       go (away v p q) =
           let k = sym (turn-tested f e p q) ∙ h in
-          let s : movedTo e (mid e) v ≡ next = cc in
+          let s : endsMovedTo e (mid e) v ≡ next = cc in
           stays f left made e v p q (s ∙ m)
 
 -- ---- the same, counted as the code counts

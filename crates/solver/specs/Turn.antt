@@ -6,13 +6,13 @@ use Rattle.lists.specs.declared.refusals.Refusal.the-variants as R
 use Rattle.lists.specs.Refusals.{Outcome, served, refused, following}
 use Rattle.bisection.specs.declared.halving.Ends.{Ends}
 use Rattle.bisection.specs.declared.result.Fit.{Fit}
-use Rattle.bisection.specs.Solve.{highest, sameSign, closeEnough, residualAt, movedTo, halvingsFrom, endsOf}
+use Rattle.bisection.specs.Solve.{highest, sameSign, closeEnough, residualAt, endsMovedTo, halvingsFrom, endsOf}
 use Rattle.solver.specs.declared.bisect.Turn.{Turn}
 use Rattle.solver.specs.declared.bisect.Turn.the-variants as T
 
 -- what a residual at the midpoint sigma makes of the ends
 abbrev pub turned : Ends → Float → Outcome Float → Turn
-turned e sigma (served v) = cond (closeEnough v) (T.Converged sigma v) (T.Moved (movedTo e sigma v))
+turned e sigma (served v) = cond (closeEnough v) (T.Converged sigma v) (T.Moved (endsMovedTo e sigma v))
 turned e sigma (refused r) = T.Refused r
 
 unfoldable pub turnAt : (Float → Outcome Float) → Ends → Turn

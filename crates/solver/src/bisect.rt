@@ -27,15 +27,15 @@ fn halve(
     market: f64,
     c: &[f64],
     b: &[f64],
-    drift: &[f64],
+    curve_part: &[f64],
     p: &[f64],
     ends: Ends,
 ) -> Turn
-    requires { ⌜ (length (now c) ≤ 64) × (length (now b) ≡ length (now c)) × (length (now drift) ≡ length (now c)) × (length (now p) ≡ length (now c)) ⌝ }
-    ensures { λ r. ⌜ r ≡ turnAt (objectiveOf instrument market (now (c .entry)) (now (b .entry)) (now (drift .entry)) (now (p .entry))) ends ⌝ }
+    requires { ⌜ (length (now c) ≤ 64) × (length (now b) ≡ length (now c)) × (length (now «curve_part») ≡ length (now c)) × (length (now p) ≡ length (now c)) ⌝ }
+    ensures { λ r. ⌜ r ≡ turnAt (objectiveOf instrument market (now (c .entry)) (now (b .entry)) (now («curve_part» .entry)) (now (p .entry))) ends ⌝ }
 {
     let sigma = elementary::midpoint(ends.low, ends.high);
-    let residual = objectives::residual(instrument, market, c, b, drift, p, sigma);
+    let residual = objectives::residual(instrument, market, c, b, curve_part, p, sigma);
     match residual {
         Price::Refused(refusal) => Turn::Refused(refusal),
         Price::Served(value) => {
@@ -55,15 +55,15 @@ fn unconverged(
     market: f64,
     c: &[f64],
     b: &[f64],
-    drift: &[f64],
+    curve_part: &[f64],
     p: &[f64],
     ends: Ends,
 ) -> Fitted
-    requires { ⌜ (length (now c) ≤ 64) × (length (now b) ≡ length (now c)) × (length (now drift) ≡ length (now c)) × (length (now p) ≡ length (now c)) ⌝ }
-    ensures { λ r. ⌜ fittedOutcome r ≡ unconvergedAt (objectiveOf instrument market (now (c .entry)) (now (b .entry)) (now (drift .entry)) (now (p .entry))) ends ⌝ }
+    requires { ⌜ (length (now c) ≤ 64) × (length (now b) ≡ length (now c)) × (length (now «curve_part») ≡ length (now c)) × (length (now p) ≡ length (now c)) ⌝ }
+    ensures { λ r. ⌜ fittedOutcome r ≡ unconvergedAt (objectiveOf instrument market (now (c .entry)) (now (b .entry)) (now («curve_part» .entry)) (now (p .entry))) ends ⌝ }
 {
     let sigma = elementary::midpoint(ends.low, ends.high);
-    let residual = objectives::residual(instrument, market, c, b, drift, p, sigma);
+    let residual = objectives::residual(instrument, market, c, b, curve_part, p, sigma);
     match residual {
         Price::Refused(refusal) => Fitted::Refused(refusal),
         Price::Served(value) => Fitted::Served(Fit {
@@ -83,17 +83,17 @@ fn halvings(
     market: f64,
     c: &[f64],
     b: &[f64],
-    drift: &[f64],
+    curve_part: &[f64],
     p: &[f64],
     start: Ends,
 ) -> Fitted
-    requires { ⌜ (length (now c) ≤ 64) × (length (now b) ≡ length (now c)) × (length (now drift) ≡ length (now c)) × (length (now p) ≡ length (now c)) ⌝ }
-    ensures { λ r. ⌜ fittedOutcome r ≡ halvingsFrom (objectiveOf instrument market (now (c .entry)) (now (b .entry)) (now (drift .entry)) (now (p .entry))) 200 0 start ⌝ }
+    requires { ⌜ (length (now c) ≤ 64) × (length (now b) ≡ length (now c)) × (length (now «curve_part») ≡ length (now c)) × (length (now p) ≡ length (now c)) ⌝ }
+    ensures { λ r. ⌜ fittedOutcome r ≡ halvingsFrom (objectiveOf instrument market (now (c .entry)) (now (b .entry)) (now («curve_part» .entry)) (now (p .entry))) 200 0 start ⌝ }
 {
     let mut ends = start;
     let mut made: u64 = 0;
     while made < 200 {
-        let turn = halve(instrument, market, c, b, drift, p, ends);
+        let turn = halve(instrument, market, c, b, curve_part, p, ends);
         match turn {
             Turn::Refused(refusal) => {
                 return Fitted::Refused(refusal);
@@ -109,14 +109,14 @@ fn halvings(
             }
             Turn::Moved(next) => {
                 if bisection::unmoved(next, ends) {
-                    return unconverged(instrument, market, c, b, drift, p, ends);
+                    return unconverged(instrument, market, c, b, curve_part, p, ends);
                 }
                 ends = next;
             }
         }
         made += 1;
     }
-    unconverged(instrument, market, c, b, drift, p, ends)
+    unconverged(instrument, market, c, b, curve_part, p, ends)
 }
 
 // The residual at 2.0 beside that at 1e-8: they differ in sign, or there is nothing to halve. A caller that
@@ -126,14 +126,14 @@ fn solve_above(
     market: f64,
     c: &[f64],
     b: &[f64],
-    drift: &[f64],
+    curve_part: &[f64],
     p: &[f64],
     low_residual: f64,
 ) -> Fitted
-    requires { ⌜ (length (now c) ≤ 64) × (length (now b) ≡ length (now c)) × (length (now drift) ≡ length (now c)) × (length (now p) ≡ length (now c)) ⌝ }
-    ensures { λ r. ⌜ fittedOutcome r ≡ solveAbove (objectiveOf instrument market (now (c .entry)) (now (b .entry)) (now (drift .entry)) (now (p .entry))) «low_residual» ⌝ }
+    requires { ⌜ (length (now c) ≤ 64) × (length (now b) ≡ length (now c)) × (length (now «curve_part») ≡ length (now c)) × (length (now p) ≡ length (now c)) ⌝ }
+    ensures { λ r. ⌜ fittedOutcome r ≡ solveAbove (objectiveOf instrument market (now (c .entry)) (now (b .entry)) (now («curve_part» .entry)) (now (p .entry))) «low_residual» ⌝ }
 {
-    let at_high = objectives::residual(instrument, market, c, b, drift, p, 2.0);
+    let at_high = objectives::residual(instrument, market, c, b, curve_part, p, 2.0);
     match at_high {
         Price::Refused(refusal) => Fitted::Refused(refusal),
         Price::Served(high_residual) => {
@@ -146,7 +146,7 @@ fn solve_above(
                 low_residual,
                 high_residual,
             };
-            halvings(instrument, market, c, b, drift, p, ends)
+            halvings(instrument, market, c, b, curve_part, p, ends)
         }
     }
 }
@@ -158,17 +158,17 @@ pub fn solve(
     market: f64,
     c: &[f64],
     b: &[f64],
-    drift: &[f64],
+    curve_part: &[f64],
     p: &[f64],
 ) -> Fitted
-    requires { ⌜ (length (now c) ≤ 64) × (length (now b) ≡ length (now c)) × (length (now drift) ≡ length (now c)) × (length (now p) ≡ length (now c)) ⌝ }
-    ensures { λ r. ⌜ fittedOutcome r ≡ solveOf (objectiveOf instrument market (now (c .entry)) (now (b .entry)) (now (drift .entry)) (now (p .entry))) ⌝ }
+    requires { ⌜ (length (now c) ≤ 64) × (length (now b) ≡ length (now c)) × (length (now «curve_part») ≡ length (now c)) × (length (now p) ≡ length (now c)) ⌝ }
+    ensures { λ r. ⌜ fittedOutcome r ≡ solveOf (objectiveOf instrument market (now (c .entry)) (now (b .entry)) (now («curve_part» .entry)) (now (p .entry))) ⌝ }
 {
-    let at_low = objectives::residual(instrument, market, c, b, drift, p, 1e-8);
+    let at_low = objectives::residual(instrument, market, c, b, curve_part, p, 1e-8);
     match at_low {
         Price::Refused(refusal) => Fitted::Refused(refusal),
         Price::Served(low_residual) => {
-            solve_above(instrument, market, c, b, drift, p, low_residual)
+            solve_above(instrument, market, c, b, curve_part, p, low_residual)
         }
     }
 }

@@ -22,42 +22,42 @@ use Rattle.terms.proofs.Callers.{Late, past-rules, searching, root-located, wan
 use Rattle.terms.specs.Terms.{coefficientsOf}
 use Rattle.terms.specs.Begun.{Begun, RootFound, WantsBracket}
 use Rattle.terms.proofs.Begun.{Searches, looked-up, looks-up}
-use Rattle.jamshidian.specs.Price.{Valued, noValued, putsOf, priceAt, finishingSwaption}
-use Rattle.swaptions.specs.Model.{rulesOn, termsPriced, modelPriced, modelOutcome}
-use Rattle.jamshidian.specs.PricedSum.{sumOf}
+use Rattle.jamshidian.specs.Price.{ModelValued, noModelValued, putsOf, priceAt, finishingSwaption}
+use Rattle.swaptions.specs.Model.{modelRulesOn, termsPriced, modelPriced, modelOutcome}
+use Rattle.jamshidian.specs.PricedSum.{modelSumOf}
 
 -- ---- rule 13 after the price
-keeps : (w v : Valued) → finishingSwaption w ≡ served v → w ≡ v
+keeps : (w v : ModelValued) → finishingSwaption w ≡ served v → w ≡ v
 keeps w v e =
     let b = w .root .bracket in
     ends-so (finite (w .value) && finite (w .root .rate) && finite (b .lower) && finite (b .upper) && finite (b .«lower_sum») && finite (b .«upper_sum»)) w e
 
-otherwise : (w : Valued) → finishingSwaption w ≡ refused R.NoBracket → ⊥
+otherwise : (w : ModelValued) → finishingSwaption w ≡ refused R.NoBracket → ⊥
 otherwise w e =
     let b = w .root .bracket in
     ends-otherwise (finite (w .value) && finite (w .root .rate) && finite (b .lower) && finite (b .upper) && finite (b .«lower_sum») && finite (b .«upper_sum»)) w e
 
 -- ---- the terms priced: a search, and what follows it
-valued-then : (x : Outcome Values) (value : Values → Valued) → following (following x (λ root. served (value root))) finishingSwaption ≡ following x (λ root. finishingSwaption (value root))
+valued-then : (x : Outcome Values) (value : Values → ModelValued) → following (following x (λ root. served (value root))) finishingSwaption ≡ following x (λ root. finishingSwaption (value root))
 valued-then (served v) value = refl
 valued-then (refused q) value = refl
 
 module _ (alpha : Float) (payments accruals : List Float) (strike t sigma pt pPlus : Float) (ps : List Float) where
   sum : Float → Float
-  sum = sumOf alpha t payments accruals strike sigma pt pPlus ps
+  sum = modelSumOf alpha t payments accruals strike sigma pt pPlus ps
 
-  value : Values → Valued
+  value : Values → ModelValued
   value root = record { value = putsOf alpha t sigma (forwardOf pt pPlus) pt (root .rate) (coefficientsOf strike accruals) payments ps; root = root }
 
   priced-by-search : termsPriced alpha payments accruals strike t sigma pt pPlus ps ≡ searching sum (λ root. finishingSwaption (value root))
   unfolding termsPriced priceAt sum value
   priced-by-search = valued-then (criticalOutcome (criticalOf sum)) value
 
-  located : (v : Valued) → termsPriced alpha payments accruals strike t sigma pt pPlus ps ≡ served v → Located sum (v .root)
+  located : (v : ModelValued) → termsPriced alpha payments accruals strike t sigma pt pPlus ps ≡ served v → Located sum (v .root)
   unfolding value
   located v e =
       let r = root-located sum (λ root. finishingSwaption (value root)) v (sym priced-by-search ∙ e) in
-      subst (Located sum) (ap (λ (u : Valued). u .root) (keeps (value (r .0)) v (r .2))) (r .1)
+      subst (Located sum) (ap (λ (u : ModelValued). u .root) (keeps (value (r .0)) v (r .2))) (r .1)
 
   unbracketed : termsPriced alpha payments accruals strike t sigma pt pPlus ps ≡ refused R.NoBracket → Unbracketed sum
   unbracketed e = wants-bracket sum (λ root. finishingSwaption (value root)) (λ v. otherwise (value v)) (sym priced-by-search ∙ e)
@@ -66,43 +66,43 @@ module _ (alpha : Float) (payments accruals : List Float) (strike t sigma pt pPl
   bracket-wanted u = priced-by-search ∙ no-bracket sum (λ root. finishingSwaption (value root)) u
 
 -- ---- the call
-coupons-there : (n : ℕ) (rest : Outcome Valued) → cond (eqb n 0) (served noValued) rest ≡ refused R.NoBracket → 0 < n
+coupons-there : (n : ℕ) (rest : Outcome ModelValued) → cond (eqb n 0) (served noModelValued) rest ≡ refused R.NoBracket → 0 < n
 coupons-there zero rest e = absurd (not-both (sym e))
 coupons-there (suc n) rest e = omega arith
 
-with-coupons : (n : ℕ) (rest : Outcome Valued) → 0 < n → cond (eqb n 0) (served noValued) rest ≡ rest
+with-coupons : (n : ℕ) (rest : Outcome ModelValued) → 0 < n → cond (eqb n 0) (served noModelValued) rest ≡ rest
 with-coupons n rest l = rw (ne-eqb n 0 (λ e. omega arith))
 
 module _ (alpha : Float) (ts fs payments accruals : List Float) (strike t sigma : Float) where
   -- what is left of the call after its rules
-  abbrev called : Outcome Valued
-  called = cond (eqb (length payments) 0) (served noValued) (modelPriced alpha ts fs payments accruals strike t sigma)
+  abbrev called : Outcome ModelValued
+  called = cond (eqb (length payments) 0) (served noModelValued) (modelPriced alpha ts fs payments accruals strike t sigma)
 
-  searches : (o : Outcome Valued) → Late o → modelOutcome alpha ts fs payments accruals strike t sigma ≡ o → (called ≡ o → 0 < length payments)
-      → (0 < length payments) × Searches (rulesOn alpha ts fs payments accruals strike t sigma) ts fs payments t (termsPriced alpha payments accruals strike t sigma) o
+  searches : (o : Outcome ModelValued) → Late o → modelOutcome alpha ts fs payments accruals strike t sigma ≡ o → (called ≡ o → 0 < length payments)
+      → (0 < length payments) × Searches (modelRulesOn alpha ts fs payments accruals strike t sigma) ts fs payments t (termsPriced alpha payments accruals strike t sigma) o
   unfolding modelOutcome modelPriced
   searches o late e l =
-      let p = past-rules o late (rulesOn alpha ts fs payments accruals strike t sigma) called tt e in
+      let p = past-rules o late (modelRulesOn alpha ts fs payments accruals strike t sigma) called tt e in
       let q = sym (with-coupons (length payments) (modelPriced alpha ts fs payments accruals strike t sigma) (l (p .1))) ∙ p .1 in
       (l (p .1), looked-up _ ts fs payments t (termsPriced alpha payments accruals strike t sigma) o late (p .0) q)
 
   -- a search that is begun is what the call comes to
-  begins : 0 < length payments → (b : Begun (rulesOn alpha ts fs payments accruals strike t sigma) ts fs payments t) → modelOutcome alpha ts fs payments accruals strike t sigma ≡ termsPriced alpha payments accruals strike t sigma (b .pt) (b .pPlus) (b .ps)
+  begins : 0 < length payments → (b : Begun (modelRulesOn alpha ts fs payments accruals strike t sigma) ts fs payments t) → modelOutcome alpha ts fs payments accruals strike t sigma ≡ termsPriced alpha payments accruals strike t sigma (b .pt) (b .pPlus) (b .ps)
   unfolding modelOutcome modelPriced
   begins l b =
       ap (λ a. after a called) (b .passed)
       ∙ with-coupons (length payments) (modelPriced alpha ts fs payments accruals strike t sigma) l
-      ∙ looks-up (rulesOn alpha ts fs payments accruals strike t sigma) ts fs payments t (termsPriced alpha payments accruals strike t sigma) b
+      ∙ looks-up (modelRulesOn alpha ts fs payments accruals strike t sigma) ts fs payments t (termsPriced alpha payments accruals strike t sigma) b
 
-  -- ---- of any answer whose outcome is the one defined: `Rooted` and `RefusedSo`
-  module _ {o : Outcome Valued} (is : o ≡ modelOutcome alpha ts fs payments accruals strike t sigma) where
-    pub rooted : (v : Valued) → o ≡ served v → 0 < length payments → RootFound (rulesOn alpha ts fs payments accruals strike t sigma) ts fs payments t (sumOf alpha t payments accruals strike sigma) (v .root)
+  -- ---- of any answer whose outcome is the one defined: `ModelRootLocated` and `ModelNoBracketExactly`
+  module _ {o : Outcome ModelValued} (is : o ≡ modelOutcome alpha ts fs payments accruals strike t sigma) where
+    pub rooted : (v : ModelValued) → o ≡ served v → 0 < length payments → RootFound (modelRulesOn alpha ts fs payments accruals strike t sigma) ts fs payments t (modelSumOf alpha t payments accruals strike sigma) (v .root)
     unfolding sum
     rooted v e l =
         let s = searches (served v) tt (sym is ∙ e) (λ z. l) .1 in
         record { begun = s .begun; located = located alpha payments accruals strike t sigma (s .begun .pt) (s .begun .pPlus) (s .begun .ps) v (s .goes-on) }
 
-    pub refused-so : (o ≡ refused R.NoBracket) ↔ ((0 < length payments) × WantsBracket (rulesOn alpha ts fs payments accruals strike t sigma) ts fs payments t (sumOf alpha t payments accruals strike sigma))
+    pub refused-so : (o ≡ refused R.NoBracket) ↔ ((0 < length payments) × WantsBracket (modelRulesOn alpha ts fs payments accruals strike t sigma) ts fs payments t (modelSumOf alpha t payments accruals strike sigma))
     unfolding sum
     refused-so = (
       λ e. let s = searches (refused R.NoBracket) tt (sym is ∙ e) (coupons-there (length payments) (modelPriced alpha ts fs payments accruals strike t sigma)) in

@@ -19,8 +19,8 @@ use Rattle.lists.specs.Checks.{inOrder}
 use Rattle.lists.specs.Faults.{curveFaults, couponFaults}
 use Rattle.lists.proofs.Outcomes.{neither}
 use Rattle.lists.proofs.CurveLaws.{curve-rises}
-use Rattle.formulas.specs.HullWhite.{decayOf, deviationOf}
-use Rattle.terms.specs.Terms.{driftsOf}
+use Rattle.formulas.specs.HullWhite.{stationaryShareOf, stateDeviationOf}
+use Rattle.terms.specs.Terms.{curvePartsOf}
 use Rattle.search.specs.Values.{rootFinite}
 use Rattle.search.proofs.Answers.{and-root}
 use Rattle.terms.specs.declared.swaption.Terms.{Terms}
@@ -30,9 +30,9 @@ use Rattle.terms.proofs.OnTerms.{terms-refused, terms-served}
 use Rattle.jamshidian.specs.declared.price.Swaption.{Swaption}
 use Rattle.jamshidian.specs.declared.price.Swaption.the-variants as S
 use Rattle.jamshidian.specs.declared.price.Root.{Root}
-use Rattle.jamshidian.specs.Price.{Valued, swaptionOutcome, noValued, finishingSwaption}
+use Rattle.jamshidian.specs.Price.{ModelValued, swaptionOutcome, noModelValued, finishingSwaption}
 use Rattle.jamshidian.specs.Ahead.{priceAhead, priceOn, price-ahead}
-use Rattle.swaptions.specs.Model.{modelRules, rulesOn, termsPriced, modelPriced, modelOutcome}
+use Rattle.swaptions.specs.Model.{modelRules, modelRulesOn, termsPriced, modelPriced, modelOutcome}
 
 -- ---- the rules do not ask where the faults come from
 pub same-rules : {curve curve' coupons coupons' : Faults} {later later' : Bool} (alpha strike t sigma : Float) {answer : Answer} → curve ≡ curve' → coupons ≡ coupons' → later ≡ later'
@@ -40,12 +40,12 @@ pub same-rules : {curve curve' coupons coupons' : Faults} {later later' : Bool} 
 same-rules alpha strike t sigma p q r h = rw (← p, ← q, ← r) h
 
 -- ---- they turn the call down, or let it through, with coupons or without
-module _ (alpha : Float) (ts fs payments accruals : List Float) (strike t sigma : Float) {answer : Answer} (h : answer ≡ firstOf (rulesOn alpha ts fs payments accruals strike t sigma)) where
+module _ (alpha : Float) (ts fs payments accruals : List Float) (strike t sigma : Float) {answer : Answer} (h : answer ≡ firstOf (modelRulesOn alpha ts fs payments accruals strike t sigma)) where
   pub turned-down : {q : Refusal} → answer ≡ A.Refused q → refused q ≡ modelOutcome alpha ts fs payments accruals strike t sigma
   unfolding modelOutcome
   turned-down e = rw (← h, e)
 
-  pub no-coupons : answer ≡ A.Served → length payments ≡ 0 → served noValued ≡ modelOutcome alpha ts fs payments accruals strike t sigma
+  pub no-coupons : answer ≡ A.Served → length payments ≡ 0 → served noModelValued ≡ modelOutcome alpha ts fs payments accruals strike t sigma
   unfolding modelOutcome
   no-coupons e z = rw (← h, e, eq-eqb (length payments) 0 z)
 
@@ -56,7 +56,7 @@ module _ (alpha : Float) (ts fs payments accruals : List Float) (strike t sigma 
   -- by rule 1 the coupons' lists are of one length of at most 64, by rule 4 the curve's times strictly rise
   pub lists-fit : answer ≡ A.Served → (length payments ≤ 64) × (length accruals ≡ length payments) × (inOrder true ts ≡ true)
   lists-fit e =
-      let none = none-applies (rulesOn alpha ts fs payments accruals strike t sigma) .0 (sym h ∙ e) in
+      let none = none-applies (modelRulesOn alpha ts fs payments accruals strike t sigma) .0 (sym h ∙ e) in
       let size = neither (curveFaults ts fs .size) (couponFaults payments accruals .size) (none .0) in
       let both = neither (ltb 64 (length payments)) (not (eqb (length payments) (length accruals))) (size .1) in (
         ltb-false 64 (length payments) (both .0),
@@ -65,27 +65,27 @@ module _ (alpha : Float) (ts fs payments accruals : List Float) (strike t sigma 
       )
 
 -- ---- the terms, and the price on them
-pub terms-are : (alpha t sigma pt forward : Float) (cs bs ps : List Float) {ds : List Float} {decay deviation : Float} {o q : Outcome Valued}
-    → ds ≡ driftsOf forward pt bs ps → decay ≡ decayOf alpha t → deviation ≡ deviationOf alpha t
-    → o ≡ priceAhead alpha sigma decay deviation pt cs bs ds ps → q ≡ following o finishingSwaption → q ≡ following (priceOn alpha t (record { pt = pt; forward = forward; coefficients = cs; bs = bs; factors = ps }) sigma) finishingSwaption
+pub terms-are : (alpha t sigma pt forward : Float) (cs bs ps : List Float) {ds : List Float} {share deviation : Float} {o q : Outcome ModelValued}
+    → ds ≡ curvePartsOf forward pt bs ps → share ≡ stationaryShareOf alpha t → deviation ≡ stateDeviationOf alpha t
+    → o ≡ priceAhead alpha sigma share deviation pt cs bs ds ps → q ≡ following o finishingSwaption → q ≡ following (priceOn alpha t (record { pt = pt; forward = forward; coefficients = cs; bs = bs; factors = ps }) sigma) finishingSwaption
 terms-are alpha t sigma pt forward cs bs ps d y v o q = rw (← d, ← y, ← v, ← o) q
 
 -- on all the terms it is the price on the factors
 pub terms-priced : (alpha : Float) (payments accruals : List Float) (strike t sigma pt pPlus : Float) (ps : List Float)
     → following (priceOn alpha t (termsOn alpha payments accruals strike t pt pPlus ps) sigma) finishingSwaption ≡ termsPriced alpha payments accruals strike t sigma pt pPlus ps
 unfolding termsPriced
-terms-priced alpha payments accruals strike t sigma pt pPlus ps = ap (λ (o : Outcome Valued). following o finishingSwaption) (price-ahead alpha payments accruals strike t pt pPlus ps sigma)
+terms-priced alpha payments accruals strike t sigma pt pPlus ps = ap (λ (o : Outcome ModelValued). following o finishingSwaption) (price-ahead alpha payments accruals strike t pt pPlus ps sigma)
 
 -- the call, by what its terms came to, `r` with the lists beside it
 module _ (alpha : Float) (ts fs payments accruals : List Float) (strike t sigma : Float) (r : Terms) (cs bs ps : List Float) (is : termsOutcome r cs bs ps ≡ termsOf alpha ts fs payments accruals strike t) where
-  abbrev on : SwaptionTerms → Outcome Valued
+  abbrev on : SwaptionTerms → Outcome ModelValued
   on w = following (priceOn alpha t w sigma) finishingSwaption
 
   pub off-curve : {q : Refusal} → r ≡ T.Refused q → refused q ≡ modelPriced alpha ts fs payments accruals strike t sigma
   unfolding modelPriced
   off-curve e = terms-refused alpha ts fs payments accruals strike t _ on (terms-priced alpha payments accruals strike t sigma) r cs bs ps is e
 
-  pub on-curve : {pt forward : Float} {cs' bs' ps' : List Float} {o : Outcome Valued} → r ≡ T.Served pt forward → cs' ≡ cs → bs' ≡ bs → ps' ≡ ps
+  pub on-curve : {pt forward : Float} {cs' bs' ps' : List Float} {o : Outcome ModelValued} → r ≡ T.Served pt forward → cs' ≡ cs → bs' ≡ bs → ps' ≡ ps
       → o ≡ on (record { pt = pt; forward = forward; coefficients = cs'; bs = bs'; factors = ps' }) → o ≡ modelPriced alpha ts fs payments accruals strike t sigma
   unfolding modelPriced
   on-curve e c b p h = h ∙ terms-served alpha ts fs payments accruals strike t _ on (terms-priced alpha payments accruals strike t sigma) r cs bs ps is e c b p

@@ -9,15 +9,15 @@ use Rattle.lists.specs.declared.refusals.Refusal.the-variants as R
 use Rattle.lists.specs.Refusals.{served, refused}
 use Rattle.terms.specs.Begun.{RootFound, WantsBracket}
 use Rattle.jamshidian.specs.declared.price.Swaption.{Swaption}
-use Rattle.jamshidian.specs.Price.{Valued, swaptionOutcome}
-use Rattle.jamshidian.specs.PricedSum.{sumOf}
-use Rattle.swaptions.specs.Model.{rulesOn}
+use Rattle.jamshidian.specs.Price.{ModelValued, swaptionOutcome}
+use Rattle.jamshidian.specs.PricedSum.{modelSumOf}
+use Rattle.swaptions.specs.Model.{modelRulesOn}
 
 module _ (alpha : Float) (ts fs payments accruals : List Float) (strike t sigma : Float) where
   -- an answer that is accepted with coupons: its root is located among the sums of the terms priced
-  abbrev pub Rooted : Swaption → Type 0
-  Rooted r = (v : Valued) → swaptionOutcome r ≡ served v → 0 < length payments → RootFound (rulesOn alpha ts fs payments accruals strike t sigma) ts fs payments t (sumOf alpha t payments accruals strike sigma) (v .root)
+  abbrev pub ModelRootLocated : Swaption → Type 0
+  ModelRootLocated r = (v : ModelValued) → swaptionOutcome r ≡ served v → 0 < length payments → RootFound (modelRulesOn alpha ts fs payments accruals strike t sigma) ts fs payments t (modelSumOf alpha t payments accruals strike sigma) (v .root)
 
   -- "no call is refused so on any other ground": a search is begun where there are coupons
-  abbrev pub RefusedSo : Swaption → Type 0
-  RefusedSo r = (swaptionOutcome r ≡ refused R.NoBracket) ↔ ((0 < length payments) × WantsBracket (rulesOn alpha ts fs payments accruals strike t sigma) ts fs payments t (sumOf alpha t payments accruals strike sigma))
+  abbrev pub ModelNoBracketExactly : Swaption → Type 0
+  ModelNoBracketExactly r = (swaptionOutcome r ≡ refused R.NoBracket) ↔ ((0 < length payments) × WantsBracket (modelRulesOn alpha ts fs payments accruals strike t sigma) ts fs payments t (modelSumOf alpha t payments accruals strike sigma))

@@ -13,7 +13,7 @@ use Rattle.lists.specs.Refusals.{Outcome, served, Rule, rule, unless, following
 use Rattle.lists.specs.Checks.{allOf}
 use Rattle.lists.specs.Faults.{curveFaults, couponFaults}
 use Rattle.terms.specs.Swaption.{lookingUp}
-use Rattle.jamshidian.specs.Price.{Valued, noValued, priceAt, finishingSwaption}
+use Rattle.jamshidian.specs.Price.{ModelValued, noModelValued, priceAt, finishingSwaption}
 
 -- rules 1 to 7, a line a rule; `later`: every payment time is above the option time. Rule 7 lets kind 5 have no coupons
 abbrev pub modelRules : Faults → Faults → Bool → Float → Float → Float → Float → List Rule
@@ -27,20 +27,20 @@ modelRules curve coupons later alpha strike t sigma =
     ∷ []
 
 -- the rules on a call's own lists and numbers
-abbrev pub rulesOn : Float → List Float → List Float → List Float → List Float → Float → Float → Float → List Rule
-rulesOn alpha ts fs payments accruals strike t sigma = modelRules (curveFaults ts fs) (couponFaults payments accruals) (allOf (Above t) payments) alpha strike t sigma
+abbrev pub modelRulesOn : Float → List Float → List Float → List Float → List Float → Float → Float → Float → List Rule
+modelRulesOn alpha ts fs payments accruals strike t sigma = modelRules (curveFaults ts fs) (couponFaults payments accruals) (allOf (Above t) payments) alpha strike t sigma
 
 -- the terms and the price, on the factors pt at t, pPlus at t + h, and ps at the payment times
-unfoldable pub termsPriced : Float → List Float → List Float → Float → Float → Float → Float → Float → List Float → Outcome Valued
+unfoldable pub termsPriced : Float → List Float → List Float → Float → Float → Float → Float → Float → List Float → Outcome ModelValued
 termsPriced alpha payments accruals strike t sigma pt pPlus ps = following (priceAt alpha payments accruals strike t pt pPlus ps sigma) finishingSwaption
 
 -- the factors at t, t + h and the payment times, then the terms and the price
-unfoldable pub modelPriced : Float → List Float → List Float → List Float → List Float → Float → Float → Float → Outcome Valued
+unfoldable pub modelPriced : Float → List Float → List Float → List Float → List Float → Float → Float → Float → Outcome ModelValued
 modelPriced alpha ts fs payments accruals strike t sigma =
     lookingUp ts fs payments t (λ pt pPlus ps. termsPriced alpha payments accruals strike t sigma pt pPlus ps)
 
 -- "Kind 5 with no coupons is 0 and needs no time; its rungs, rates and sums are 0."
-unfoldable pub modelOutcome : Float → List Float → List Float → List Float → List Float → Float → Float → Float → Outcome Valued
+unfoldable pub modelOutcome : Float → List Float → List Float → List Float → List Float → Float → Float → Float → Outcome ModelValued
 modelOutcome alpha ts fs payments accruals strike t sigma =
-    unless (rulesOn alpha ts fs payments accruals strike t sigma)
-    (cond (eqb (length payments) 0) (served noValued) (modelPriced alpha ts fs payments accruals strike t sigma))
+    unless (modelRulesOn alpha ts fs payments accruals strike t sigma)
+    (cond (eqb (length payments) 0) (served noModelValued) (modelPriced alpha ts fs payments accruals strike t sigma))

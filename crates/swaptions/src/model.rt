@@ -6,10 +6,10 @@ ghost use lib.ListN.{length};
 ghost use Rattle.lists.specs.Checks.{inOrder};
 ghost use Rattle.lists.specs.Refusals.{served, reported, firstOf, following};
 ghost use Rattle.lists.specs.Faults.{curveFaults};
-ghost use Rattle.jamshidian.specs.Price.{swaptionOutcome, noValued, finishingSwaption};
+ghost use Rattle.jamshidian.specs.Price.{swaptionOutcome, noModelValued, finishingSwaption};
 ghost use Rattle.jamshidian.specs.Ahead.{priceOn};
 ghost use Rattle.swaptions.specs.Model.{modelRules, modelPriced, modelOutcome};
-ghost use Rattle.swaptions.specs.Demand3.{Rooted, RefusedSo};
+ghost use Rattle.swaptions.specs.Demand3.{ModelRootLocated, ModelNoBracketExactly};
 use jamshidian::Root;
 use jamshidian::Swaption;
 use lists::Answer;
@@ -31,9 +31,9 @@ pub fn swaption_price(
     sigma: f64,
 ) -> Swaption
     ensures answer { λ r. ⌜ swaptionOutcome r ≡ modelOutcome alpha (now (times .entry)) (now (factors .entry)) (now (payments .entry)) (now (accruals .entry)) strike t sigma ⌝ }
-    ensures rooted { λ r. ⌜ Rooted alpha (now (times .entry)) (now (factors .entry)) (now (payments .entry)) (now (accruals .entry)) strike t sigma r ⌝ }
-    ensures bracket { λ r. ⌜ RefusedSo alpha (now (times .entry)) (now (factors .entry)) (now (payments .entry)) (now (accruals .entry)) strike t sigma r ⌝ }
-    ensures report { λ r. ⌜ reported noValued (swaptionOutcome r) ≡ reported noValued (modelOutcome alpha (now (times .entry)) (now (factors .entry)) (now (payments .entry)) (now (accruals .entry)) strike t sigma) ⌝ }
+    ensures rooted { λ r. ⌜ ModelRootLocated alpha (now (times .entry)) (now (factors .entry)) (now (payments .entry)) (now (accruals .entry)) strike t sigma r ⌝ }
+    ensures bracket { λ r. ⌜ ModelNoBracketExactly alpha (now (times .entry)) (now (factors .entry)) (now (payments .entry)) (now (accruals .entry)) strike t sigma r ⌝ }
+    ensures report { λ r. ⌜ reported noModelValued (swaptionOutcome r) ≡ reported noModelValued (modelOutcome alpha (now (times .entry)) (now (factors .entry)) (now (payments .entry)) (now (accruals .entry)) strike t sigma) ⌝ }
 {
     let curve = lists::curve_faults(times, factors);
     swaption_price_on(
@@ -64,9 +64,9 @@ pub fn swaption_price_on(
 ) -> Swaption
     requires { ⌜ curve ≡ curveFaults (now times) (now factors) ⌝ }
     ensures answer { λ r. ⌜ swaptionOutcome r ≡ modelOutcome alpha (now (times .entry)) (now (factors .entry)) (now (payments .entry)) (now (accruals .entry)) strike t sigma ⌝ }
-    ensures rooted { λ r. ⌜ Rooted alpha (now (times .entry)) (now (factors .entry)) (now (payments .entry)) (now (accruals .entry)) strike t sigma r ⌝ }
-    ensures bracket { λ r. ⌜ RefusedSo alpha (now (times .entry)) (now (factors .entry)) (now (payments .entry)) (now (accruals .entry)) strike t sigma r ⌝ }
-    ensures report { λ r. ⌜ reported noValued (swaptionOutcome r) ≡ reported noValued (modelOutcome alpha (now (times .entry)) (now (factors .entry)) (now (payments .entry)) (now (accruals .entry)) strike t sigma) ⌝ }
+    ensures rooted { λ r. ⌜ ModelRootLocated alpha (now (times .entry)) (now (factors .entry)) (now (payments .entry)) (now (accruals .entry)) strike t sigma r ⌝ }
+    ensures bracket { λ r. ⌜ ModelNoBracketExactly alpha (now (times .entry)) (now (factors .entry)) (now (payments .entry)) (now (accruals .entry)) strike t sigma r ⌝ }
+    ensures report { λ r. ⌜ reported noModelValued (swaptionOutcome r) ≡ reported noModelValued (modelOutcome alpha (now (times .entry)) (now (factors .entry)) (now (payments .entry)) (now (accruals .entry)) strike t sigma) ⌝ }
 {
     let coupons = lists::coupon_faults(payments, accruals);
     let later = lists::all(payments, Test::Above(t));
@@ -109,7 +109,7 @@ fn model_rules(
 
 // A swap without coupons is worth 0, and has no root.
 fn nothing() -> Swaption
-    ensures { λ r. ⌜ swaptionOutcome r ≡ served noValued ⌝ }
+    ensures { λ r. ⌜ swaptionOutcome r ≡ served noModelValued ⌝ }
 {
     Swaption::Served(
         0.0,
@@ -181,11 +181,21 @@ fn terms_priced(
     ensures { λ r. ⌜ swaptionOutcome r ≡ following (priceOn alpha t (record { pt = «p_t»; forward = forward; coefficients = now (c .entry); bs = now (b .entry); factors = now (p .entry) }) sigma) finishingSwaption ⌝ }
 {
     let n = c.len();
-    let mut drift = [0.0; 64];
-    terms::drifts(forward, p_t, b, p, &mut drift[..n]);
-    let decay = formulas::decay_of(alpha, t);
-    let deviation = formulas::deviation_of(alpha, t);
-    let swaption = jamshidian::price_at(alpha, sigma, decay, deviation, p_t, c, b, &drift[..n], p);
+    let mut curve_part = [0.0; 64];
+    terms::curve_parts(forward, p_t, b, p, &mut curve_part[..n]);
+    let share = formulas::stationary_share_of(alpha, t);
+    let deviation = formulas::state_deviation_of(alpha, t);
+    let swaption = jamshidian::price_at(
+        alpha,
+        sigma,
+        share,
+        deviation,
+        p_t,
+        c,
+        b,
+        &curve_part[..n],
+        p,
+    );
     finished(swaption)
 }
 

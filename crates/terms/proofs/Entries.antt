@@ -13,8 +13,8 @@ use Rattle.coupons.specs.Sum.{weightsOf}
 use Rattle.lists.specs.Refusals.{Outcome, served, refused, prepend}
 use Rattle.lookups.specs.Lookups.{Maybe, just, nothing, factorAt, needing}
 use Rattle.lists.proofs.Outcomes.{not-both, served-is}
-use Rattle.formulas.specs.HullWhite.{bOf, driftOf, aAt}
-use Rattle.terms.specs.Terms.{coefficientAt, coefficientsOf, bsOf, driftsOf, affinesOf, factorsAt}
+use Rattle.formulas.specs.HullWhite.{bOf, curvePartOf, aAt}
+use Rattle.terms.specs.Terms.{coefficientAt, coefficientsOf, bsOf, curvePartsOf, aListAt, factorsAt}
 
 -- ---- an entry of a list made from one list, and from two
 map-at : (f : Float → Float) (xs : List Float) (i : ℕ) → i < length xs → getD (map f xs) i nan ≡ f (getD xs i nan)
@@ -64,33 +64,33 @@ module _ (alpha t : Float) where
   pub bs-at : (payments : List Float) (i : ℕ) → i < length payments → getD (bsOf alpha t payments) i nan ≡ bOf alpha t (getD payments i nan)
   bs-at payments i h = rw (bs-map payments) (map-at _ payments i h)
 
--- ---- drifts
+-- ---- the curve's parts
 module _ (forward pt : Float) where
-  drifts-zip : (bs ps : List Float) → driftsOf forward pt bs ps ≡ zipWith (λ b p. driftOf b forward pt p) bs ps
-  unfolding driftsOf zipWith
+  drifts-zip : (bs ps : List Float) → curvePartsOf forward pt bs ps ≡ zipWith (λ b p. curvePartOf b forward pt p) bs ps
+  unfolding curvePartsOf zipWith
   drifts-zip [] ps = refl
   drifts-zip (b ∷ bs) [] = refl
-  drifts-zip (b ∷ bs) (p ∷ ps) = ap (λ rest. driftOf b forward pt p ∷ rest) (drifts-zip bs ps)
+  drifts-zip (b ∷ bs) (p ∷ ps) = ap (λ rest. curvePartOf b forward pt p ∷ rest) (drifts-zip bs ps)
 
-  pub drifts-length : (bs ps : List Float) → length ps ≡ length bs → length (driftsOf forward pt bs ps) ≡ length bs
-  drifts-length bs ps e = rw (drifts-zip bs ps) (zip-length _ bs ps e)
+  pub curve-parts-length : (bs ps : List Float) → length ps ≡ length bs → length (curvePartsOf forward pt bs ps) ≡ length bs
+  curve-parts-length bs ps e = rw (drifts-zip bs ps) (zip-length _ bs ps e)
 
-  pub drifts-at : (bs ps : List Float) (i : ℕ) → length ps ≡ length bs → i < length bs → getD (driftsOf forward pt bs ps) i nan ≡ driftOf (getD bs i nan) forward pt (getD ps i nan)
-  drifts-at bs ps i e h = rw (drifts-zip bs ps) (zip-at _ bs ps i e h)
+  pub curve-parts-at : (bs ps : List Float) (i : ℕ) → length ps ≡ length bs → i < length bs → getD (curvePartsOf forward pt bs ps) i nan ≡ curvePartOf (getD bs i nan) forward pt (getD ps i nan)
+  curve-parts-at bs ps i e h = rw (drifts-zip bs ps) (zip-at _ bs ps i e h)
 
 -- ---- A
-module _ (alpha sigma decay : Float) where
-  affines-zip : (bs drifts : List Float) → affinesOf alpha sigma decay bs drifts ≡ zipWith (λ b drift. aAt alpha sigma decay b drift) bs drifts
-  unfolding affinesOf zipWith
-  affines-zip [] drifts = refl
+module _ (alpha sigma share : Float) where
+  affines-zip : (bs curve-parts : List Float) → aListAt alpha sigma share bs curve-parts ≡ zipWith (λ b curve-part. aAt alpha sigma share b curve-part) bs curve-parts
+  unfolding aListAt zipWith
+  affines-zip [] curve-parts = refl
   affines-zip (b ∷ bs) [] = refl
-  affines-zip (b ∷ bs) (drift ∷ drifts) = ap (λ rest. aAt alpha sigma decay b drift ∷ rest) (affines-zip bs drifts)
+  affines-zip (b ∷ bs) (curve-part ∷ curve-parts) = ap (λ rest. aAt alpha sigma share b curve-part ∷ rest) (affines-zip bs curve-parts)
 
-  pub affines-length : (bs drifts : List Float) → length drifts ≡ length bs → length (affinesOf alpha sigma decay bs drifts) ≡ length bs
-  affines-length bs drifts e = rw (affines-zip bs drifts) (zip-length _ bs drifts e)
+  pub a-list-at-length : (bs curve-parts : List Float) → length curve-parts ≡ length bs → length (aListAt alpha sigma share bs curve-parts) ≡ length bs
+  a-list-at-length bs curve-parts e = rw (affines-zip bs curve-parts) (zip-length _ bs curve-parts e)
 
-  pub affines-at : (bs drifts : List Float) (i : ℕ) → length drifts ≡ length bs → i < length bs → getD (affinesOf alpha sigma decay bs drifts) i nan ≡ aAt alpha sigma decay (getD bs i nan) (getD drifts i nan)
-  affines-at bs drifts i e h = rw (affines-zip bs drifts) (zip-at _ bs drifts i e h)
+  pub a-list-at-nth : (bs curve-parts : List Float) (i : ℕ) → length curve-parts ≡ length bs → i < length bs → getD (aListAt alpha sigma share bs curve-parts) i nan ≡ aAt alpha sigma share (getD bs i nan) (getD curve-parts i nan)
+  a-list-at-nth bs curve-parts i e h = rw (affines-zip bs curve-parts) (zip-at _ bs curve-parts i e h)
 
 -- ---- weights
 weights-zip : (cs affines : List Float) → weightsOf cs affines ≡ zipWith (λ c a. c ⊗ a) cs affines

@@ -8,7 +8,7 @@ use Rattle.ieee.specs.Numbers.{one}
 use Rattle.ieee.specs.Fused.{fusedOf}
 use Rattle.lists.specs.Refusals.{Outcome, served, prepend}
 use Rattle.lookups.specs.Lookups.{factorAt, needing}
-use Rattle.formulas.specs.HullWhite.{bOf, decayOf, driftOf, aAt, aOf}
+use Rattle.formulas.specs.HullWhite.{bOf, stationaryShareOf, curvePartOf, aAt, aOf}
 
 -- accrual × K; the last coupon's is accrual × K + 1, fused
 abbrev pub coefficientAt : Bool → Float → Float → Float
@@ -26,10 +26,10 @@ bsOf alpha t [] = []
 bsOf alpha t (payment ∷ payments) = bOf alpha t payment ∷ bsOf alpha t payments
 
 -- A(t, T) of each payment time T, as `HullWhite::A` writes it: from the forward rate at t, and the factors at t and at T
-unfoldable pub asOf : Float → Float → Float → Float → Float → List Float → List Float → List Float
-asOf alpha t sigma forward pt [] ps = []
-asOf alpha t sigma forward pt (payment ∷ payments) [] = []
-asOf alpha t sigma forward pt (payment ∷ payments) (p ∷ ps) = aOf alpha t sigma (bOf alpha t payment) forward pt p ∷ asOf alpha t sigma forward pt payments ps
+unfoldable pub aListOf : Float → Float → Float → Float → Float → List Float → List Float → List Float
+aListOf alpha t sigma forward pt [] ps = []
+aListOf alpha t sigma forward pt (payment ∷ payments) [] = []
+aListOf alpha t sigma forward pt (payment ∷ payments) (p ∷ ps) = aOf alpha t sigma (bOf alpha t payment) forward pt p ∷ aListOf alpha t sigma forward pt payments ps
 
 -- the factor at each payment time, or refusal 8
 unfoldable pub factorsAt : List Float → List Float → List Float → Outcome (List Float)
@@ -38,22 +38,22 @@ factorsAt ts fs (payment ∷ payments) = needing (factorAt ts fs payment) (λ p.
 
 -- ---- worked ahead: what no sigma changes is worked once, and A of each term from it at each sigma
 
--- of each ln A(t, T) what does not depend on sigma, from B(t, T) and the factor at T
-unfoldable pub driftsOf : Float → Float → List Float → List Float → List Float
-driftsOf forward pt [] ps = []
-driftsOf forward pt (b ∷ bs) [] = []
-driftsOf forward pt (b ∷ bs) (p ∷ ps) = driftOf b forward pt p ∷ driftsOf forward pt bs ps
+-- the curve's part of each ln A(t, T), which no sigma changes, from B(t, T) and the factor at T
+unfoldable pub curvePartsOf : Float → Float → List Float → List Float → List Float
+curvePartsOf forward pt [] ps = []
+curvePartsOf forward pt (b ∷ bs) [] = []
+curvePartsOf forward pt (b ∷ bs) (p ∷ ps) = curvePartOf b forward pt p ∷ curvePartsOf forward pt bs ps
 
--- A(t, T) of each term at a sigma, decay being 1 - exp(-2 × alpha × t)
-unfoldable pub affinesOf : Float → Float → Float → List Float → List Float → List Float
-affinesOf alpha sigma decay [] drifts = []
-affinesOf alpha sigma decay (b ∷ bs) [] = []
-affinesOf alpha sigma decay (b ∷ bs) (drift ∷ drifts) = aAt alpha sigma decay b drift ∷ affinesOf alpha sigma decay bs drifts
+-- A(t, T) of each term at a sigma, share being 1 - exp(-2 × alpha × t)
+unfoldable pub aListAt : Float → Float → Float → List Float → List Float → List Float
+aListAt alpha sigma share [] curveParts = []
+aListAt alpha sigma share (b ∷ bs) [] = []
+aListAt alpha sigma share (b ∷ bs) (curvePart ∷ curveParts) = aAt alpha sigma share b curvePart ∷ aListAt alpha sigma share bs curveParts
 
 -- The A worked ahead are those of `HullWhite::A`, bit for bit at every sigma.
-pub affines-ahead : (alpha t sigma forward pt : Float) (payments ps : List Float)
-    → affinesOf alpha sigma (decayOf alpha t) (bsOf alpha t payments) (driftsOf forward pt (bsOf alpha t payments) ps) ≡ asOf alpha t sigma forward pt payments ps
-unfolding bsOf asOf driftsOf affinesOf
-affines-ahead alpha t sigma forward pt [] ps = refl
-affines-ahead alpha t sigma forward pt (payment ∷ payments) [] = refl
-affines-ahead alpha t sigma forward pt (payment ∷ payments) (p ∷ ps) = ap (λ (rest : List Float). aOf alpha t sigma (bOf alpha t payment) forward pt p ∷ rest) (affines-ahead alpha t sigma forward pt payments ps)
+pub a-list-ahead : (alpha t sigma forward pt : Float) (payments ps : List Float)
+    → aListAt alpha sigma (stationaryShareOf alpha t) (bsOf alpha t payments) (curvePartsOf forward pt (bsOf alpha t payments) ps) ≡ aListOf alpha t sigma forward pt payments ps
+unfolding bsOf aListOf curvePartsOf aListAt
+a-list-ahead alpha t sigma forward pt [] ps = refl
+a-list-ahead alpha t sigma forward pt (payment ∷ payments) [] = refl
+a-list-ahead alpha t sigma forward pt (payment ∷ payments) (p ∷ ps) = ap (λ (rest : List Float). aOf alpha t sigma (bOf alpha t payment) forward pt p ∷ rest) (a-list-ahead alpha t sigma forward pt payments ps)

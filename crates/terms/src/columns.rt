@@ -3,7 +3,7 @@
 ghost use mathlib.Core.Path.{_≡_};
 ghost use lib.ListN.{length};
 ghost use Rattle.coupons.specs.Sum.{weightsOf};
-ghost use Rattle.terms.specs.Terms.{coefficientAt, coefficientsOf, bsOf, driftsOf, affinesOf};
+ghost use Rattle.terms.specs.Terms.{coefficientAt, coefficientsOf, bsOf, curvePartsOf, aListAt};
 
 // The coefficient of one coupon: the last one's has the notional beside it.
 fn coefficient(last: bool, accrual: f64, strike: f64) -> f64
@@ -40,27 +40,27 @@ pub fn bs(alpha: f64, t: f64, payments: &[f64], out: &mut [f64])
     }
 }
 
-// Of each ln A what does not depend on sigma. A caller has worked `bs` on the coupons whose factors it has, and
+// The curve's part of each ln A. A caller has worked `bs` on the coupons whose factors it has, and
 // lends a place for each.
-pub fn drifts(forward: f64, p_t: f64, b: &[f64], p: &[f64], out: &mut [f64])
+pub fn curve_parts(forward: f64, p_t: f64, b: &[f64], p: &[f64], out: &mut [f64])
     requires { ⌜ (length (now out) ≡ length (now b)) × (length (now p) ≡ length (now b)) ⌝ }
-    ensures { λ _. ⌜ now (out .exit) ≡ driftsOf forward «p_t» (now (b .entry)) (now (p .entry)) ⌝ }
+    ensures { λ _. ⌜ now (out .exit) ≡ curvePartsOf forward «p_t» (now (b .entry)) (now (p .entry)) ⌝ }
 {
     let mut i = 0;
     while i < b.len() {
-        out[i] = formulas::drift_of(b[i], forward, p_t, p[i]);
+        out[i] = formulas::curve_part_of(b[i], forward, p_t, p[i]);
         i += 1;
     }
 }
 
-// A of each term at a sigma. A caller has a drift for each B, and lends a place for each A.
-pub fn affines(alpha: f64, sigma: f64, decay: f64, b: &[f64], drift: &[f64], out: &mut [f64])
-    requires { ⌜ (length (now out) ≡ length (now b)) × (length (now drift) ≡ length (now b)) ⌝ }
-    ensures { λ _. ⌜ now (out .exit) ≡ affinesOf alpha sigma decay (now (b .entry)) (now (drift .entry)) ⌝ }
+// A of each term at a sigma. A caller has a curve's part for each B, and lends a place for each A.
+pub fn a_list_at(alpha: f64, sigma: f64, share: f64, b: &[f64], curve_part: &[f64], out: &mut [f64])
+    requires { ⌜ (length (now out) ≡ length (now b)) × (length (now «curve_part») ≡ length (now b)) ⌝ }
+    ensures { λ _. ⌜ now (out .exit) ≡ aListAt alpha sigma share (now (b .entry)) (now («curve_part» .entry)) ⌝ }
 {
     let mut i = 0;
     while i < b.len() {
-        out[i] = formulas::a_at(alpha, sigma, decay, b[i], drift[i]);
+        out[i] = formulas::a_at(alpha, sigma, share, b[i], curve_part[i]);
         i += 1;
     }
 }

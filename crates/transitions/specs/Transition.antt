@@ -14,7 +14,7 @@ use Rattle.lists.specs.declared.curves.Faults.{Faults}
 use Rattle.lists.specs.declared.refusals.Refusal.the-variants as R
 use Rattle.lists.specs.Refusals.{Outcome, Rule, rule, unless}
 use Rattle.lists.specs.Faults.{pillarFaults}
-use Rattle.schedules.specs.Variance.{varianceOf}
+use Rattle.schedules.specs.Variance.{piecewiseVarianceOf}
 use Rattle.transitions.specs.Written.{finishingList}
 
 -- rules 1 to 7, a line a rule. Rule 5: a step that is not above 0 ends at or before its start
@@ -31,7 +31,7 @@ transitionRules pillars empty alpha steps room timeStep =
 
 -- the variance from step × timeStep to a timeStep later
 unfoldable pub stepVariance : Float → List Float → List Float → Float → ℕ → Float
-stepVariance alpha ts ss timeStep step = let start = ofInt binary64 (pos step) ⊗ timeStep in varianceOf alpha ts ss start (start ⊕ timeStep)
+stepVariance alpha ts ss timeStep step = let start = ofInt binary64 (pos step) ⊗ timeStep in piecewiseVarianceOf alpha ts ss start (start ⊕ timeStep)
 
 -- the variances of n steps, the first of them the step i
 unfoldable pub variancesOf : Float → List Float → List Float → Float → ℕ → ℕ → List Float

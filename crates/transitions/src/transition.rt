@@ -69,7 +69,7 @@ fn step_variance(alpha: f64, times: &[f64], sigmas: &[f64], time_step: f64, step
     ensures { λ r. ⌜ r ≡ stepVariance alpha (now (times .entry)) (now (sigmas .entry)) «time_step» step ⌝ }
 {
     let start = (step as f64) * time_step;
-    schedules::variance_of(alpha, times, sigmas, start, start + time_step)
+    schedules::hull_white_piecewise_variance_of(alpha, times, sigmas, start, start + time_step)
 }
 
 // The variances over as many steps as the list has places: a caller behind rule 1 lends at most 1,024.

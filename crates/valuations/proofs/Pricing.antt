@@ -12,7 +12,7 @@ use Rattle.lists.specs.declared.refusals.Refusal.the-variants as R
 use Rattle.lists.specs.declared.checks.Test.the-variants.{Zero}
 use Rattle.lists.specs.Refusals.{Outcome, served, refused}
 use Rattle.lists.specs.Checks.{allOf}
-use Rattle.schedules.specs.Variance.{varianceOf}
+use Rattle.schedules.specs.Variance.{piecewiseVarianceOf}
 use Rattle.search.specs.declared.Bracket.{Bracket}
 use Rattle.search.specs.declared.Critical.{Critical}
 use Rattle.coupons.specs.Sum.{couponSum}
@@ -24,13 +24,13 @@ use Rattle.terms.specs.declared.swaption.Terms.the-variants as T
 use Rattle.terms.specs.Swaption.{SwaptionTerms, termsOf, termsOutcome}
 use Rattle.terms.proofs.OnTerms.{terms-refused, terms-served}
 use Rattle.closedform.specs.declared.bond_option.SwaptionType.{SwaptionType}
-use Rattle.closedform.specs.Affine.{deviationOf, affinesOf}
+use Rattle.closedform.specs.Affine.{pricerDeviationOf, affineAListOf}
 use Rattle.closedform.specs.Newton.{sumsOf, stepped}
 use Rattle.closedform.specs.Components.{componentsOf}
-use Rattle.valuations.specs.Value.{Valued, finishingValuation, pricedBy, swaptionPriced}
+use Rattle.valuations.specs.Value.{PricerValued, finishingValuation, pricedBy, swaptionPriced}
 
 -- ---- rule 13
-pub finishes : (v : Valued) {x y z b : Bool} → x ≡ finite (v .value) → y ≡ finite (v .after-step) → z ≡ rootFinite (v .root .rate) (v .root .bracket) → (x && y && z) ≡ b → cond b (served v) (refused R.Overflow) ≡ finishingValuation v
+pub finishes : (v : PricerValued) {x y z b : Bool} → x ≡ finite (v .value) → y ≡ finite (v .after-step) → z ≡ rootFinite (v .root .rate) (v .root .bracket) → (x && y && z) ≡ b → cond b (served v) (refused R.Overflow) ≡ finishingValuation v
 finishes v p q r h = rw (← and-root (finite (v .value) && finite (v .after-step)) (v .root .rate) (v .root .bracket), ← p, ← q, ← r, h)
 
 -- ---- the search
@@ -49,7 +49,7 @@ module _ (option : SwaptionType) (deviation pt : Float) (cs affs bs ps owns : Li
     unfolding pricedBy
     step-flat e f = rw (e, f)
 
-    pub valued : {s sum : Float} {none : Bool} {o : Outcome Valued} → criticalOf (couponSum cs affs bs) ≡ Critical.Found b i j rate → stepped rate (sumsOf rate cs affs bs) ≡ served s
+    pub valued : {s sum : Float} {none : Bool} {o : Outcome PricerValued} → criticalOf (couponSum cs affs bs) ≡ Critical.Found b i j rate → stepped rate (sumsOf rate cs affs bs) ≡ served s
         → none ≡ allOf Zero owns → sum ≡ componentsOf option (not none) deviation pt s cs affs bs ps owns
         → o ≡ finishingValuation (record { value = sum ⊗ notional ⊗ side; after-step = s; root = record { rate = rate; bracket = b; low-rung = i; high-rung = j } })
         → o ≡ pricedBy option deviation pt cs affs bs ps owns notional side
@@ -58,20 +58,20 @@ module _ (option : SwaptionType) (deviation pt : Float) (cs affs bs ps owns : Li
 
 -- ---- the terms
 module _ (option : SwaptionType) (variance pt forward : Float) (cs bs ps owns : List Float) (notional side : Float) where
-  pub terms-are : {deviation : Float} {affs : List Float} {o : Outcome Valued} → affs ≡ affinesOf variance forward pt bs ps → deviation ≡ deviationOf variance
-      → o ≡ pricedBy option deviation pt cs affs bs ps owns notional side → o ≡ pricedBy option (deviationOf variance) pt cs (affinesOf variance forward pt bs ps) bs ps owns notional side
+  pub terms-are : {deviation : Float} {affs : List Float} {o : Outcome PricerValued} → affs ≡ affineAListOf variance forward pt bs ps → deviation ≡ pricerDeviationOf variance
+      → o ≡ pricedBy option deviation pt cs affs bs ps owns notional side → o ≡ pricedBy option (pricerDeviationOf variance) pt cs (affineAListOf variance forward pt bs ps) bs ps owns notional side
   terms-are a d h = rw (← a, ← d) h
 
 -- ---- the call, by what its terms came to, `r` with the lists beside it
 module _ (option : SwaptionType) (alpha : Float) (pls ss ts fs payments accruals owns : List Float) (strike t notional side : Float) (r : Terms) (cs bs ps : List Float) (is : termsOutcome r cs bs ps ≡ termsOf alpha ts fs payments accruals strike t) where
-  abbrev on : Float → SwaptionTerms → Outcome Valued
-  on variance w = pricedBy option (deviationOf variance) (w .pt) (w .coefficients) (affinesOf variance (w .forward) (w .pt) (w .bs) (w .factors)) (w .bs) (w .factors) owns notional side
+  abbrev on : Float → SwaptionTerms → Outcome PricerValued
+  on variance w = pricedBy option (pricerDeviationOf variance) (w .pt) (w .coefficients) (affineAListOf variance (w .forward) (w .pt) (w .bs) (w .factors)) (w .bs) (w .factors) owns notional side
 
   pub off-curve : {q : Refusal} → r ≡ T.Refused q → refused q ≡ swaptionPriced option alpha pls ss ts fs payments accruals owns strike t notional side
   unfolding swaptionPriced
-  off-curve e = terms-refused alpha ts fs payments accruals strike t _ (on (varianceOf alpha pls ss zero t)) (λ pt pPlus qs. refl) r cs bs ps is e
+  off-curve e = terms-refused alpha ts fs payments accruals strike t _ (on (piecewiseVarianceOf alpha pls ss zero t)) (λ pt pPlus qs. refl) r cs bs ps is e
 
-  pub on-curve : {pt forward variance : Float} {cs' bs' ps' : List Float} {o : Outcome Valued} → r ≡ T.Served pt forward → variance ≡ varianceOf alpha pls ss zero t → cs' ≡ cs → bs' ≡ bs → ps' ≡ ps
+  pub on-curve : {pt forward variance : Float} {cs' bs' ps' : List Float} {o : Outcome PricerValued} → r ≡ T.Served pt forward → variance ≡ piecewiseVarianceOf alpha pls ss zero t → cs' ≡ cs → bs' ≡ bs → ps' ≡ ps
       → o ≡ on variance (record { pt = pt; forward = forward; coefficients = cs'; bs = bs'; factors = ps' }) → o ≡ swaptionPriced option alpha pls ss ts fs payments accruals owns strike t notional side
   unfolding swaptionPriced
-  on-curve e v c b p h = h ∙ rw v (terms-served alpha ts fs payments accruals strike t _ (on (varianceOf alpha pls ss zero t)) (λ pt pPlus qs. refl) r cs bs ps is e c b p)
+  on-curve e v c b p h = h ∙ rw v (terms-served alpha ts fs payments accruals strike t _ (on (piecewiseVarianceOf alpha pls ss zero t)) (λ pt pPlus qs. refl) r cs bs ps is e c b p)

@@ -4,7 +4,7 @@ ghost use mathlib.Core.Bool.{true};
 ghost use Prim.Native.Nat.{_≤_};
 ghost use lib.ListN.{length};
 ghost use Rattle.lists.specs.Checks.{inOrder};
-ghost use Rattle.closedform.specs.Affine.{deviationOf, affinesOf};
+ghost use Rattle.closedform.specs.Affine.{pricerDeviationOf, affineAListOf};
 ghost use Rattle.valuations.specs.Value.{valuationOutcome, pricedBy, swaptionPriced, finishingValuation};
 use closedform::Step;
 use closedform::SwaptionType;
@@ -66,7 +66,13 @@ pub fn swaption_priced(
     match worked {
         Terms::Refused(refusal) => Valuation::Refused(refusal),
         Terms::Served { p_t, forward } => {
-            let state_variance = schedules::variance_of(alpha, pillars, sigmas, 0.0, t);
+            let state_variance = schedules::hull_white_piecewise_variance_of(
+                alpha,
+                pillars,
+                sigmas,
+                0.0,
+                t,
+            );
             terms_priced(
                 option,
                 state_variance,
@@ -97,12 +103,12 @@ fn terms_priced(
     side: f64,
 ) -> Valuation
     requires { ⌜ (length (now c) ≤ 64) × (length (now b) ≡ length (now c)) × (length (now p) ≡ length (now c)) × (length (now «own_dfs») ≡ length (now c)) ⌝ }
-    ensures { λ r. ⌜ valuationOutcome r ≡ pricedBy option (deviationOf «state_variance») «p_t» (now (c .entry)) (affinesOf «state_variance» forward «p_t» (now (b .entry)) (now (p .entry))) (now (b .entry)) (now (p .entry)) (now («own_dfs» .entry)) notional side ⌝ }
+    ensures { λ r. ⌜ valuationOutcome r ≡ pricedBy option (pricerDeviationOf «state_variance») «p_t» (now (c .entry)) (affineAListOf «state_variance» forward «p_t» (now (b .entry)) (now (p .entry))) (now (b .entry)) (now (p .entry)) (now («own_dfs» .entry)) notional side ⌝ }
 {
     let n = c.len();
     let mut a = [0.0; 64];
-    closedform::affines(state_variance, forward, p_t, b, p, &mut a[..n]);
-    let deviation = closedform::deviation(state_variance);
+    closedform::affine_a_list(state_variance, forward, p_t, b, p, &mut a[..n]);
+    let deviation = closedform::pricer_deviation(state_variance);
     priced_by(
         option,
         deviation,
@@ -134,7 +140,7 @@ fn priced_by(
     requires { ⌜ (length (now c) ≤ 64) × (length (now a) ≡ length (now c)) × (length (now b) ≡ length (now c)) × (length (now p) ≡ length (now c)) × (length (now «own_dfs») ≡ length (now c)) ⌝ }
     ensures { λ r. ⌜ valuationOutcome r ≡ pricedBy option deviation «p_t» (now (c .entry)) (now (a .entry)) (now (b .entry)) (now (p .entry)) (now («own_dfs» .entry)) notional side ⌝ }
 {
-    let found = terms::critical_rate(c, a, b);
+    let found = terms::find_critical_rate_of(c, a, b);
     if let Critical::NotANumber = found {
         return Valuation::Refused(Refusal::NanReached);
     }
@@ -147,7 +153,7 @@ fn priced_by(
     else {
         return Valuation::Refused(Refusal::NoBracket);
     };
-    let Step::To(stepped) = closedform::implicit_critical_rate(rate, c, a, b) else {
+    let Step::To(stepped) = closedform::implicit_critical_rate_of(rate, c, a, b) else {
         return Valuation::Refused(Refusal::FlatDerivative);
     };
     let own = !lists::all(own_dfs, Test::Zero);

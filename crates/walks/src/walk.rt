@@ -12,7 +12,7 @@ use super::decays;
 use lists::Answer;
 use lists::Refusal;
 use lookups::Found;
-use lookups::Spot;
+use lookups::FoundNear;
 
 // The state of a path: the centred rate, the time, and the state's variance.
 pub struct State {
@@ -46,7 +46,7 @@ fn shift_of(variance: f64, forward: f64) -> f64
 
 // The forward at t, from the factors at t and a day later, looked for at `hint` first. A caller behind the
 // rules has a curve whose times strictly rise.
-fn forward_near(times: &[f64], factors: &[f64], hint: usize, t: f64) -> Spot
+fn forward_near(times: &[f64], factors: &[f64], hint: usize, t: f64) -> FoundNear
     requires { ⌜ inOrder true (now times) ≡ true ⌝ }
     ensures { λ r. ⌜ foundOf (r .found) ≡ forwardAt (now (times .entry)) (now (factors .entry)) t ⌝ }
 {
@@ -60,7 +60,7 @@ fn forward_near(times: &[f64], factors: &[f64], hint: usize, t: f64) -> Spot
     let Found::At(p_plus) = found_plus else {
         return second;
     };
-    Spot {
+    FoundNear {
         found: Found::At(formulas::forward_of(p, p_plus)),
         next: second.next,
     }

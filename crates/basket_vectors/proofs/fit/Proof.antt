@@ -5,29 +5,29 @@ use borrow.Author.Needs.{needs}
 use Rattle.basket_vectors.proofs.fit.Statement.{statement}
 use Rattle.basket_vectors.proofs.fit.Tie as tie
 
-slice-aggregate-fit-basket : tie.Need-slice-aggregate-fit-basket
-slice-aggregate-fit-basket c = sym (length-take-le _ _ (search needs))
+slice-aggregate-calibrate-to-instruments : tie.Need-slice-aggregate-calibrate-to-instruments
+slice-aggregate-calibrate-to-instruments c = sym (length-take-le _ _ (search needs))
 
-slice-aggregate-fit-basket-2 : tie.Need-slice-aggregate-fit-basket-2
-slice-aggregate-fit-basket-2 c = sym (length-take-le _ _ (search needs))
+slice-aggregate-calibrate-to-instruments-2 : tie.Need-slice-aggregate-calibrate-to-instruments-2
+slice-aggregate-calibrate-to-instruments-2 c = sym (length-take-le _ _ (search needs))
 
-slice-aggregate-fit-basket-3 : tie.Need-slice-aggregate-fit-basket-3
-slice-aggregate-fit-basket-3 c = sym (length-take-le _ _ (search needs))
+slice-aggregate-calibrate-to-instruments-3 : tie.Need-slice-aggregate-calibrate-to-instruments-3
+slice-aggregate-calibrate-to-instruments-3 c = sym (length-take-le _ _ (search needs))
 
-slice-aggregate-fit-basket-4 : tie.Need-slice-aggregate-fit-basket-4
-slice-aggregate-fit-basket-4 c = sym (length-take-le _ _ (search needs))
+slice-aggregate-calibrate-to-instruments-4 : tie.Need-slice-aggregate-calibrate-to-instruments-4
+slice-aggregate-calibrate-to-instruments-4 c = sym (length-take-le _ _ (search needs))
 
-slice-aggregate-fit-basket-5 : tie.Need-slice-aggregate-fit-basket-5
-slice-aggregate-fit-basket-5 c = sym (length-take-le _ _ (search needs))
+slice-aggregate-calibrate-to-instruments-5 : tie.Need-slice-aggregate-calibrate-to-instruments-5
+slice-aggregate-calibrate-to-instruments-5 c = sym (length-take-le _ _ (search needs))
 
-slice-aggregate-fit-basket-6 : tie.Need-slice-aggregate-fit-basket-6
-slice-aggregate-fit-basket-6 c = sym (length-take-le _ _ (search needs))
+slice-aggregate-calibrate-to-instruments-6 : tie.Need-slice-aggregate-calibrate-to-instruments-6
+slice-aggregate-calibrate-to-instruments-6 c = sym (length-take-le _ _ (search needs))
 
-slice-aggregate-fit-basket-7 : tie.Need-slice-aggregate-fit-basket-7
-slice-aggregate-fit-basket-7 c = sym (length-take-le _ _ (search needs))
+slice-aggregate-calibrate-to-instruments-7 : tie.Need-slice-aggregate-calibrate-to-instruments-7
+slice-aggregate-calibrate-to-instruments-7 c = sym (length-take-le _ _ (search needs))
 
-fit-basket-requires : tie.Need-fit-basket-requires
-fit-basket-requires c κs = search needs
+calibrate-to-instruments-requires : tie.Need-calibrate-to-instruments-requires
+calibrate-to-instruments-requires c κs = search needs
 
 write-requires : tie.Need-write-requires
 write-requires c κs = search needs
@@ -39,13 +39,13 @@ pub fit-spec : {M : Type 1} → statement M
 fit-spec =
     tie.close
     (tie.spec
-    slice-aggregate-fit-basket
-    slice-aggregate-fit-basket-2
-    slice-aggregate-fit-basket-3
-    slice-aggregate-fit-basket-4
-    slice-aggregate-fit-basket-5
-    slice-aggregate-fit-basket-6
-    slice-aggregate-fit-basket-7
-    fit-basket-requires
+    slice-aggregate-calibrate-to-instruments
+    slice-aggregate-calibrate-to-instruments-2
+    slice-aggregate-calibrate-to-instruments-3
+    slice-aggregate-calibrate-to-instruments-4
+    slice-aggregate-calibrate-to-instruments-5
+    slice-aggregate-calibrate-to-instruments-6
+    slice-aggregate-calibrate-to-instruments-7
+    calibrate-to-instruments-requires
     write-requires
     returns)

@@ -12,14 +12,14 @@ use Rattle.calibration.proofs.fits.caplet_worked.Tie as tie
 b-of-requires : tie.Need-b-of-requires
 b-of-requires c κs = search needs
 
-deviation-of-requires : tie.Need-deviation-of-requires
-deviation-of-requires c κs = search needs
+state-deviation-of-requires : tie.Need-state-deviation-of-requires
+state-deviation-of-requires c κs = search needs
 
 growth-of-requires : tie.Need-growth-of-requires
 growth-of-requires c κs = search needs
 
-caplet-market-requires : tie.Need-caplet-market-requires
-caplet-market-requires c κs = search needs
+caplet-market-price-requires : tie.Need-caplet-market-price-requires
+caplet-market-price-requires c κs = search needs
 
 array-share-prefix-none : tie.Need-array-share-prefix-none
 array-share-prefix-none c = search needs
@@ -35,16 +35,16 @@ finished-requires c κs = search needs
 
 returns : tie.Need-returns
 unfolding optionletStrikeOf
-returns c = caplet-fit _ _ _ _ _ _ _ _ _ _ _ _ (c .before .before .before .before .before .before .b-of .ensures) (c .before .before .before .before .before .deviation-of .ensures) (ap (λ (g : Float). one ⊘ g) (c .before .before .before .before .growth-of .ensures)) (c .before .before .before .caplet-market .ensures) (c .before .solve .ensures) (c .finished .ensures)
+returns c = caplet-fit _ _ _ _ _ _ _ _ _ _ _ _ (c .before .before .before .before .before .before .b-of .ensures) (c .before .before .before .before .before .state-deviation-of .ensures) (ap (λ (g : Float). one ⊘ g) (c .before .before .before .before .growth-of .ensures)) (c .before .before .before .caplet-market-price .ensures) (c .before .solve .ensures) (c .finished .ensures)
 
 pub caplet-worked-spec : {M : Type 1} → statement M
 caplet-worked-spec =
     tie.close
     (tie.spec
     b-of-requires
-    deviation-of-requires
+    state-deviation-of-requires
     growth-of-requires
-    caplet-market-requires
+    caplet-market-price-requires
     array-share-prefix-none
     slice-aggregate-empty
     solve-requires

@@ -56,8 +56,8 @@ array-share-prefix-p c = let g = c .before .before .before .before .before .befo
 slice-aggregate-fetched : tie.Need-slice-aggregate-fetched
 slice-aggregate-fetched c = let g = c .before .before .before .before .before .before .before in back-is work _ (g .before .before .before .before .before .before .before .before .pre .1) (ps-of g) (g .swaption-terms .kept .1 .1 .1 .1 .1 .1 .1 .1 .1 .0)
 
-swaption-market-requires : tie.Need-swaption-market-requires
-swaption-market-requires c κs =
+swaption-market-price-requires : tie.Need-swaption-market-price-requires
+swaption-market-price-requires c κs =
     let g = c .before .before .before .before .before .before .before in
     let s = g .before .before .before .before .before .before .before .before .pre in
     let n = back-is work _ (s .1) (ps-of g) (g .swaption-terms .kept .1 .1 .1 .1 .1 .1 .1 .1 .1 .0) in
@@ -89,7 +89,7 @@ returns-2 : tie.Need-returns-2
 returns-2 c =
     let g = c .before .before .before .before .before .before .before .before .before .before .before in
     let s = g .before .before .before .before .before .before .before .before .pre .1 in
-    on-curve _ _ _ _ _ _ _ _ _ _ _ _ _ (g .swaption-terms .ensures) (c .before .before .before .before .before .before .worked2 .given .1) (values-are work _ s (cs-of g) (g .swaption-terms .kept .1 .1 .1 .1 .1 .1 .1 .0)) (values-are work _ s (bs-of g) (g .swaption-terms .kept .1 .1 .1 .1 .1 .1 .1 .1 .0)) (values-are work _ s (ps-of g) (g .swaption-terms .kept .1 .1 .1 .1 .1 .1 .1 .1 .1 .0)) (c .before .before .before .swaption-market .ensures) (c .terms-fitted .ensures)
+    on-curve _ _ _ _ _ _ _ _ _ _ _ _ _ (g .swaption-terms .ensures) (c .before .before .before .before .before .before .worked2 .given .1) (values-are work _ s (cs-of g) (g .swaption-terms .kept .1 .1 .1 .1 .1 .1 .1 .0)) (values-are work _ s (bs-of g) (g .swaption-terms .kept .1 .1 .1 .1 .1 .1 .1 .1 .0)) (values-are work _ s (ps-of g) (g .swaption-terms .kept .1 .1 .1 .1 .1 .1 .1 .1 .1 .0)) (c .before .before .before .swaption-market-price .ensures) (c .terms-fitted .ensures)
 
 pub swaption-fitted-spec : {M : Type 1} → statement M
 swaption-fitted-spec =
@@ -106,7 +106,7 @@ swaption-fitted-spec =
     enum-known-worked-2
     array-share-prefix-p
     slice-aggregate-fetched
-    swaption-market-requires
+    swaption-market-price-requires
     array-share-prefix-c
     slice-aggregate-terms-fitted
     array-share-prefix-b

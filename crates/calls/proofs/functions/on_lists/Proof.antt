@@ -41,8 +41,8 @@ zcb-price-requires c κs = search needs
 theta-requires : tie.Need-theta-requires
 theta-requires c κs = search needs
 
-forward-rate-requires : tie.Need-forward-rate-requires
-forward-rate-requires c κs = search needs
+forward-rate-from-curve-requires : tie.Need-forward-rate-from-curve-requires
+forward-rate-from-curve-requires c κs = search needs
 
 bond-put-price-requires : tie.Need-bond-put-price-requires
 bond-put-price-requires c κs = search needs
@@ -56,11 +56,11 @@ caplet-price-requires c κs = search needs
 floorlet-price-requires : tie.Need-floorlet-price-requires
 floorlet-price-requires c κs = search needs
 
-annuity-requires : tie.Need-annuity-requires
-annuity-requires c κs = search needs
+swap-annuity-from-curve-requires : tie.Need-swap-annuity-from-curve-requires
+swap-annuity-from-curve-requires c κs = search needs
 
-piecewise-variance-requires : tie.Need-piecewise-variance-requires
-piecewise-variance-requires c κs = search needs
+hull-white-piecewise-variance-requires : tie.Need-hull-white-piecewise-variance-requires
+hull-white-piecewise-variance-requires c κs = search needs
 
 volatility-requires : tie.Need-volatility-requires
 volatility-requires c κs = search needs
@@ -79,7 +79,7 @@ returns-3 c = named _ 9 (c .before .before .before .args .r) (c .before .before 
 
 returns-4 : tie.Need-returns-4
 unfolding onListsOf
-returns-4 c = named _ 10 (c .before .before .before .args .r) (c .before .before .before .args .s .now) _ (c .before .match .keys4) (c .forward-rate .ensures)
+returns-4 c = named _ 10 (c .before .before .before .args .r) (c .before .before .before .args .s .now) _ (c .before .match .keys4) (c .forward-rate-from-curve .ensures)
 
 returns-5 : tie.Need-returns-5
 unfolding onListsOf
@@ -99,11 +99,11 @@ returns-8 c = named _ 14 (c .before .before .before .args .r) (c .before .before
 
 returns-9 : tie.Need-returns-9
 unfolding onListsOf
-returns-9 c = named _ 15 (c .before .before .before .args .r) (c .before .before .before .args .s .now) _ (c .before .match .keys9) (c .annuity .ensures)
+returns-9 c = named _ 15 (c .before .before .before .args .r) (c .before .before .before .args .s .now) _ (c .before .match .keys9) (c .swap-annuity-from-curve .ensures)
 
 returns-10 : tie.Need-returns-10
 unfolding onListsOf
-returns-10 c = named _ 16 (c .before .before .before .args .r) (c .before .before .before .args .s .now) _ (c .before .match .keys10) (c .piecewise-variance .ensures)
+returns-10 c = named _ 16 (c .before .before .before .args .r) (c .before .before .before .args .s .now) _ (c .before .match .keys10) (c .hull-white-piecewise-variance .ensures)
 
 returns-11 : tie.Need-returns-11
 returns-11 c = let x = c .before .match .rest in last _ (c .before .before .before .args .r) (c .before .before .before .args .s .now) _ (x .0 .0 .0 .0 .0 .0 .0 .0 .0 .1) (x .0 .0 .0 .0 .0 .0 .0 .0 .1) (x .0 .0 .0 .0 .0 .0 .0 .1) (x .0 .0 .0 .0 .0 .0 .1) (x .0 .0 .0 .0 .0 .1) (x .0 .0 .0 .0 .1) (x .0 .0 .0 .1) (x .0 .0 .1) (x .0 .1) (x .1) (c .volatility .ensures)
@@ -115,13 +115,13 @@ on-lists-spec =
     a-requires
     zcb-price-requires
     theta-requires
-    forward-rate-requires
+    forward-rate-from-curve-requires
     bond-put-price-requires
     bond-call-price-requires
     caplet-price-requires
     floorlet-price-requires
-    annuity-requires
-    piecewise-variance-requires
+    swap-annuity-from-curve-requires
+    hull-white-piecewise-variance-requires
     volatility-requires
     returns
     returns-2

@@ -7,7 +7,7 @@ use borrow.Author.Tests.{ne-eqb}
 use denote.Ref.{now}
 use lib.Ieee.{Float}
 use Rattle.lists.specs.Refusals.{Outcome}
-use Rattle.quotes.specs.Utils.{Two}
+use Rattle.quotes.specs.Utils.{D1D2Values}
 use Rattle.calls.specs.declared.record.Record.{Record}
 use Rattle.calls.specs.Calls.{generateCall}
 use Rattle.calls.specs.Agree.{output, tellsBothOf, writesOf, othersOf}
@@ -46,7 +46,7 @@ generate-requires c κs = search needs
 
 returns : tie.Need-returns
 unfolding othersOf
-returns c = let r = c .before .before .before .before .args .r in named _ 18 (c .before .before .before .before .args .r) (now (c .before .before .before .before .args .s)) _ (c .before .before .match .keys1) (c .tells-both .ensures ∙ ap (λ (o : Outcome Two). tellsBothOf o r) (c .before .d1-d2 .ensures))
+returns c = let r = c .before .before .before .before .args .r in named _ 18 (c .before .before .before .before .args .r) (now (c .before .before .before .before .args .s)) _ (c .before .before .match .keys1) (c .tells-both .ensures ∙ ap (λ (o : Outcome D1D2Values). tellsBothOf o r) (c .before .d1-d2 .ensures))
 
 returns-2 : tie.Need-returns-2
 unfolding othersOf

@@ -4,8 +4,8 @@ use mathlib.Core.Bool.{Bool, _&&_}
 use borrow.Author.Needs.{needs}
 use lib.Dec.{eqb}
 use lib.Ieee.{Float}
-use Rattle.lists.specs.declared.refusals.Reply.{Reply}
-use Rattle.lists.specs.Refusals.{Outcome, outcomeOf, toldOutcome}
+use Rattle.lists.specs.declared.refusals.PriceReport.{PriceReport}
+use Rattle.lists.specs.Refusals.{Outcome, outcomeOf, reportedPrice}
 use Rattle.calls.specs.declared.record.Record.{Record}
 use Rattle.calls.specs.Match.{matchesOf}
 use Rattle.calls.specs.Agree.{tellsOf}
@@ -13,11 +13,11 @@ use Rattle.calls.proofs.functions.tells.Statement.{statement}
 use Rattle.calls.proofs.functions.tells.Tie as tie
 
 -- a reply that tells the outcome o is compared as o is
-compared : (o : Outcome Float) (r : Record) (reply : Reply) (ok : Bool) → reply ≡ toldOutcome o → ok ≡ matchesOf (reply .value) (r .first) → eqb (reply .answer) (r .answer) && ok ≡ tellsOf o r
-compared o r reply ok e m = rw (m, e)
+compared : (o : Outcome Float) (r : Record) (report : PriceReport) (ok : Bool) → report ≡ reportedPrice o → ok ≡ matchesOf (report .value) (r .first) → eqb (report .answer) (r .answer) && ok ≡ tellsOf o r
+compared o r report ok e m = rw (m, e)
 
-told-requires : tie.Need-told-requires
-told-requires c κs = search needs
+report-price-requires : tie.Need-report-price-requires
+report-price-requires c κs = search needs
 
 matches-requires : tie.Need-matches-requires
 matches-requires c κs = search needs
@@ -25,7 +25,7 @@ matches-requires c κs = search needs
 returns : tie.Need-returns
 returns c =
     let a = c .before .before .before .before .args in
-    compared (outcomeOf (a .price)) (a .r) _ _ (c .before .before .before .told .ensures) (c .matches .ensures)
+    compared (outcomeOf (a .price)) (a .r) _ _ (c .before .before .before .report-price .ensures) (c .matches .ensures)
 
 pub tells-spec : {M : Type 1} → statement M
-tells-spec = tie.close (tie.spec told-requires matches-requires returns)
+tells-spec = tie.close (tie.spec report-price-requires matches-requires returns)

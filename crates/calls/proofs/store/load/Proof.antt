@@ -7,13 +7,13 @@ use native.Mathlib.Numerals.{unary-clauses}
 use denote.Ref.{now}
 use lib.ListN.{length, take, length-set}
 use Rattle.layout.specs.Bytes.{floatOf}
-use Rattle.calls.specs.Store.{numbersOf}
+use Rattle.calls.specs.Store.{storedNumbersOf}
 use Rattle.calls.proofs.Walks.{load-turn, load-end}
 use Rattle.calls.proofs.store.load.Statement.{statement}
 use Rattle.calls.proofs.store.load.Tie as tie
 
 abbrev Inv-loop : tie.InvT-loop
-Inv-loop s store₀ i₀ store i = (i ≤ length store₀) × (length store ≡ length store₀) × (take i store ++ numbersOf (length store₀ - i) (8 * i) s ≡ numbersOf (length store₀) 0 s)
+Inv-loop s store₀ i₀ store i = (i ≤ length store₀) × (length store ≡ length store₀) × (take i store ++ storedNumbersOf (length store₀ - i) (8 * i) s ≡ storedNumbersOf (length store₀) 0 s)
 
 abbrev μ-loop : tie.MeasureT-loop
 μ-loop s store₀ i₀ store i = length store₀ - i

@@ -1,5 +1,5 @@
 -- `closedform::bond_option` meets its contract: the intrinsic value where the bond hardly moves, else the option on it. Assumes nothing.
-use Rattle.closedform.specs.BondOption.{bondOptionOf}
+use Rattle.closedform.specs.BondOption.{pricerBondOptionOf}
 use Rattle.closedform.proofs.Literals.{still-is}
 use borrow.Author.Needs.{needs}
 use Rattle.closedform.proofs.bond_option.bond_option.Statement.{statement}
@@ -8,20 +8,20 @@ use Rattle.closedform.proofs.bond_option.bond_option.Tie as tie
 intrinsic-requires : tie.Need-intrinsic-requires
 intrinsic-requires c κs = search needs
 
-positive-requires : tie.Need-positive-requires
-positive-requires c κs = search needs
+floored-at-zero-requires : tie.Need-floored-at-zero-requires
+floored-at-zero-requires c κs = search needs
 
 moving-requires : tie.Need-moving-requires
 moving-requires c κs = search needs
 
 returns : tie.Need-returns
-unfolding bondOptionOf
-returns c = rw (← still-is, c .before .before .if1 .taken, c .positive .ensures, c .before .intrinsic .ensures)
+unfolding pricerBondOptionOf
+returns c = rw (← still-is, c .before .before .if1 .taken, c .floored-at-zero .ensures, c .before .intrinsic .ensures)
 
 returns-2 : tie.Need-returns-2
-unfolding bondOptionOf
+unfolding pricerBondOptionOf
 returns-2 c = rw (← still-is, c .before .if1 .left, c .moving .ensures)
 
 pub bond-option-spec : {M : Type 1} → statement M
 bond-option-spec =
-    tie.close (tie.spec intrinsic-requires positive-requires moving-requires returns returns-2)
+    tie.close (tie.spec intrinsic-requires floored-at-zero-requires moving-requires returns returns-2)

@@ -25,8 +25,8 @@ returns c =
 enum-told : tie.Need-enum-told
 enum-told c = search needs
 
-critical-rate-requires : tie.Need-critical-rate-requires
-critical-rate-requires c κs =
+find-critical-rate-of-requires : tie.Need-find-critical-rate-of-requires
+find-critical-rate-of-requires c κs =
     let s = c .before .before .before .before .before .before .args in
     let fit = lists-fit (now (s .coefficients)) (now (s .affines)) (now (s .b)) (c .before .before .search-rules .ensures) (c .enum-told .given .1) in
     (fit .0, omega (arith, fit .1, fit .2))
@@ -37,7 +37,7 @@ finished-requires c κs = search needs
 returns-2 : tie.Need-returns-2
 returns-2 c =
     let s = c .before .before .before .before .before .before .before .before .args in
-    let o = rate-searched (now (s .coefficients)) (now (s .affines)) (now (s .b)) (c .before .before .before .before .search-rules .ensures) (c .before .before .enum-told .given .1) (c .before .critical-rate .ensures) (c .finished .ensures) in
+    let o = rate-searched (now (s .coefficients)) (now (s .affines)) (now (s .b)) (c .before .before .before .before .search-rules .ensures) (c .before .before .enum-told .given .1) (c .before .find-critical-rate-of .ensures) (c .finished .ensures) in
     (o, (rate-rooted (now (s .coefficients)) (now (s .affines)) (now (s .b)) o, (rate-refused-so (now (s .coefficients)) (now (s .affines)) (now (s .b)) o, ap (reported noValues) o)))
 
 pub find-critical-rate-spec : {M : Type 1} → statement M
@@ -48,6 +48,6 @@ find-critical-rate-spec =
     enum-known-answer
     returns
     enum-told
-    critical-rate-requires
+    find-critical-rate-of-requires
     finished-requires
     returns-2)

@@ -19,8 +19,8 @@ enum-known-found c = search needs
 returns-2 : tie.Need-returns-2
 returns-2 c = rw (nothing-found (c .before .before .before .before .before .args .found) (c .before .match .keys2) (c .match2 .keys2))
 
-implicit-critical-rate-requires : tie.Need-implicit-critical-rate-requires
-implicit-critical-rate-requires c κs = search needs
+implicit-critical-rate-of-requires : tie.Need-implicit-critical-rate-of-requires
+implicit-critical-rate-of-requires c κs = search needs
 
 enum-known-after : tie.Need-enum-known-after
 enum-known-after c = search needs
@@ -29,13 +29,13 @@ enum-told-2 : tie.Need-enum-told-2
 enum-told-2 c = search needs
 
 returns-3 : tie.Need-returns-3
-returns-3 c = step-flat _ (c .before .before .before .before .found .given .1) _ _ _ (sym (c .before .before .implicit-critical-rate .ensures) ∙ ap stepOutcome (c .enum-told2 .given .1))
+returns-3 c = step-flat _ (c .before .before .before .before .found .given .1) _ _ _ (sym (c .before .before .implicit-critical-rate-of .ensures) ∙ ap stepOutcome (c .enum-told2 .given .1))
 
 finished-requires : tie.Need-finished-requires
 finished-requires c κs = search needs
 
 returns-4 : tie.Need-returns-4
-returns-4 c = step-taken _ (c .before .before .before .before .before .before .found .given .1) _ _ _ (sym (c .before .before .before .before .implicit-critical-rate .ensures) ∙ ap stepOutcome (c .before .before .after .given .1)) (c .finished .ensures)
+returns-4 c = step-taken _ (c .before .before .before .before .before .before .found .given .1) _ _ _ (sym (c .before .before .before .before .implicit-critical-rate-of .ensures) ∙ ap stepOutcome (c .before .before .after .given .1)) (c .finished .ensures)
 
 pub stepped-spec : {M : Type 1} → statement M
 stepped-spec =
@@ -45,7 +45,7 @@ stepped-spec =
     returns
     enum-known-found
     returns-2
-    implicit-critical-rate-requires
+    implicit-critical-rate-of-requires
     enum-known-after
     enum-told-2
     returns-3

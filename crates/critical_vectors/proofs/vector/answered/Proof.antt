@@ -1,6 +1,6 @@
 -- `critical_vectors::vector::answered` meets its contract: both answers are those defined, and all their fields are compared. Assumes nothing.
 use mathlib.Core.Path.{ap, _∙_}
-use Rattle.critical_vectors.specs.Told.{toldRate, toldImplicit}
+use Rattle.critical_vectors.specs.ReportWords.{rateWords, implicitWords}
 use Rattle.critical_vectors.proofs.Words.{both}
 use borrow.Author.Needs.{needs}
 use Rattle.critical_vectors.proofs.vector.answered.Statement.{statement}
@@ -31,7 +31,7 @@ same-requires-2 : tie.Need-same-requires-2
 same-requires-2 c κs = search needs
 
 returns : tie.Need-returns
-returns c = both _ _ _ _ _ _ _ _ _ _ (c .before .before .before .before .before .before .rate .ensures ∙ ap toldRate (c .before .before .before .before .before .before .before .find-critical-rate .ensures .1 .1 .1)) (c .before .before .before .before .implicit .ensures ∙ ap toldImplicit (c .before .before .before .before .before .implicit-critical-rate .ensures .1 .1 .1)) (c .before .before .before .expected .ensures) (c .before .expected2 .ensures) (c .before .before .same .ensures) (c .same2 .ensures)
+returns c = both _ _ _ _ _ _ _ _ _ _ (c .before .before .before .before .before .before .rate .ensures ∙ ap rateWords (c .before .before .before .before .before .before .before .find-critical-rate .ensures .1 .1 .1)) (c .before .before .before .before .implicit .ensures ∙ ap implicitWords (c .before .before .before .before .before .implicit-critical-rate .ensures .1 .1 .1)) (c .before .before .before .expected .ensures) (c .before .expected2 .ensures) (c .before .before .same .ensures) (c .same2 .ensures)
 
 pub answered-spec : {M : Type 1} → statement M
 answered-spec =

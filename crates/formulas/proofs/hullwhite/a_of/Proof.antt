@@ -3,17 +3,17 @@ use borrow.Author.Needs.{needs}
 use Rattle.formulas.proofs.hullwhite.a_of.Statement.{statement}
 use Rattle.formulas.proofs.hullwhite.a_of.Tie as tie
 
-drift-of-requires : tie.Need-drift-of-requires
-drift-of-requires c κs = search needs
+curve-part-of-requires : tie.Need-curve-part-of-requires
+curve-part-of-requires c κs = search needs
 
-decay-of-requires : tie.Need-decay-of-requires
-decay-of-requires c κs = search needs
+stationary-share-of-requires : tie.Need-stationary-share-of-requires
+stationary-share-of-requires c κs = search needs
 
 a-at-requires : tie.Need-a-at-requires
 a-at-requires c κs = search needs
 
 returns : tie.Need-returns
-returns c = rw (c .a-at .ensures, c .before .decay-of .ensures, c .before .before .drift-of .ensures)
+returns c = rw (c .a-at .ensures, c .before .stationary-share-of .ensures, c .before .before .curve-part-of .ensures)
 
 pub a-of-spec : {M : Type 1} → statement M
-a-of-spec = tie.close (tie.spec drift-of-requires decay-of-requires a-at-requires returns)
+a-of-spec = tie.close (tie.spec curve-part-of-requires stationary-share-of-requires a-at-requires returns)

@@ -4,12 +4,12 @@ use borrow.Author.Needs.{needs}
 use Rattle.formulas.proofs.hullwhite.short_rate_variance_of.Statement.{statement}
 use Rattle.formulas.proofs.hullwhite.short_rate_variance_of.Tie as tie
 
-decay-of-requires : tie.Need-decay-of-requires
-decay-of-requires c κs = search needs
+stationary-share-of-requires : tie.Need-stationary-share-of-requires
+stationary-share-of-requires c κs = search needs
 
 returns : tie.Need-returns
 unfolding shortRateVarianceOf
-returns c = rw (c .decay-of .ensures)
+returns c = rw (c .stationary-share-of .ensures)
 
 pub short-rate-variance-of-spec : {M : Type 1} → statement M
-short-rate-variance-of-spec = tie.close (tie.spec decay-of-requires returns)
+short-rate-variance-of-spec = tie.close (tie.spec stationary-share-of-requires returns)

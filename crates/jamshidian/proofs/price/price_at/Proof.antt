@@ -11,30 +11,30 @@ use Rattle.jamshidian.proofs.price.price_at.Statement.{statement}
 use Rattle.jamshidian.proofs.price.price_at.Tie as tie
 
 -- what was written into the lent list
-abbrev as-of : tie.After-affines → List Float
-as-of v = v .affines .last .1 .1 .1 .1 .1 .0
+abbrev as-of : tie.After-a-list-at → List Float
+as-of v = v .a-list-at .last .1 .1 .1 .1 .1 .0
 
 -- ---- the needs
 
 array-borrow-prefix-a : tie.Need-array-borrow-prefix-a
 array-borrow-prefix-a c = search needs
 
-slice-aggregate-affines : tie.Need-slice-aggregate-affines
-slice-aggregate-affines c = lent-is work _ (c .before .before .before .before .before .pre .0)
+slice-aggregate-a-list-at : tie.Need-slice-aggregate-a-list-at
+slice-aggregate-a-list-at c = lent-is work _ (c .before .before .before .before .before .pre .0)
 
-affines-requires : tie.Need-affines-requires
-affines-requires c κs = let s = c .before .before .before .before .before in (sym (lent-is work _ (s .pre .0)) ∙ sym (s .pre .1), s .pre .2 ∙ sym (s .pre .1))
+a-list-at-requires : tie.Need-a-list-at-requires
+a-list-at-requires c κs = let s = c .before .before .before .before .before in (sym (lent-is work _ (s .pre .0)) ∙ sym (s .pre .1), s .pre .2 ∙ sym (s .pre .1))
 
 array-share-prefix-a : tie.Need-array-share-prefix-a
-array-share-prefix-a c = let v = c .before in back-fits work _ (v .before .before .before .before .before .before .pre .0) (as-of v) (v .affines .kept .1 .1 .1 .1 .1 .0)
+array-share-prefix-a c = let v = c .before in back-fits work _ (v .before .before .before .before .before .before .pre .0) (as-of v) (v .a-list-at .kept .1 .1 .1 .1 .1 .0)
 
-slice-aggregate-critical-rate : tie.Need-slice-aggregate-critical-rate
-slice-aggregate-critical-rate c = let v = c .before .before in back-is work _ (v .before .before .before .before .before .before .pre .0) (as-of v) (v .affines .kept .1 .1 .1 .1 .1 .0)
+slice-aggregate-find-critical-rate-of : tie.Need-slice-aggregate-find-critical-rate-of
+slice-aggregate-find-critical-rate-of c = let v = c .before .before in back-is work _ (v .before .before .before .before .before .before .pre .0) (as-of v) (v .a-list-at .kept .1 .1 .1 .1 .1 .0)
 
-critical-rate-requires : tie.Need-critical-rate-requires
-critical-rate-requires c κs =
+find-critical-rate-of-requires : tie.Need-find-critical-rate-of-requires
+find-critical-rate-of-requires c κs =
     let v = c .before .before in
-    (v .before .before .before .before .before .before .pre .0, sym (back-is work _ (v .before .before .before .before .before .before .pre .0) (as-of v) (v .affines .kept .1 .1 .1 .1 .1 .0)))
+    (v .before .before .before .before .before .before .pre .0, sym (back-is work _ (v .before .before .before .before .before .before .pre .0) (as-of v) (v .a-list-at .kept .1 .1 .1 .1 .1 .0)))
 
 enum-told : tie.Need-enum-told
 enum-told c = search needs
@@ -43,7 +43,7 @@ returns : tie.Need-returns
 returns c =
     let k = c .before .before in
     let v = k .before .before .before in
-    price-is _ _ _ _ _ _ _ _ _ (values-are work _ (v .before .before .before .before .before .before .pre .0) (as-of v) (v .affines .kept .1 .1 .1 .1 .1 .0) ∙ v .affines .ensures) (k .critical-rate .ensures) Critical.NotANumber (c .enum-told .given .1)
+    price-is _ _ _ _ _ _ _ _ _ (values-are work _ (v .before .before .before .before .before .before .pre .0) (as-of v) (v .a-list-at .kept .1 .1 .1 .1 .1 .0) ∙ v .a-list-at .ensures) (k .find-critical-rate-of .ensures) Critical.NotANumber (c .enum-told .given .1)
 
 enum-known-found : tie.Need-enum-known-found
 enum-known-found c = search needs
@@ -52,36 +52,36 @@ returns-2 : tie.Need-returns-2
 returns-2 c =
     let k = c .before .before in
     let v = k .before .before .before in
-    price-is _ _ _ _ _ _ _ _ _ (values-are work _ (v .before .before .before .before .before .before .pre .0) (as-of v) (v .affines .kept .1 .1 .1 .1 .1 .0) ∙ v .affines .ensures) (k .critical-rate .ensures) Critical.NoBracket (nothing-found (k .critical-rate .result) (c .before .match .keys2) (c .match2 .keys2))
+    price-is _ _ _ _ _ _ _ _ _ (values-are work _ (v .before .before .before .before .before .before .pre .0) (as-of v) (v .a-list-at .kept .1 .1 .1 .1 .1 .0) ∙ v .a-list-at .ensures) (k .find-critical-rate-of .ensures) Critical.NoBracket (nothing-found (k .find-critical-rate-of .result) (c .before .match .keys2) (c .match2 .keys2))
 
 array-share-prefix-a-2 : tie.Need-array-share-prefix-a-2
-array-share-prefix-a-2 c = let v = c .before .before .before .before .before .before .before in back-fits work _ (v .before .before .before .before .before .before .pre .0) (as-of v) (v .affines .kept .1 .1 .1 .1 .1 .0)
+array-share-prefix-a-2 c = let v = c .before .before .before .before .before .before .before in back-fits work _ (v .before .before .before .before .before .before .pre .0) (as-of v) (v .a-list-at .kept .1 .1 .1 .1 .1 .0)
 
 slice-aggregate-puts : tie.Need-slice-aggregate-puts
-slice-aggregate-puts c = let v = c .before .before .before .before .before .before .before .before in back-is work _ (v .before .before .before .before .before .before .pre .0) (as-of v) (v .affines .kept .1 .1 .1 .1 .1 .0)
+slice-aggregate-puts c = let v = c .before .before .before .before .before .before .before .before in back-is work _ (v .before .before .before .before .before .before .pre .0) (as-of v) (v .a-list-at .kept .1 .1 .1 .1 .1 .0)
 
 puts-requires : tie.Need-puts-requires
 puts-requires c κs =
     let v = c .before .before .before .before .before .before .before .before in
     let s = v .before .before .before .before .before .before in
-    (sym (back-is work _ (s .pre .0) (as-of v) (v .affines .kept .1 .1 .1 .1 .1 .0)), s .pre .1, s .pre .3)
+    (sym (back-is work _ (s .pre .0) (as-of v) (v .a-list-at .kept .1 .1 .1 .1 .1 .0)), s .pre .1, s .pre .3)
 
 returns-3 : tie.Need-returns-3
 returns-3 c =
     let k = c .before .before .before .before .before .before in
     let v = k .before .before .before in
-    rw (c .puts .ensures) (price-is _ _ _ _ _ _ _ _ _ (values-are work _ (v .before .before .before .before .before .before .pre .0) (as-of v) (v .affines .kept .1 .1 .1 .1 .1 .0) ∙ v .affines .ensures) (k .critical-rate .ensures) _ (c .before .before .before .found .given .1))
+    rw (c .puts .ensures) (price-is _ _ _ _ _ _ _ _ _ (values-are work _ (v .before .before .before .before .before .before .pre .0) (as-of v) (v .a-list-at .kept .1 .1 .1 .1 .1 .0) ∙ v .a-list-at .ensures) (k .find-critical-rate-of .ensures) _ (c .before .before .before .found .given .1))
 
 pub price-at-spec : {M : Type 1} → statement M
 price-at-spec =
     tie.close
     (tie.spec
     array-borrow-prefix-a
-    slice-aggregate-affines
-    affines-requires
+    slice-aggregate-a-list-at
+    a-list-at-requires
     array-share-prefix-a
-    slice-aggregate-critical-rate
-    critical-rate-requires
+    slice-aggregate-find-critical-rate-of
+    find-critical-rate-of-requires
     enum-told
     returns
     enum-known-found

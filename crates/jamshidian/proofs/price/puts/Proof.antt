@@ -17,26 +17,26 @@ abbrev μ-loop : tie.MeasureT-loop
 loop-holds : tie.Need-loop-holds Inv-loop μ-loop
 loop-holds c = (search needs, unfold putsAhead in refl)
 
-mul-put : tie.Need-mul-put Inv-loop μ-loop
-mul-put c = search needs
+mul-coupon-put : tie.Need-mul-coupon-put Inv-loop μ-loop
+mul-coupon-put c = search needs
 
-shared-slice-read-put : tie.Need-shared-slice-read-put Inv-loop μ-loop
-shared-slice-read-put c = search needs
+shared-slice-read-coupon-put : tie.Need-shared-slice-read-coupon-put Inv-loop μ-loop
+shared-slice-read-coupon-put c = search needs
 
-mul-put-2 : tie.Need-mul-put-2 Inv-loop μ-loop
-mul-put-2 c = search needs
+mul-coupon-put-2 : tie.Need-mul-coupon-put-2 Inv-loop μ-loop
+mul-coupon-put-2 c = search needs
 
-shared-slice-read-put-2 : tie.Need-shared-slice-read-put-2 Inv-loop μ-loop
-shared-slice-read-put-2 c = search needs
+shared-slice-read-coupon-put-2 : tie.Need-shared-slice-read-coupon-put-2 Inv-loop μ-loop
+shared-slice-read-coupon-put-2 c = search needs
 
-mul-put-3 : tie.Need-mul-put-3 Inv-loop μ-loop
-mul-put-3 c = search needs
+mul-coupon-put-3 : tie.Need-mul-coupon-put-3 Inv-loop μ-loop
+mul-coupon-put-3 c = search needs
 
-shared-slice-read-put-3 : tie.Need-shared-slice-read-put-3 Inv-loop μ-loop
-shared-slice-read-put-3 c = search needs
+shared-slice-read-coupon-put-3 : tie.Need-shared-slice-read-coupon-put-3 Inv-loop μ-loop
+shared-slice-read-coupon-put-3 c = search needs
 
-put-requires : tie.Need-put-requires Inv-loop μ-loop
-put-requires c κs = search needs
+coupon-put-requires : tie.Need-coupon-put-requires Inv-loop μ-loop
+coupon-put-requires c κs = search needs
 
 mul-fused : tie.Need-mul-fused Inv-loop μ-loop
 mul-fused c = search needs
@@ -54,7 +54,7 @@ loop-less : tie.Need-loop-less Inv-loop μ-loop
 loop-less c = search needs
 
 loop-again : tie.Need-loop-again Inv-loop μ-loop
-loop-again c = (search needs, puts-on _ _ _ _ _ _ _ _ _ _ _ _ (c .before .before .before .before .before .before .loop-test .taken) (search needs) (search needs) (search needs) (c .before .before .put .ensures) (c .fused .ensures) ∙ c .before .before .before .before .before .before .before .loop .inv .1)
+loop-again c = (search needs, puts-on _ _ _ _ _ _ _ _ _ _ _ _ (c .before .before .before .before .before .before .loop-test .taken) (search needs) (search needs) (search needs) (c .before .before .coupon-put .ensures) (c .fused .ensures) ∙ c .before .before .before .before .before .before .before .loop .inv .1)
 
 returns : tie.Need-returns Inv-loop μ-loop
 returns c = puts-done _ _ _ _ _ _ _ _ _ _ (c .loop-test .left) ∙ c .before .loop .inv .1
@@ -66,13 +66,13 @@ puts-spec =
     Inv-loop
     μ-loop
     loop-holds
-    mul-put
-    shared-slice-read-put
-    mul-put-2
-    shared-slice-read-put-2
-    mul-put-3
-    shared-slice-read-put-3
-    put-requires
+    mul-coupon-put
+    shared-slice-read-coupon-put
+    mul-coupon-put-2
+    shared-slice-read-coupon-put-2
+    mul-coupon-put-3
+    shared-slice-read-coupon-put-3
+    coupon-put-requires
     mul-fused
     shared-slice-read-fused
     fused-requires

@@ -1,4 +1,4 @@
--- `follows` meets its contract: each arm is what `stepOf` says.
+-- `follows` meets its contract: each arm is what `followsOf` says.
 use Rattle.lists.proofs.checks.follows.Statement.{statement}
 use Rattle.lists.proofs.checks.follows.Tie as tie
 

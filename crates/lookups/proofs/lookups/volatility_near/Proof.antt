@@ -15,8 +15,8 @@ returns c = sym (volatility-none _ _ _ (c .if1 .taken))
 last-of-requires : tie.Need-last-of-requires
 last-of-requires c κs = search needs
 
-volatility-requires : tie.Need-volatility-requires
-volatility-requires c κs = search needs
+volatility-at-requires : tie.Need-volatility-at-requires
+volatility-at-requires c κs = search needs
 
 returns-2 : tie.Need-returns-2
 returns-2 c = search needs
@@ -39,7 +39,7 @@ volatility-near-spec =
     part-near-requires
     returns
     last-of-requires
-    volatility-requires
+    volatility-at-requires
     returns-2
     mul-sigma
     shared-slice-read-sigma

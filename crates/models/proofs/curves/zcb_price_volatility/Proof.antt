@@ -2,7 +2,7 @@
 use mathlib.Core.Path.{ap, _∙_}
 use borrow.Author.Needs.{needs}
 use Rattle.lists.specs.Refusals.{finishing}
-use Rattle.models.specs.Curves.{volatilityOutcome}
+use Rattle.models.specs.Curves.{zcbPriceVolatilityOutcome}
 use Rattle.lists.proofs.Outcomes.{priced-refused, priced-served}
 use Rattle.models.proofs.curves.zcb_price_volatility.Statement.{statement}
 use Rattle.models.proofs.curves.zcb_price_volatility.Tie as tie
@@ -19,19 +19,19 @@ enum-known-answer c = search needs
 enum-told : tie.Need-enum-told
 enum-told c = search needs
 
-volatility-of-requires : tie.Need-volatility-of-requires
-volatility-of-requires c κs = search needs
+zcb-price-volatility-of-requires : tie.Need-zcb-price-volatility-of-requires
+zcb-price-volatility-of-requires c κs = search needs
 
 served-requires : tie.Need-served-requires
 served-requires c κs = search needs
 
 returns : tie.Need-returns
-unfolding volatilityOutcome
+unfolding zcbPriceVolatilityOutcome
 returns c = priced-refused _ _ (c .before .answer .given .1) (rw (c .before .before .before .before .no-faults .ensures) at (c .before .before .before .option-rules .ensures))
 
 returns-2 : tie.Need-returns-2
-unfolding volatilityOutcome
-returns-2 c = priced-served _ _ (c .before .before .enum-told .given .1) (rw (c .before .before .before .before .before .no-faults .ensures) at (c .before .before .before .before .option-rules .ensures)) (c .served .ensures ∙ ap finishing (c .before .volatility-of .ensures))
+unfolding zcbPriceVolatilityOutcome
+returns-2 c = priced-served _ _ (c .before .before .enum-told .given .1) (rw (c .before .before .before .before .before .no-faults .ensures) at (c .before .before .before .before .option-rules .ensures)) (c .served .ensures ∙ ap finishing (c .before .zcb-price-volatility-of .ensures))
 
 pub zcb-price-volatility-spec : {M : Type 1} → statement M
 zcb-price-volatility-spec =
@@ -41,7 +41,7 @@ zcb-price-volatility-spec =
     option-rules-requires
     enum-known-answer
     enum-told
-    volatility-of-requires
+    zcb-price-volatility-of-requires
     served-requires
     returns
     returns-2)

@@ -5,7 +5,7 @@ use lib.Ieee.{Float}
 use Rattle.lists.specs.Refusals.{Outcome, finishing}
 use Rattle.lookups.specs.declared.lookups.Found.{Found}
 use Rattle.lookups.specs.Lookups.{foundOf, needing}
-use Rattle.formulas.specs.HullWhite.{zcbOf}
+use Rattle.formulas.specs.HullWhite.{zcbPriceOf}
 use Rattle.models.specs.Curves.{zcbPriced}
 use Rattle.models.proofs.curves.zcb_priced.Statement.{statement}
 use Rattle.models.proofs.curves.zcb_priced.Tie as tie
@@ -27,11 +27,11 @@ unfolding zcbPriced
 returns c =
     let f = c .before .before in
     let b = f .before in
-    let rest : Float → Outcome Float = λ a. finishing (zcbOf a (b .b-of .result) (b .before .before .before .args .rate)) in
+    let rest : Float → Outcome Float = λ a. finishing (zcbPriceOf a (b .b-of .result) (b .before .before .before .args .rate)) in
     rw (← b .b-of .ensures) (sym (ap (λ (m : Found). needing (foundOf m) rest) (c .enum-told .given .1)) ∙ f .a-found .ensures rest)
 
-zcb-of-requires : tie.Need-zcb-of-requires
-zcb-of-requires c κs = search needs
+zcb-price-of-requires : tie.Need-zcb-price-of-requires
+zcb-price-of-requires c κs = search needs
 
 served-requires : tie.Need-served-requires
 served-requires c κs = search needs
@@ -42,8 +42,8 @@ returns-2 c =
     let g = c .before .before .before in
     let f = g .before .before in
     let b = f .before in
-    let rest : Float → Outcome Float = λ a. finishing (zcbOf a (b .b-of .result) (b .before .before .before .args .rate)) in
-    rw (← b .b-of .ensures) (c .served .ensures ∙ ap finishing (c .before .zcb-of .ensures) ∙ sym (ap (λ (m : Found). needing (foundOf m) rest) (g .a .given .1)) ∙ f .a-found .ensures rest)
+    let rest : Float → Outcome Float = λ a. finishing (zcbPriceOf a (b .b-of .result) (b .before .before .before .args .rate)) in
+    rw (← b .b-of .ensures) (c .served .ensures ∙ ap finishing (c .before .zcb-price-of .ensures) ∙ sym (ap (λ (m : Found). needing (foundOf m) rest) (g .a .given .1)) ∙ f .a-found .ensures rest)
 
 pub zcb-priced-spec : {M : Type 1} → statement M
 zcb-priced-spec =
@@ -54,6 +54,6 @@ zcb-priced-spec =
     enum-known-a
     enum-told
     returns
-    zcb-of-requires
+    zcb-price-of-requires
     served-requires
     returns-2)

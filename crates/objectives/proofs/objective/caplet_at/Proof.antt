@@ -5,8 +5,8 @@ use borrow.Author.Needs.{needs}
 use Rattle.objectives.proofs.objective.caplet_at.Statement.{statement}
 use Rattle.objectives.proofs.objective.caplet_at.Tie as tie
 
-volatility-at-requires : tie.Need-volatility-at-requires
-volatility-at-requires c κs = search needs
+zcb-price-volatility-at-requires : tie.Need-zcb-price-volatility-at-requires
+zcb-price-volatility-at-requires c κs = search needs
 
 bond-put-of-requires : tie.Need-bond-put-of-requires
 bond-put-of-requires c κs = search needs
@@ -16,8 +16,8 @@ growth-of-requires c κs = search needs
 
 returns : tie.Need-returns
 unfolding capletAt optionletOf
-returns c = rw (c .growth-of .ensures, c .before .bond-put-of .ensures, c .before .before .volatility-at .ensures)
+returns c = rw (c .growth-of .ensures, c .before .bond-put-of .ensures, c .before .before .zcb-price-volatility-at .ensures)
 
 pub caplet-at-spec : {M : Type 1} → statement M
 caplet-at-spec =
-    tie.close (tie.spec volatility-at-requires bond-put-of-requires growth-of-requires returns)
+    tie.close (tie.spec zcb-price-volatility-at-requires bond-put-of-requires growth-of-requires returns)

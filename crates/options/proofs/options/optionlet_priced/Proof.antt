@@ -1,7 +1,7 @@
 -- `options::optionlet_priced` meets its contract: each factor is found or the call is refused by rule 8, and then the formula is worked. Assumes nothing.
 use mathlib.Core.Path.{refl, _∙_}
 use borrow.Author.Needs.{needs}
-use Rattle.formulas.specs.HullWhite.{deviationOf, optionletStrikeOf, optionletOf}
+use Rattle.formulas.specs.HullWhite.{stateDeviationOf, optionletStrikeOf, optionletOf}
 use Rattle.options.specs.Options.{optionletPriced}
 use Rattle.lookups.proofs.Outcomes.{at, missing}
 use Rattle.options.proofs.options.optionlet_priced.Statement.{statement}
@@ -47,17 +47,17 @@ moneyness-of-requires c κs = search needs
 sqrt-requires : tie.Need-sqrt-requires
 sqrt-requires c κs = search needs
 
-volatility-at-requires : tie.Need-volatility-at-requires
-volatility-at-requires c κs = search needs
+zcb-price-volatility-at-requires : tie.Need-zcb-price-volatility-at-requires
+zcb-price-volatility-at-requires c κs = search needs
 
-bond-option-requires : tie.Need-bond-option-requires
-bond-option-requires c κs = search needs
+put-or-call-requires : tie.Need-put-or-call-requires
+put-or-call-requires c κs = search needs
 
 served-requires : tie.Need-served-requires
 served-requires c κs = search needs
 
 returns-3 : tie.Need-returns-3
-unfolding optionletPriced optionletStrikeOf optionletOf deviationOf
+unfolding optionletPriced optionletStrikeOf optionletOf stateDeviationOf
 returns-3 c =
     let v = c .before .before in
     let m = v .before .before in
@@ -65,7 +65,7 @@ returns-3 c =
     let j = g .before .before in
     let i = j .before .before .before .before in
     let d = i .before .before .before .volatility-parts .ensures in
-    rw (at _ (i .p-t .given .1) (i .before .before .factor .ensures), at _ (j .p-end .given .1) (j .before .before .factor2 .ensures)) (c .served .ensures ∙ rw (c .before .bond-option .ensures, v .volatility-at .ensures, v .before .sqrt .ensures .0, d .0, d .1, m .moneyness-of .ensures, g .growth-of .ensures) refl)
+    rw (at _ (i .p-t .given .1) (i .before .before .factor .ensures), at _ (j .p-end .given .1) (j .before .before .factor2 .ensures)) (c .served .ensures ∙ rw (c .before .put-or-call .ensures, v .zcb-price-volatility-at .ensures, v .before .sqrt .ensures .0, d .0, d .1, m .moneyness-of .ensures, g .growth-of .ensures) refl)
 
 pub optionlet-priced-spec : {M : Type 1} → statement M
 optionlet-priced-spec =
@@ -83,7 +83,7 @@ optionlet-priced-spec =
     growth-of-requires
     moneyness-of-requires
     sqrt-requires
-    volatility-at-requires
-    bond-option-requires
+    zcb-price-volatility-at-requires
+    put-or-call-requires
     served-requires
     returns-3)

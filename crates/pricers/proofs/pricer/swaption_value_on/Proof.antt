@@ -2,8 +2,8 @@
 use mathlib.Core.Path.{_≡_, _∙_, ap}
 use denote.Ref.{now}
 use Rattle.lists.specs.Refusals.{reported, firstOf}
-use Rattle.valuations.specs.Value.{noValued}
-use Rattle.pricers.specs.Pricer.{rulesOn}
+use Rattle.valuations.specs.Value.{noPricerValued}
+use Rattle.pricers.specs.Pricer.{pricerRulesOn}
 use Rattle.pricers.proofs.Outcomes.{same-rules, turned-down, let-through, lists-fit}
 use Rattle.pricers.proofs.Demand3.{rooted, refused-so}
 use borrow.Author.Needs.{needs}
@@ -19,7 +19,7 @@ start c = early (c .before .before .before .before .before)
 
 -- ---- the rules, on the call's own lists
 rules : (r : tie.After-pricer-rules) → let a = start r .args in
-    r .pricer-rules .result ≡ firstOf (rulesOn (a .alpha) (now (a .pillars)) (now (a .sigmas)) (now (a .times)) (now (a .factors)) (now (a .payments)) (now (a .accruals)) (now (a .own-dfs)) (a .strike) (a .t) (a .notional) (a .side))
+    r .pricer-rules .result ≡ firstOf (pricerRulesOn (a .alpha) (now (a .pillars)) (now (a .sigmas)) (now (a .times)) (now (a .factors)) (now (a .payments)) (now (a .accruals)) (now (a .own-dfs)) (a .strike) (a .t) (a .notional) (a .side))
 rules r =
     let s = start r in
     same-rules _ _ (s .args .alpha) (s .args .strike) (s .args .t) (s .args .notional) (s .args .side) (s .pre) (r .before .before .before .before .before .pillar-faults .ensures) (r .before .before .before .before .coupon-faults .ensures) (r .before .before .before .all .ensures) (r .before .before .own-fits .ensures) (r .before .all2 .ensures) (r .pricer-rules .ensures)
@@ -52,7 +52,7 @@ returns c =
     let r = c .before .before .before in
     let a = start r .args in
     let o = turned-down (a .option) (a .alpha) (now (a .pillars)) (now (a .sigmas)) (now (a .times)) (now (a .factors)) (now (a .payments)) (now (a .accruals)) (now (a .own-dfs)) (a .strike) (a .t) (a .notional) (a .side) (rules r) (c .before .answer .given .1) in
-    (o, (rooted (a .option) (a .alpha) (now (a .pillars)) (now (a .sigmas)) (now (a .times)) (now (a .factors)) (now (a .payments)) (now (a .accruals)) (now (a .own-dfs)) (a .strike) (a .t) (a .notional) (a .side) o, (refused-so (a .option) (a .alpha) (now (a .pillars)) (now (a .sigmas)) (now (a .times)) (now (a .factors)) (now (a .payments)) (now (a .accruals)) (now (a .own-dfs)) (a .strike) (a .t) (a .notional) (a .side) o, ap (reported noValued) o)))
+    (o, (rooted (a .option) (a .alpha) (now (a .pillars)) (now (a .sigmas)) (now (a .times)) (now (a .factors)) (now (a .payments)) (now (a .accruals)) (now (a .own-dfs)) (a .strike) (a .t) (a .notional) (a .side) o, (refused-so (a .option) (a .alpha) (now (a .pillars)) (now (a .sigmas)) (now (a .times)) (now (a .factors)) (now (a .payments)) (now (a .accruals)) (now (a .own-dfs)) (a .strike) (a .t) (a .notional) (a .side) o, ap (reported noPricerValued) o)))
 
 enum-told : tie.Need-enum-told
 enum-told c = search needs
@@ -68,7 +68,7 @@ returns-2 c =
     let r = c .before .before .before in
     let a = start r .args in
     let o = c .swaption-priced .ensures ∙ let-through (a .option) (a .alpha) (now (a .pillars)) (now (a .sigmas)) (now (a .times)) (now (a .factors)) (now (a .payments)) (now (a .accruals)) (now (a .own-dfs)) (a .strike) (a .t) (a .notional) (a .side) (rules r) (c .before .enum-told .given .1) in
-    (o, (rooted (a .option) (a .alpha) (now (a .pillars)) (now (a .sigmas)) (now (a .times)) (now (a .factors)) (now (a .payments)) (now (a .accruals)) (now (a .own-dfs)) (a .strike) (a .t) (a .notional) (a .side) o, (refused-so (a .option) (a .alpha) (now (a .pillars)) (now (a .sigmas)) (now (a .times)) (now (a .factors)) (now (a .payments)) (now (a .accruals)) (now (a .own-dfs)) (a .strike) (a .t) (a .notional) (a .side) o, ap (reported noValued) o)))
+    (o, (rooted (a .option) (a .alpha) (now (a .pillars)) (now (a .sigmas)) (now (a .times)) (now (a .factors)) (now (a .payments)) (now (a .accruals)) (now (a .own-dfs)) (a .strike) (a .t) (a .notional) (a .side) o, (refused-so (a .option) (a .alpha) (now (a .pillars)) (now (a .sigmas)) (now (a .times)) (now (a .factors)) (now (a .payments)) (now (a .accruals)) (now (a .own-dfs)) (a .strike) (a .t) (a .notional) (a .side) o, ap (reported noPricerValued) o)))
 
 pub swaption-value-on-spec : {M : Type 1} → statement M
 swaption-value-on-spec =

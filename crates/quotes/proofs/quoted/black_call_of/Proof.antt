@@ -4,11 +4,11 @@ use borrow.Author.Needs.{needs}
 use Rattle.quotes.proofs.quoted.black_call_of.Statement.{statement}
 use Rattle.quotes.proofs.quoted.black_call_of.Tie as tie
 
-d1-of-requires : tie.Need-d1-of-requires
-d1-of-requires c κs = search needs
+quote-d1-of-requires : tie.Need-quote-d1-of-requires
+quote-d1-of-requires c κs = search needs
 
-d2-of-requires : tie.Need-d2-of-requires
-d2-of-requires c κs = search needs
+quote-d2-of-requires : tie.Need-quote-d2-of-requires
+quote-d2-of-requires c κs = search needs
 
 norm-cdf-requires : tie.Need-norm-cdf-requires
 norm-cdf-requires c κs = search needs
@@ -21,14 +21,14 @@ fused-requires c κs = search needs
 
 returns : tie.Need-returns
 unfolding blackCallOf
-returns c = rw (c .fused .ensures, c .before .norm-cdf2 .ensures .0, c .before .before .norm-cdf .ensures .0, c .before .before .before .d2-of .ensures, c .before .before .before .before .d1-of .ensures)
+returns c = rw (c .fused .ensures, c .before .norm-cdf2 .ensures .0, c .before .before .norm-cdf .ensures .0, c .before .before .before .quote-d2-of .ensures, c .before .before .before .before .quote-d1-of .ensures)
 
 pub black-call-of-spec : {M : Type 1} → statement M
 black-call-of-spec =
     tie.close
     (tie.spec
-    d1-of-requires
-    d2-of-requires
+    quote-d1-of-requires
+    quote-d2-of-requires
     norm-cdf-requires
     norm-cdf-requires-2
     fused-requires

@@ -2,7 +2,7 @@
 use mathlib.Core.Path.{_∙_, sym, ap}
 use borrow.Author.Needs.{needs}
 use Rattle.lists.specs.Refusals.{reported}
-use Rattle.quotes.specs.Utils.{noTwo, d1d2Worked, d1d2Outcome}
+use Rattle.quotes.specs.Utils.{noD1D2, d1d2Worked, d1d2Outcome}
 use Rattle.lists.proofs.Outcomes.{turned-down, let-through}
 use Rattle.quotes.proofs.utils.d1_d2.Statement.{statement}
 use Rattle.quotes.proofs.utils.d1_d2.Tie as tie
@@ -23,13 +23,13 @@ returns : tie.Need-returns
 unfolding d1d2Outcome
 returns c =
     let o = sym (turned-down _ (d1d2Worked _ _ _ _) (c .before .answer .given .1) (c .before .before .before .quote-rules .ensures)) in
-    (o, ap (reported noTwo) o)
+    (o, ap (reported noD1D2) o)
 
 returns-2 : tie.Need-returns-2
 unfolding d1d2Outcome
 returns-2 c =
     let o = c .d1-d2-worked .ensures ∙ sym (let-through _ _ (c .before .enum-told .given .1) (c .before .before .before .quote-rules .ensures)) in
-    (o, ap (reported noTwo) o)
+    (o, ap (reported noD1D2) o)
 
 pub d1-d2-spec : {M : Type 1} → statement M
 d1-d2-spec =

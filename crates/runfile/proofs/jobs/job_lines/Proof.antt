@@ -7,7 +7,7 @@ use denote.Ref.{now}
 use Rattle.layout.specs.declared.records.Job.{Job}
 use Rattle.layout.specs.Request.{Request, requestOf, jobAt, jobsOf}
 use Rattle.layout.proofs.Kept.{kept}
-use Rattle.kinds.specs.Told.{listsOf}
+use Rattle.kinds.specs.Results.{requestOfLists}
 use Rattle.runfile.proofs.Written.{path-job, option-job, worked-job, option-lists, work-lists, grid-short}
 use Rattle.runfile.proofs.jobs.job_lines.Statement.{statement}
 use Rattle.runfile.proofs.jobs.job_lines.Tie as tie
@@ -26,7 +26,7 @@ jobs s = jobsOf (now (s .args .file)) (s .args .l .jobs)
 abbrev request : tie.Start → Request
 request s =
     let a = s .args in
-    listsOf (a .alpha) (now (a .pillars)) (now (a .sigmas)) (now (a .times)) (now (a .factors)) (now (a .payments)) (now (a .accruals)) (now (a .owns)) (now (a .grid)) (now (a .draws)) (jobs s)
+    requestOfLists (a .alpha) (now (a .pillars)) (now (a .sigmas)) (now (a .times)) (now (a .factors)) (now (a .payments)) (now (a .accruals)) (now (a .owns)) (now (a .grid)) (now (a .draws)) (jobs s)
 
 abbrev asked : tie.Start → Request
 asked s = requestOf (now (s .args .file)) (s .args .l)
@@ -54,11 +54,11 @@ returns c =
     let s = entry n in
     path-job (request s) (asked s) (n .nth-job .result) (nth s) (s .args .k) _ _ _ (s .pre .1 .1) (n .nth-job .ensures) (c .before .before .before .before .if1 .taken) (c .before .before .path-lines .ensures)
 
-option-told-requires : tie.Need-option-told-requires
-option-told-requires c κs = search needs
+option-result-requires : tie.Need-option-result-requires
+option-result-requires c κs = search needs
 
-told-line-requires : tie.Need-told-line-requires
-told-line-requires c κs = search needs
+result-line-requires : tie.Need-result-line-requires
+result-line-requires c κs = search needs
 
 same-length-2 : tie.Need-same-length-2
 same-length-2 c = search needs
@@ -68,7 +68,7 @@ returns-2 c =
     let n = c .before .before .before .before .before .before .before .before .before in
     let s = entry n in
     let a = s .args in
-    option-job (request s) (asked s) (n .nth-job .result) (nth s) (a .k) _ _ _ (s .pre .1 .1) (n .nth-job .ensures) _ (c .before .before .before .before .before .if2 .taken) (c .before .before .before .before .option-told .ensures ∙ option-lists (a .alpha) (now (a .pillars)) (now (a .sigmas)) (now (a .times)) (now (a .factors)) (now (a .payments)) (now (a .accruals)) (now (a .owns)) (now (a .grid)) (now (a .draws)) (jobs s) (n .nth-job .result)) (c .before .before .told-line .ensures)
+    option-job (request s) (asked s) (n .nth-job .result) (nth s) (a .k) _ _ _ (s .pre .1 .1) (n .nth-job .ensures) _ (c .before .before .before .before .before .if2 .taken) (c .before .before .before .before .option-result .ensures ∙ option-lists (a .alpha) (now (a .pillars)) (now (a .sigmas)) (now (a .times)) (now (a .factors)) (now (a .payments)) (now (a .accruals)) (now (a .owns)) (now (a .grid)) (now (a .draws)) (jobs s) (n .nth-job .result)) (c .before .before .result-line .ensures)
 
 work-requires : tie.Need-work-requires
 work-requires c κs = search needs
@@ -94,8 +94,8 @@ job-lines-spec =
     path-lines-requires
     same-length
     returns
-    option-told-requires
-    told-line-requires
+    option-result-requires
+    result-line-requires
     same-length-2
     returns-2
     work-requires

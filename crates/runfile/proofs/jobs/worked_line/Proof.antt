@@ -4,11 +4,11 @@ use Rattle.runfile.proofs.Written.{same-told}
 use Rattle.runfile.proofs.jobs.worked_line.Statement.{statement}
 use Rattle.runfile.proofs.jobs.worked_line.Tie as tie
 
-tell-requires : tie.Need-tell-requires
-tell-requires c κs = search needs
+job-result-requires : tie.Need-job-result-requires
+job-result-requires c κs = search needs
 
-told-line-requires : tie.Need-told-line-requires
-told-line-requires c κs = search needs
+result-line-requires : tie.Need-result-line-requires
+result-line-requires c κs = search needs
 
 same-length : tie.Need-same-length
 same-length c = search needs
@@ -16,7 +16,7 @@ same-length c = search needs
 returns : tie.Need-returns
 returns c =
     let s = c .before .before .before .before .before .before in
-    same-told (s .args .k) (s .args .kind) _ _ _ _ _ (c .before .before .before .before .tell .ensures) (c .before .before .told-line .ensures)
+    same-told (s .args .k) (s .args .kind) _ _ _ _ _ (c .before .before .before .before .job-result .ensures) (c .before .before .result-line .ensures)
 
 pub worked-line-spec : {M : Type 1} → statement M
-worked-line-spec = tie.close (tie.spec tell-requires told-line-requires same-length returns)
+worked-line-spec = tie.close (tie.spec job-result-requires result-line-requires same-length returns)

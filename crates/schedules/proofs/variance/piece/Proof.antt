@@ -1,6 +1,6 @@
 -- `piece` meets its contract. Assumes nothing.
 use borrow.Author.Needs.{needs}
-use Rattle.schedules.specs.Variance.{pieceOf}
+use Rattle.schedules.specs.Variance.{variancePieceOf}
 use Rattle.schedules.proofs.variance.piece.Statement.{statement}
 use Rattle.schedules.proofs.variance.piece.Tie as tie
 
@@ -8,11 +8,11 @@ weight-requires : tie.Need-weight-requires
 weight-requires c κs = search needs
 
 returns : tie.Need-returns
-unfolding pieceOf
+unfolding variancePieceOf
 returns c = rw (c .if1 .taken)
 
 returns-2 : tie.Need-returns-2
-unfolding pieceOf
+unfolding variancePieceOf
 returns-2 c = rw (c .before .if1 .left) (cc)
 
 pub piece-spec : {M : Type 1} → statement M

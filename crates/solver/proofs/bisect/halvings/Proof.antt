@@ -9,10 +9,10 @@ use Rattle.solver.proofs.bisect.halvings.Statement.{statement}
 use Rattle.solver.proofs.bisect.halvings.Tie as tie
 
 abbrev Inv-loop : tie.InvT-loop
-Inv-loop instrument market c b drift p ends₀ made₀ ends made = (made ≤ 200) × (halvingsFrom (objectiveOf instrument market c b drift p) (200 - made) made ends ≡ halvingsFrom (objectiveOf instrument market c b drift p) 200 0 ends₀)
+Inv-loop instrument market c b curve-part p ends₀ made₀ ends made = (made ≤ 200) × (halvingsFrom (objectiveOf instrument market c b curve-part p) (200 - made) made ends ≡ halvingsFrom (objectiveOf instrument market c b curve-part p) 200 0 ends₀)
 
 abbrev μ-loop : tie.MeasureT-loop
-μ-loop instrument market c b drift p ends₀ made₀ ends made = 200 - made
+μ-loop instrument market c b curve-part p ends₀ made₀ ends made = 200 - made
 
 loop-holds : tie.Need-loop-holds Inv-loop μ-loop
 loop-holds c = (search needs, refl)

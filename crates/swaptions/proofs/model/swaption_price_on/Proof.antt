@@ -2,8 +2,8 @@
 use mathlib.Core.Path.{_≡_, _∙_, ap}
 use denote.Ref.{now}
 use Rattle.lists.specs.Refusals.{firstOf, reported}
-use Rattle.jamshidian.specs.Price.{noValued}
-use Rattle.swaptions.specs.Model.{rulesOn}
+use Rattle.jamshidian.specs.Price.{noModelValued}
+use Rattle.swaptions.specs.Model.{modelRulesOn}
 use Rattle.swaptions.proofs.Outcomes.{same-rules, turned-down, no-coupons, with-coupons, lists-fit}
 use Rattle.swaptions.proofs.Demand3.{rooted, refused-so}
 use borrow.Author.Needs.{needs}
@@ -12,7 +12,7 @@ use Rattle.swaptions.proofs.model.swaption_price_on.Tie as tie
 
 -- ---- the rules, on the call's own lists
 rules : (r : tie.After-model-rules) → let a = r .before .before .before .before .before .before .before .args in
-    r .model-rules .result ≡ firstOf (rulesOn (a .alpha) (now (a .times)) (now (a .factors)) (now (a .payments)) (now (a .accruals)) (a .strike) (a .t) (a .sigma))
+    r .model-rules .result ≡ firstOf (modelRulesOn (a .alpha) (now (a .times)) (now (a .factors)) (now (a .payments)) (now (a .accruals)) (a .strike) (a .t) (a .sigma))
 rules r =
     let s = r .before .before .before .before .before .before .before in
     same-rules (s .args .alpha) (s .args .strike) (s .args .t) (s .args .sigma) (s .pre) (r .before .before .coupon-faults .ensures) (r .before .all .ensures) (r .model-rules .ensures)
@@ -36,7 +36,7 @@ returns c =
     let r = c .before .before .before in
     let a = r .before .before .before .before .before .before .before .args in
     let o = turned-down (a .alpha) (now (a .times)) (now (a .factors)) (now (a .payments)) (now (a .accruals)) (a .strike) (a .t) (a .sigma) (rules r) (c .before .answer .given .1) in
-    (o, (rooted (a .alpha) (now (a .times)) (now (a .factors)) (now (a .payments)) (now (a .accruals)) (a .strike) (a .t) (a .sigma) o, (refused-so (a .alpha) (now (a .times)) (now (a .factors)) (now (a .payments)) (now (a .accruals)) (a .strike) (a .t) (a .sigma) o, ap (reported noValued) o)))
+    (o, (rooted (a .alpha) (now (a .times)) (now (a .factors)) (now (a .payments)) (now (a .accruals)) (a .strike) (a .t) (a .sigma) o, (refused-so (a .alpha) (now (a .times)) (now (a .factors)) (now (a .payments)) (now (a .accruals)) (a .strike) (a .t) (a .sigma) o, ap (reported noModelValued) o)))
 
 enum-told : tie.Need-enum-told
 enum-told c = search needs
@@ -49,7 +49,7 @@ returns-2 c =
     let r = c .before .before .before .before in
     let a = r .before .before .before .before .before .before .before .args in
     let o = c .nothing .ensures ∙ no-coupons (a .alpha) (now (a .times)) (now (a .factors)) (now (a .payments)) (now (a .accruals)) (a .strike) (a .t) (a .sigma) (rules r) (c .before .before .enum-told .given .1) (c .before .if1 .taken) in
-    (o, (rooted (a .alpha) (now (a .times)) (now (a .factors)) (now (a .payments)) (now (a .accruals)) (a .strike) (a .t) (a .sigma) o, (refused-so (a .alpha) (now (a .times)) (now (a .factors)) (now (a .payments)) (now (a .accruals)) (a .strike) (a .t) (a .sigma) o, ap (reported noValued) o)))
+    (o, (rooted (a .alpha) (now (a .times)) (now (a .factors)) (now (a .payments)) (now (a .accruals)) (a .strike) (a .t) (a .sigma) o, (refused-so (a .alpha) (now (a .times)) (now (a .factors)) (now (a .payments)) (now (a .accruals)) (a .strike) (a .t) (a .sigma) o, ap (reported noModelValued) o)))
 
 model-priced-requires : tie.Need-model-priced-requires
 model-priced-requires c κs =
@@ -62,7 +62,7 @@ returns-3 c =
     let r = c .before .before .before .before in
     let a = r .before .before .before .before .before .before .before .args in
     let o = c .model-priced .ensures ∙ with-coupons (a .alpha) (now (a .times)) (now (a .factors)) (now (a .payments)) (now (a .accruals)) (a .strike) (a .t) (a .sigma) (rules r) (c .before .before .enum-told .given .1) (c .before .if1 .left) in
-    (o, (rooted (a .alpha) (now (a .times)) (now (a .factors)) (now (a .payments)) (now (a .accruals)) (a .strike) (a .t) (a .sigma) o, (refused-so (a .alpha) (now (a .times)) (now (a .factors)) (now (a .payments)) (now (a .accruals)) (a .strike) (a .t) (a .sigma) o, ap (reported noValued) o)))
+    (o, (rooted (a .alpha) (now (a .times)) (now (a .factors)) (now (a .payments)) (now (a .accruals)) (a .strike) (a .t) (a .sigma) o, (refused-so (a .alpha) (now (a .times)) (now (a .factors)) (now (a .payments)) (now (a .accruals)) (a .strike) (a .t) (a .sigma) o, ap (reported noModelValued) o)))
 
 pub swaption-price-on-spec : {M : Type 1} → statement M
 swaption-price-on-spec =

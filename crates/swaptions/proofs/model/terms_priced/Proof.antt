@@ -1,4 +1,4 @@
--- `swaptions::model::terms_priced` meets its contract: the drifts are those of specs/, and the price on them is looked at by rule 13. Assumes nothing.
+-- `swaptions::model::terms_priced` meets its contract: the curve's parts are those of specs/, and the price on them is looked at by rule 13. Assumes nothing.
 use mathlib.Core.Path.{sym, _∙_}
 use mathlib.Core.List.{List}
 use lib.Ieee.{Float}
@@ -9,37 +9,37 @@ use Rattle.swaptions.proofs.model.terms_priced.Statement.{statement}
 use Rattle.swaptions.proofs.model.terms_priced.Tie as tie
 
 -- ---- what was written into the lent list
-abbrev ds-of : tie.After-drifts → List Float
-ds-of d = d .drifts .last .1 .1 .1 .1 .0
+abbrev ds-of : tie.After-curve-parts → List Float
+ds-of d = d .curve-parts .last .1 .1 .1 .1 .0
 
 -- ---- the needs
 
-array-borrow-prefix-drift : tie.Need-array-borrow-prefix-drift
-array-borrow-prefix-drift c = search needs
+array-borrow-prefix-curve-part : tie.Need-array-borrow-prefix-curve-part
+array-borrow-prefix-curve-part c = search needs
 
-slice-aggregate-drifts : tie.Need-slice-aggregate-drifts
-slice-aggregate-drifts c = lent-is work _ (c .before .before .before .before .pre .0)
+slice-aggregate-curve-parts : tie.Need-slice-aggregate-curve-parts
+slice-aggregate-curve-parts c = lent-is work _ (c .before .before .before .before .pre .0)
 
-drifts-requires : tie.Need-drifts-requires
-drifts-requires c κs = let s = c .before .before .before .before .pre in (sym (lent-is work _ (s .0)) ∙ sym (s .1), s .2 ∙ sym (s .1))
+curve-parts-requires : tie.Need-curve-parts-requires
+curve-parts-requires c κs = let s = c .before .before .before .before .pre in (sym (lent-is work _ (s .0)) ∙ sym (s .1), s .2 ∙ sym (s .1))
 
-decay-of-requires : tie.Need-decay-of-requires
-decay-of-requires c κs = search needs
+stationary-share-of-requires : tie.Need-stationary-share-of-requires
+stationary-share-of-requires c κs = search needs
 
-deviation-of-requires : tie.Need-deviation-of-requires
-deviation-of-requires c κs = search needs
+state-deviation-of-requires : tie.Need-state-deviation-of-requires
+state-deviation-of-requires c κs = search needs
 
-array-share-prefix-drift : tie.Need-array-share-prefix-drift
-array-share-prefix-drift c = let d = c .before .before .before in back-fits work _ (d .before .before .before .before .before .pre .0) (ds-of d) (d .drifts .kept .1 .1 .1 .1 .0)
+array-share-prefix-curve-part : tie.Need-array-share-prefix-curve-part
+array-share-prefix-curve-part c = let d = c .before .before .before in back-fits work _ (d .before .before .before .before .before .pre .0) (ds-of d) (d .curve-parts .kept .1 .1 .1 .1 .0)
 
 slice-aggregate-price-at : tie.Need-slice-aggregate-price-at
-slice-aggregate-price-at c = let d = c .before .before .before .before in back-is work _ (d .before .before .before .before .before .pre .0) (ds-of d) (d .drifts .kept .1 .1 .1 .1 .0)
+slice-aggregate-price-at c = let d = c .before .before .before .before in back-is work _ (d .before .before .before .before .before .pre .0) (ds-of d) (d .curve-parts .kept .1 .1 .1 .1 .0)
 
 price-at-requires : tie.Need-price-at-requires
 price-at-requires c κs =
     let d = c .before .before .before .before in
     let s = d .before .before .before .before .before .pre in
-    (s .0, s .1, sym (back-is work _ (s .0) (ds-of d) (d .drifts .kept .1 .1 .1 .1 .0)), s .2)
+    (s .0, s .1, sym (back-is work _ (s .0) (ds-of d) (d .curve-parts .kept .1 .1 .1 .1 .0)), s .2)
 
 finished-requires : tie.Need-finished-requires
 finished-requires c κs = search needs
@@ -47,18 +47,18 @@ finished-requires c κs = search needs
 returns : tie.Need-returns
 returns c =
     let d = c .before .before .before .before .before .before in
-    terms-are _ _ _ _ _ _ _ _ (values-are work _ (d .before .before .before .before .before .pre .0) (ds-of d) (d .drifts .kept .1 .1 .1 .1 .0) ∙ d .drifts .ensures) (c .before .before .before .before .decay-of .ensures) (c .before .before .before .deviation-of .ensures) (c .before .price-at .ensures) (c .finished .ensures)
+    terms-are _ _ _ _ _ _ _ _ (values-are work _ (d .before .before .before .before .before .pre .0) (ds-of d) (d .curve-parts .kept .1 .1 .1 .1 .0) ∙ d .curve-parts .ensures) (c .before .before .before .before .stationary-share-of .ensures) (c .before .before .before .state-deviation-of .ensures) (c .before .price-at .ensures) (c .finished .ensures)
 
 pub terms-priced-spec : {M : Type 1} → statement M
 terms-priced-spec =
     tie.close
     (tie.spec
-    array-borrow-prefix-drift
-    slice-aggregate-drifts
-    drifts-requires
-    decay-of-requires
-    deviation-of-requires
-    array-share-prefix-drift
+    array-borrow-prefix-curve-part
+    slice-aggregate-curve-parts
+    curve-parts-requires
+    stationary-share-of-requires
+    state-deviation-of-requires
+    array-share-prefix-curve-part
     slice-aggregate-price-at
     price-at-requires
     finished-requires

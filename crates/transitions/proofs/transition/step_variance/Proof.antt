@@ -7,12 +7,12 @@ use Rattle.transitions.proofs.transition.step_variance.Tie as tie
 int-to-float-start : tie.Need-int-to-float-start
 int-to-float-start c = search needs
 
-variance-of-requires : tie.Need-variance-of-requires
-variance-of-requires c κs = search needs
+hull-white-piecewise-variance-of-requires : tie.Need-hull-white-piecewise-variance-of-requires
+hull-white-piecewise-variance-of-requires c κs = search needs
 
 returns : tie.Need-returns
 unfolding stepVariance
-returns c = c .variance-of .ensures
+returns c = c .hull-white-piecewise-variance-of .ensures
 
 pub step-variance-spec : {M : Type 1} → statement M
-step-variance-spec = tie.close (tie.spec int-to-float-start variance-of-requires returns)
+step-variance-spec = tie.close (tie.spec int-to-float-start hull-white-piecewise-variance-of-requires returns)

@@ -50,8 +50,8 @@ enum-known-worked c = search needs
 enum-known-worked-2 : tie.Need-enum-known-worked-2
 enum-known-worked-2 c = search needs
 
-variance-of-requires : tie.Need-variance-of-requires
-variance-of-requires c κs = search needs
+hull-white-piecewise-variance-of-requires : tie.Need-hull-white-piecewise-variance-of-requires
+hull-white-piecewise-variance-of-requires c κs = search needs
 
 array-share-prefix-c : tie.Need-array-share-prefix-c
 array-share-prefix-c c = let g = c .before .before .before .before .before .before .before in back-fits work _ (g .before .before .before .before .before .before .before .before .before .before .before .pre .0) (cs-of g) (g .swaption-terms .kept .1 .1 .1 .1 .1 .1 .1 .0)
@@ -85,7 +85,7 @@ returns-2 : tie.Need-returns-2
 returns-2 c =
     let g = c .before .before .before .before .before .before .before .before .before .before .before in
     let s = g .before .before .before .before .before .before .before .before .before .before .before .pre .0 in
-    on-curve _ _ _ _ _ _ _ _ _ _ _ _ _ _ _ _ _ (g .swaption-terms .ensures) (c .before .before .before .before .before .before .worked2 .given .1) (c .before .before .before .before .variance-of .ensures) (values-are work _ s (cs-of g) (g .swaption-terms .kept .1 .1 .1 .1 .1 .1 .1 .0)) (values-are work _ s (bs-of g) (g .swaption-terms .kept .1 .1 .1 .1 .1 .1 .1 .1 .0)) (values-are work _ s (ps-of g) (g .swaption-terms .kept .1 .1 .1 .1 .1 .1 .1 .1 .1 .0)) (c .terms-priced .ensures)
+    on-curve _ _ _ _ _ _ _ _ _ _ _ _ _ _ _ _ _ (g .swaption-terms .ensures) (c .before .before .before .before .before .before .worked2 .given .1) (c .before .before .before .before .hull-white-piecewise-variance-of .ensures) (values-are work _ s (cs-of g) (g .swaption-terms .kept .1 .1 .1 .1 .1 .1 .1 .0)) (values-are work _ s (bs-of g) (g .swaption-terms .kept .1 .1 .1 .1 .1 .1 .1 .1 .0)) (values-are work _ s (ps-of g) (g .swaption-terms .kept .1 .1 .1 .1 .1 .1 .1 .1 .1 .0)) (c .terms-priced .ensures)
 
 pub swaption-priced-spec : {M : Type 1} → statement M
 swaption-priced-spec =
@@ -100,7 +100,7 @@ swaption-priced-spec =
     swaption-terms-requires
     enum-known-worked
     enum-known-worked-2
-    variance-of-requires
+    hull-white-piecewise-variance-of-requires
     array-share-prefix-c
     slice-aggregate-terms-priced
     array-share-prefix-b

@@ -9,48 +9,48 @@ use Rattle.valuations.proofs.value.terms_priced.Statement.{statement}
 use Rattle.valuations.proofs.value.terms_priced.Tie as tie
 
 -- ---- what was written into the lent list
-abbrev as-of : tie.After-affines → List Float
-as-of w = w .affines .last .1 .1 .1 .1 .1 .0
+abbrev as-of : tie.After-affine-a-list → List Float
+as-of w = w .affine-a-list .last .1 .1 .1 .1 .1 .0
 
 -- ---- the needs
 
 array-borrow-prefix-a : tie.Need-array-borrow-prefix-a
 array-borrow-prefix-a c = search needs
 
-slice-aggregate-affines : tie.Need-slice-aggregate-affines
-slice-aggregate-affines c = lent-is work _ (c .before .before .before .before .before .pre .0)
+slice-aggregate-affine-a-list : tie.Need-slice-aggregate-affine-a-list
+slice-aggregate-affine-a-list c = lent-is work _ (c .before .before .before .before .before .pre .0)
 
-affines-requires : tie.Need-affines-requires
-affines-requires c κs = let s = c .before .before .before .before .before .pre in (sym (lent-is work _ (s .0)) ∙ sym (s .1), s .2 ∙ sym (s .1))
+affine-a-list-requires : tie.Need-affine-a-list-requires
+affine-a-list-requires c κs = let s = c .before .before .before .before .before .pre in (sym (lent-is work _ (s .0)) ∙ sym (s .1), s .2 ∙ sym (s .1))
 
-deviation-requires : tie.Need-deviation-requires
-deviation-requires c κs = search needs
+pricer-deviation-requires : tie.Need-pricer-deviation-requires
+pricer-deviation-requires c κs = search needs
 
 array-share-prefix-a : tie.Need-array-share-prefix-a
-array-share-prefix-a c = let w = c .before .before in back-fits work _ (w .before .before .before .before .before .before .pre .0) (as-of w) (w .affines .kept .1 .1 .1 .1 .1 .0)
+array-share-prefix-a c = let w = c .before .before in back-fits work _ (w .before .before .before .before .before .before .pre .0) (as-of w) (w .affine-a-list .kept .1 .1 .1 .1 .1 .0)
 
 slice-aggregate-priced-by : tie.Need-slice-aggregate-priced-by
-slice-aggregate-priced-by c = let w = c .before .before .before in back-is work _ (w .before .before .before .before .before .before .pre .0) (as-of w) (w .affines .kept .1 .1 .1 .1 .1 .0)
+slice-aggregate-priced-by c = let w = c .before .before .before in back-is work _ (w .before .before .before .before .before .before .pre .0) (as-of w) (w .affine-a-list .kept .1 .1 .1 .1 .1 .0)
 
 priced-by-requires : tie.Need-priced-by-requires
 priced-by-requires c κs =
     let w = c .before .before .before in
     let s = w .before .before .before .before .before .before .pre in
-    (s .0, sym (back-is work _ (s .0) (as-of w) (w .affines .kept .1 .1 .1 .1 .1 .0)), s .1, s .2, s .3)
+    (s .0, sym (back-is work _ (s .0) (as-of w) (w .affine-a-list .kept .1 .1 .1 .1 .1 .0)), s .1, s .2, s .3)
 
 returns : tie.Need-returns
 returns c =
     let w = c .before .before .before .before in
-    terms-are _ _ _ _ _ _ _ _ _ _ (values-are work _ (w .before .before .before .before .before .before .pre .0) (as-of w) (w .affines .kept .1 .1 .1 .1 .1 .0) ∙ w .affines .ensures) (c .before .before .deviation .ensures) (c .priced-by .ensures)
+    terms-are _ _ _ _ _ _ _ _ _ _ (values-are work _ (w .before .before .before .before .before .before .pre .0) (as-of w) (w .affine-a-list .kept .1 .1 .1 .1 .1 .0) ∙ w .affine-a-list .ensures) (c .before .before .pricer-deviation .ensures) (c .priced-by .ensures)
 
 pub terms-priced-spec : {M : Type 1} → statement M
 terms-priced-spec =
     tie.close
     (tie.spec
     array-borrow-prefix-a
-    slice-aggregate-affines
-    affines-requires
-    deviation-requires
+    slice-aggregate-affine-a-list
+    affine-a-list-requires
+    pricer-deviation-requires
     array-share-prefix-a
     slice-aggregate-priced-by
     priced-by-requires
