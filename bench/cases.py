@@ -100,7 +100,7 @@ def path(points, curve_points, pillar_count, jobs):
 
 
 def basket(count, alpha=ALPHA):
-    """A basket as crates/basket_vectors reads it: the numbers of points and of caplets, alpha, the points, the caplets
+    """A basket as crates/test_baskets reads it: the numbers of points and of caplets, alpha, the points, the caplets
     (1 for a normal quote, strike, start, end, volatility)."""
     listed = [(0.25 * (i + 1), 0.25 * (i + 2)) for i in range(count)]
     points = curve(128, sorted({t for span in listed for t in span}))

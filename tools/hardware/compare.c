@@ -4,7 +4,7 @@
 #include <stdio.h>
 #include <stdlib.h>
 #include <time.h>
-#include "../vectors/operands.h"
+#include "../test_vectors/operands.h"
 
 double calstwid_fused(double, double, double);
 double calstwid_sqrt(double);

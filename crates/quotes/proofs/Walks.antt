@@ -4,10 +4,10 @@ use mathlib.Core.List.{List}
 use Prim.Native.Nat.{ℕ, _+_, _≤_, _<_}
 use lib.ListN.{length, getD, drop}
 use lib.Ieee.{Float, nan}
-use Rattle.lists.specs.declared.refusals.Refusal.the-variants as R
-use Rattle.lists.specs.Refusals.{refused, finishing}
-use Rattle.lookups.specs.Lookups.{just, nothing, factorAt}
-use Rattle.lists.proofs.Walks.{next, done}
+use Rattle.refusals.specs.declared.refusals.Refusal.the-variants as R
+use Rattle.refusals.specs.Refusals.{refused, finishing}
+use Rattle.curve.specs.Lookups.{just, nothing, factorAt}
+use Rattle.refusals.proofs.Walks.{next, done}
 use Rattle.quotes.specs.Formulas.{annuityStep}
 use Rattle.quotes.specs.Utils.{annuityFrom}
 

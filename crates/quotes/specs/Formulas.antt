@@ -4,9 +4,9 @@ use Rattle.ieee.specs.Rounded.{_⊖_, _⊗_, _⊘_}
 use Rattle.ieee.specs.Numbers.{half}
 use Rattle.ieee.specs.Fused.{fusedOf}
 use Rattle.ieee.specs.Sqrt.{sqrtOf}
-use Rattle.elementary.specs.Ln.{lnOf}
-use Rattle.exponential.specs.Density.{densityOf}
-use Rattle.probability.specs.NormCdf.{normCdfOf}
+use Rattle.math_elementary.specs.Ln.{lnOf}
+use Rattle.math_exponential.specs.Density.{densityOf}
+use Rattle.math_normal.specs.NormCdf.{normCdfOf}
 
 -- d1 = 0.5 × vol × √tau + ln(F/K)/(vol × √tau), the sum fused
 unfoldable pub quoteD1Of : Float → Float → Float → Float → Float

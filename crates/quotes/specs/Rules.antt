@@ -4,9 +4,9 @@ use mathlib.Core.List.{List, [], _∷_}
 use lib.Ieee.{Float, le}
 use lib.Ieee.Scale.{finite}
 use Rattle.ieee.specs.Numbers.{zero}
-use Rattle.lists.specs.declared.curves.Faults.{Faults}
-use Rattle.lists.specs.declared.refusals.Refusal.the-variants as R
-use Rattle.lists.specs.Refusals.{Rule, rule}
+use Rattle.refusals.specs.declared.curves.Faults.{Faults}
+use Rattle.refusals.specs.declared.refusals.Refusal.the-variants as R
+use Rattle.refusals.specs.Refusals.{Rule, rule}
 
 -- a quoted volatility's formula: tau is a fit's option time, which is above 0; a Black strike is above 0, a normal one need not be
 abbrev pub quoteRules : Bool → Float → Float → Float → Float → List Rule

@@ -4,10 +4,10 @@ use mathlib.Core.List.{List, [], _∷_}
 use lib.Ieee.{Float}
 use lib.Ieee.Scale.{finite}
 use Rattle.ieee.specs.Numbers.{zero}
-use Rattle.lists.specs.declared.refusals.Refusal.the-variants as R
-use Rattle.lists.specs.Refusals.{Outcome, served, refused, unless, finishing}
-use Rattle.lookups.specs.Lookups.{factorAt, needing}
-use Rattle.lists.specs.Faults.{curveFaults, couponFaults}
+use Rattle.refusals.specs.declared.refusals.Refusal.the-variants as R
+use Rattle.refusals.specs.Refusals.{Outcome, served, refused, unless, finishing}
+use Rattle.curve.specs.Lookups.{factorAt, needing}
+use Rattle.refusals.specs.Faults.{curveFaults, couponFaults}
 use Rattle.quotes.specs.Formulas.{quoteD1Of, quoteD2Of, blackCallOf, blackPutOf, bachelierCallOf, annuityStep}
 use Rattle.quotes.specs.declared.utils.D1D2.{D1D2}
 use Rattle.quotes.specs.declared.utils.D1D2.the-variants as P

@@ -9,7 +9,7 @@ pub fn quote_d1_of(fwd: f64, strike: f64, vol: f64, tau: f64) -> f64
     ieee::fused(
         0.5 * vol,
         sqrt_tau,
-        elementary::ln(fwd / strike) / (vol * sqrt_tau),
+        math_elementary::ln(fwd / strike) / (vol * sqrt_tau),
     )
 }
 
@@ -23,8 +23,8 @@ pub fn black_call_of(fwd: f64, strike: f64, vol: f64, tau: f64) -> f64
     ensures { λ r. ⌜ r ≡ blackCallOf fwd strike vol tau ⌝ }
 {
     let d1 = quote_d1_of(fwd, strike, vol, tau);
-    let taken = strike * probability::norm_cdf(quote_d2_of(vol, tau, d1));
-    ieee::fused(fwd, probability::norm_cdf(d1), -taken)
+    let taken = strike * math_normal::norm_cdf(quote_d2_of(vol, tau, d1));
+    ieee::fused(fwd, math_normal::norm_cdf(d1), -taken)
 }
 
 pub fn black_put_of(fwd: f64, strike: f64, vol: f64, tau: f64) -> f64
@@ -32,8 +32,8 @@ pub fn black_put_of(fwd: f64, strike: f64, vol: f64, tau: f64) -> f64
 {
     let d1 = quote_d1_of(fwd, strike, vol, tau);
     let d2 = quote_d2_of(vol, tau, d1);
-    let taken = fwd * probability::norm_cdf(-d1);
-    ieee::fused(strike, probability::norm_cdf(-d2), -taken)
+    let taken = fwd * math_normal::norm_cdf(-d1);
+    ieee::fused(strike, math_normal::norm_cdf(-d2), -taken)
 }
 
 pub fn bachelier_call_of(fwd: f64, strike: f64, vol: f64, tau: f64) -> f64
@@ -41,8 +41,8 @@ pub fn bachelier_call_of(fwd: f64, strike: f64, vol: f64, tau: f64) -> f64
 {
     let sigma_sqrt_tau = vol * ieee::sqrt(tau);
     let d = (fwd - strike) / sigma_sqrt_tau;
-    let spread = sigma_sqrt_tau * exponential::norm_pdf(d);
-    ieee::fused(fwd - strike, probability::norm_cdf(d), spread)
+    let spread = sigma_sqrt_tau * math_exponential::norm_pdf(d);
+    ieee::fused(fwd - strike, math_normal::norm_cdf(d), spread)
 }
 
 // One coupon more of an annuity.

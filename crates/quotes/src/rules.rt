@@ -1,22 +1,22 @@
 // Rules 1 to 7 for each sort of call: whether each applies, in document 01's order.
 ghost use mathlib.Core.Path.{_≡_};
-ghost use Rattle.lists.specs.Refusals.{firstOf};
+ghost use Rattle.refusals.specs.Refusals.{firstOf};
 ghost use Rattle.quotes.specs.Rules.{quoteRules, annuityRules};
-use lists::Answer;
-use lists::Faults;
-use lists::Refusal;
+use refusals::Answer;
+use refusals::Faults;
+use refusals::Refusal;
 
 // A quoted volatility's price; a Black strike is above 0, a normal one need not be.
 pub fn quote_rules(black: bool, fwd: f64, strike: f64, vol: f64, tau: f64) -> Answer
     ensures { λ r. ⌜ r ≡ firstOf (quoteRules black fwd strike vol tau) ⌝ }
 {
-    let finite = elementary::is_finite(fwd)
-        & elementary::is_finite(strike)
-        & elementary::is_finite(vol)
-        & elementary::is_finite(tau);
-    let mut answer = lists::and_rule(Answer::Served, Refusal::NotFinite, !finite);
-    answer = lists::and_rule(answer, Refusal::Times, tau <= 0.0);
-    lists::and_rule(
+    let finite = math_elementary::is_finite(fwd)
+        & math_elementary::is_finite(strike)
+        & math_elementary::is_finite(vol)
+        & math_elementary::is_finite(tau);
+    let mut answer = refusals::and_rule(Answer::Served, Refusal::NotFinite, !finite);
+    answer = refusals::and_rule(answer, Refusal::Times, tau <= 0.0);
+    refusals::and_rule(
         answer,
         Refusal::Domain,
         (vol <= 0.0) | (black & (strike <= 0.0)),
@@ -26,12 +26,12 @@ pub fn quote_rules(black: bool, fwd: f64, strike: f64, vol: f64, tau: f64) -> An
 pub fn annuity_rules(curve: Faults, coupons: Faults) -> Answer
     ensures { λ r. ⌜ r ≡ firstOf (annuityRules curve coupons) ⌝ }
 {
-    let mut answer = lists::and_rule(Answer::Served, Refusal::Size, curve.size | coupons.size);
-    answer = lists::and_rule(
+    let mut answer = refusals::and_rule(Answer::Served, Refusal::Size, curve.size | coupons.size);
+    answer = refusals::and_rule(
         answer,
         Refusal::NotFinite,
         curve.not_finite | coupons.not_finite,
     );
-    answer = lists::and_rule(answer, Refusal::Order, curve.order);
-    lists::and_rule(answer, Refusal::Domain, curve.domain)
+    answer = refusals::and_rule(answer, Refusal::Order, curve.order);
+    refusals::and_rule(answer, Refusal::Domain, curve.domain)
 }

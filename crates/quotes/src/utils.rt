@@ -1,15 +1,15 @@
 // utils.rs: a quoted volatility's price, Black's and Bachelier's, and the annuity over given coupons.
 ghost use mathlib.Core.Path.{_≡_};
 ghost use mathlib.Core.Bool.{true};
-ghost use Rattle.lists.specs.Checks.{inOrder};
-ghost use Rattle.lists.specs.Refusals.{Priced, outcomeOf, reported};
+ghost use Rattle.refusals.specs.Checks.{inOrder};
+ghost use Rattle.refusals.specs.Refusals.{Priced, outcomeOf, reported};
 ghost use Rattle.quotes.specs.Utils.{noD1D2, d1d2AnswerOf, d1d2Worked, d1d2Outcome, blackCallOutcome, blackPutOutcome, bachelierCallOutcome, annuityPriced, annuityOutcome};
 use super::quoted;
 use super::rules;
-use lists::Answer;
-use lists::Price;
-use lists::Refusal;
-use lookups::Found;
+use curve::Found;
+use refusals::Answer;
+use refusals::Price;
+use refusals::Refusal;
 
 // The answer of a call with two values.
 pub enum D1D2 {
@@ -33,7 +33,7 @@ fn d1_d2_worked(fwd: f64, strike: f64, vol: f64, tau: f64) -> D1D2
 {
     let d1 = quoted::quote_d1_of(fwd, strike, vol, tau);
     let d2 = quoted::quote_d2_of(vol, tau, d1);
-    if elementary::is_finite(d1) & elementary::is_finite(d2) {
+    if math_elementary::is_finite(d1) & math_elementary::is_finite(d2) {
         D1D2::Served(d1, d2)
     } else {
         D1D2::Refused(Refusal::Overflow)
@@ -46,7 +46,7 @@ pub fn black_call(fwd: f64, strike: f64, vol: f64, tau: f64) -> Price
     let answer = rules::quote_rules(true, fwd, strike, vol, tau);
     match answer {
         Answer::Refused(refusal) => Price::Refused(refusal),
-        Answer::Served => lists::served(quoted::black_call_of(fwd, strike, vol, tau)),
+        Answer::Served => refusals::served(quoted::black_call_of(fwd, strike, vol, tau)),
     }
 }
 
@@ -56,7 +56,7 @@ pub fn black_put(fwd: f64, strike: f64, vol: f64, tau: f64) -> Price
     let answer = rules::quote_rules(true, fwd, strike, vol, tau);
     match answer {
         Answer::Refused(refusal) => Price::Refused(refusal),
-        Answer::Served => lists::served(quoted::black_put_of(fwd, strike, vol, tau)),
+        Answer::Served => refusals::served(quoted::black_put_of(fwd, strike, vol, tau)),
     }
 }
 
@@ -66,7 +66,7 @@ pub fn bachelier_call(fwd: f64, strike: f64, vol: f64, tau: f64) -> Price
     let answer = rules::quote_rules(false, fwd, strike, vol, tau);
     match answer {
         Answer::Refused(refusal) => Price::Refused(refusal),
-        Answer::Served => lists::served(quoted::bachelier_call_of(fwd, strike, vol, tau)),
+        Answer::Served => refusals::served(quoted::bachelier_call_of(fwd, strike, vol, tau)),
     }
 }
 
@@ -79,8 +79,8 @@ pub fn swap_annuity_from_curve(
 ) -> Price
     ensures { λ r. ⌜ Priced r (annuityOutcome (now (times .entry)) (now (factors .entry)) (now (payments .entry)) (now (accruals .entry))) ⌝ }
 {
-    let curve = lists::curve_faults(times, factors);
-    let coupons = lists::coupon_faults(payments, accruals);
+    let curve = refusals::curve_faults(times, factors);
+    let coupons = refusals::coupon_faults(payments, accruals);
     let answer = rules::annuity_rules(curve, coupons);
     match answer {
         Answer::Refused(refusal) => Price::Refused(refusal),
@@ -98,13 +98,13 @@ fn annuity_priced(times: &[f64], factors: &[f64], payments: &[f64], accruals: &[
     let mut i = 0;
     while i < payments.len() {
         if accruals.len() <= i {
-            return lists::served(sum);
+            return refusals::served(sum);
         }
-        let Found::At(p) = lookups::factor(times, factors, payments[i]) else {
+        let Found::At(p) = curve::factor(times, factors, payments[i]) else {
             return Price::Refused(Refusal::OffCurve);
         };
         sum = quoted::annuity_step(sum, accruals[i], p);
         i += 1;
     }
-    lists::served(sum)
+    refusals::served(sum)
 }

@@ -6,7 +6,7 @@ use lib.Ieee.{Float}
 use lib.Ieee.Scale.{finite}
 use Rattle.search.specs.declared.Bracket.{Bracket}
 use Rattle.search.specs.declared.Critical.{Critical}
-use Rattle.coupons.specs.Sum.{couponSum, weightsOf, weightedSum, weights-ahead}
+use Rattle.search_sum.specs.Sum.{couponSum, weightsOf, weightedSum, weights-ahead}
 use Rattle.search.specs.Rate.{criticalOf}
 use Rattle.search.specs.Values.{rootFinite}
 use Rattle.search.specs.Facts.{Searched}

@@ -11,15 +11,15 @@ use lib.Ieee.{Float, nan, inf, fin, binary64, isNan, lt, le, eq, fits, up, down,
 use lib.Ieee.Bits.{is-false}
 use lib.Ieee.Fits.{and-l, and-r, up-pos, down-pos, eq→eqb}
 use Rattle.ieee.specs.Numbers.{one}
-use Rattle.elementary.proofs.AtMost.{or-l}
+use Rattle.math_elementary.proofs.AtMost.{or-l}
 use Rattle.search.specs.declared.Bracket.{Bracket}
 use Rattle.search.specs.declared.Critical.{Critical}
 use Rattle.search.specs.declared.ladder.Ladder.{Ladder}
 use Rattle.search.specs.declared.halving.Halving.{Halving}
 use Rattle.search.specs.Halving.{raised, lowered, Halvings, none, one-more, Start}
 use Rattle.search.specs.Rate.{rateAt, good, rungOf, orRung, ladderOf, bracketMovedTo, thenHalve, halvingsOf, finish, fromLadders, criticalOf}
-use Rattle.lists.specs.Refusals.{served}
-use Rattle.lists.proofs.Outcomes.{not-both, served-is}
+use Rattle.refusals.specs.Refusals.{served}
+use Rattle.refusals.proofs.Outcomes.{not-both, served-is}
 use Rattle.search.specs.Values.{Values, criticalOutcome}
 use Rattle.search.specs.Facts.{FirstGood, Located}
 use Rattle.search.proofs.Every.{every, every-at}

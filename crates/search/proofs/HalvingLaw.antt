@@ -11,7 +11,7 @@ use lib.Ieee.{Float, nan, inf, fin, binary64, emax, low, fits, le, ofBits}
 use lib.Ieee.Scale.{finite, overflow}
 use lib.IntN.{pos}
 use Rattle.ieee.specs.Decimal.{decimal}
-use Rattle.elementary.specs.Simple.{midpointOf}
+use Rattle.math_elementary.specs.Simple.{midpointOf}
 use Rattle.search.specs.Line.{place, Neighbours, Tight}
 use Rattle.search.specs.Halving.{Halves, raised, lowered, Halvings, none, one-more, Start, Between, HalvingLaw}
 use Rattle.search.proofs.Near.{Near}

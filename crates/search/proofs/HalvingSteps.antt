@@ -7,8 +7,8 @@ use native.Mathlib.Numerals.{add-one}
 use mathlib.Core.Bool.{Bool, true, false, cond}
 use lib.Ieee.{Float, isNan, ne, lt}
 use Rattle.ieee.specs.Numbers.{one}
-use Rattle.elementary.specs.Simple.{midpointOf}
-use Rattle.elementary.proofs.Floats.{nan-yes, nan-no}
+use Rattle.math_elementary.specs.Simple.{midpointOf}
+use Rattle.math_elementary.proofs.Floats.{nan-yes, nan-no}
 use Rattle.search.specs.declared.Bracket.{Bracket}
 use Rattle.search.specs.declared.halving.Halving.{Halving}
 use Rattle.search.specs.Rate.{bracketMovedTo, halveOf, thenHalve, halvingsOf}

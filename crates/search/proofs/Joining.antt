@@ -8,7 +8,7 @@ use native.Mathlib.Omega.{arith}
 use types.Run.{OneOf}
 use denote.Enum.Declared.{tagOf}
 use lib.Ieee.{Float}
-use Rattle.elementary.specs.Simple.{midpointOf}
+use Rattle.math_elementary.specs.Simple.{midpointOf}
 use Rattle.search.specs.declared.Bracket.{Bracket}
 use Rattle.search.specs.declared.Critical.{Critical}
 use Rattle.search.specs.declared.ladder.Ladder.{Ladder}

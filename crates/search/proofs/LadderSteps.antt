@@ -10,7 +10,7 @@ use lib.Ieee.{Float, mul, isNan, ne, le, neg, ofBits}
 use Rattle.ieee.specs.Rounded.{_⊗_}
 use Rattle.ieee.specs.Numbers.{one, two, half}
 use Rattle.ieee.specs.Same.{same, same-is}
-use Rattle.elementary.proofs.Floats.{nan-yes, nan-no}
+use Rattle.math_elementary.proofs.Floats.{nan-yes, nan-no}
 use Rattle.search.specs.declared.ladder.Ladder.{Ladder}
 use Rattle.search.specs.Rate.{rateAt, good, rungOf, orRung, ladderOf}
 use Rattle.search.proofs.Every.{every, every-at}

@@ -15,7 +15,7 @@ use lib.Ieee.Digits.{back}
 use lib.Ieee.Fits.{and-l, and-r, up-pos, down-pos, eq→eqb, and-i}
 use lib.Ieee.Exact.{HasValue}
 use lib.Ieee.Scale.{finite, overflow}
-use Rattle.elementary.proofs.AtMost.{or-l, or-r}
+use Rattle.math_elementary.proofs.AtMost.{or-l, or-r}
 use Rattle.search.specs.Line.{shift, mag, from, place}
 use Rattle.search.proofs.Near.{Short}
 use Rattle.search.proofs.Narrowing.{Point, right, left}

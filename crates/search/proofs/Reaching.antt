@@ -15,7 +15,7 @@ use Rattle.search.specs.declared.ladder.Ladder.{Ladder}
 use Rattle.search.specs.declared.halving.Halving.{Halving}
 use Rattle.search.specs.Rate.{rateAt, good, rungOf, orRung, ladderOf, bracketMovedTo, halveOf, thenHalve, halvingsOf, finish, fromLadders, criticalOf}
 use Rattle.search.specs.Reached.{ratesFrom, ladderRates, upToGood, fromGood, midpoints, onceBoth, reached, someNan, someGood, hasGood, Exactly}
-use Rattle.lists.specs.Refusals.{answerNumber, answerOf}
+use Rattle.refusals.specs.Refusals.{answerNumber, answerOf}
 use Rattle.search.specs.Values.{criticalOutcome}
 use Rattle.search.proofs.LadderSteps.{ladder-zero, ladder-suc, last-at, last-nan, ladder-stays}
 use Rattle.search.proofs.HalvingSteps.{mid, halvings-zero, halvings-suc}

@@ -7,13 +7,13 @@ use lib.Dec.{T}
 use lib.Ieee.{Float, isNan, le}
 use lib.Ieee.Scale.{finite}
 use Rattle.ieee.specs.Numbers.{one}
-use Rattle.elementary.specs.Simple.{midpointOf}
+use Rattle.math_elementary.specs.Simple.{midpointOf}
 use Rattle.search.specs.declared.Bracket.{Bracket}
 use Rattle.search.specs.declared.Critical.{Critical}
 use Rattle.search.specs.Line.{Tight}
 use Rattle.search.specs.Halving.{Halvings}
 use Rattle.search.specs.Rate.{rateAt, good, criticalOf}
-use Rattle.lists.specs.Refusals.{served, answerOf, reported}
+use Rattle.refusals.specs.Refusals.{served, answerOf, reported}
 use Rattle.search.specs.Values.{Values, noValues, criticalOutcome}
 use Rattle.search.specs.Reached.{Exactly}
 

@@ -7,7 +7,7 @@ use lib.IntN.{pos}
 use lib.Ieee.{Float, fin, binary64, fits, le}
 use lib.Ieee.Scale.{finite}
 use Rattle.ieee.specs.Decimal.{decimal}
-use Rattle.elementary.specs.Simple.{midpointOf}
+use Rattle.math_elementary.specs.Simple.{midpointOf}
 use Rattle.search.specs.Line.{Neighbours, Tight}
 
 -- one halving: the ends' midpoint is put for the lower end, or for the upper one

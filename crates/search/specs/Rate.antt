@@ -3,7 +3,7 @@ use Prim.Native.Nat.{ℕ, zero, suc}
 use mathlib.Core.Bool.{Bool, true, false, cond}
 use lib.Ieee.{Float, fin, minus, isNan, lt, le}
 use Rattle.ieee.specs.Numbers.{one}
-use Rattle.elementary.specs.Simple.{midpointOf}
+use Rattle.math_elementary.specs.Simple.{midpointOf}
 use Rattle.search.specs.declared.Bracket.{Bracket}
 use Rattle.search.specs.declared.Critical.{Critical}
 use Rattle.search.specs.declared.ladder.Ladder.{Ladder}

@@ -8,10 +8,10 @@ use mathlib.Core.List.{List, [], _∷_, _++_}
 use lib.Dec.{T}
 use lib.Ieee.{Float, isNan, lt}
 use Rattle.ieee.specs.Numbers.{one}
-use Rattle.elementary.specs.Simple.{midpointOf}
-use Rattle.lists.specs.declared.refusals.Answer.{Answer}
-use Rattle.lists.specs.declared.refusals.Answer.the-variants as A
-use Rattle.lists.specs.declared.refusals.Refusal.the-variants as R
+use Rattle.math_elementary.specs.Simple.{midpointOf}
+use Rattle.refusals.specs.declared.refusals.Answer.{Answer}
+use Rattle.refusals.specs.declared.refusals.Answer.the-variants as A
+use Rattle.refusals.specs.declared.refusals.Refusal.the-variants as R
 use Rattle.search.specs.Rate.{rateAt, good}
 
 -- n rungs of a ladder from rung i on; the whole ladder has 61 from rung 0 on

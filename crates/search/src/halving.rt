@@ -1,10 +1,10 @@
 // The halvings of a bracket.
 ghost use mathlib.Core.Path.{_≡_};
 ghost use mathlib.Core.Bool.{true};
-ghost use Rattle.coupons.specs.Sum.{weightedSum};
+ghost use Rattle.search_sum.specs.Sum.{weightedSum};
 ghost use Rattle.search.specs.Rate.{halveOf, halvingsOf};
 use super::Bracket;
-use elementary::same;
+use math_elementary::same;
 
 // What a halving, or a run of them, comes to: a bracket, or a stop at a NaN sum.
 pub enum Halving {
@@ -16,8 +16,8 @@ pub enum Halving {
 fn halve(weights: &[f64], b: &[f64], bracket: Bracket) -> Halving
     ensures { λ r. ⌜ r ≡ halveOf (weightedSum (now (weights .entry)) (now (b .entry))) bracket ⌝ }
 {
-    let rate = elementary::midpoint(bracket.lower, bracket.upper);
-    let sum = coupons::coupon_sum(weights, b, rate);
+    let rate = math_elementary::midpoint(bracket.lower, bracket.upper);
+    let sum = search_sum::coupon_sum(weights, b, rate);
     if sum != sum {
         return Halving::Stopped;
     }

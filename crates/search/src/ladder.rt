@@ -1,6 +1,6 @@
 // A ladder of rates: 61 rungs, each twice as far out as the one before, left at the first good one.
 ghost use mathlib.Core.Path.{_≡_};
-ghost use Rattle.coupons.specs.Sum.{weightedSum};
+ghost use Rattle.search_sum.specs.Sum.{weightedSum};
 ghost use Rattle.search.specs.Rate.{rateAt, good, ladderOf};
 
 // What a ladder comes to: its first good rung, a NaN sum that was met before one, or neither.
@@ -32,7 +32,7 @@ pub fn climb(weights: &[f64], b: &[f64], below: bool) -> Ladder
     let mut rate = first_rate(below);
     let mut rung: u64 = 0;
     let found = loop {
-        let sum = coupons::coupon_sum(weights, b, rate);
+        let sum = search_sum::coupon_sum(weights, b, rate);
         if sum != sum {
             break Ladder::NotANumber;
         }

@@ -1,7 +1,7 @@
 // The critical rate of a list of coupon terms, `find_critical_rate` of the Rust: two ladders of
 // rates, and 200 halvings between their first good rungs. One search serves every kind of swaption.
 ghost use mathlib.Core.Path.{_≡_};
-ghost use Rattle.coupons.specs.Sum.{weightedSum};
+ghost use Rattle.search_sum.specs.Sum.{weightedSum};
 ghost use Rattle.search.specs.Values.{rootFinite};
 ghost use Rattle.search.specs.Facts.{Searched};
 
@@ -71,7 +71,7 @@ pub fn critical_rate_of_weights(weights: &[f64], b: &[f64]) -> Critical
         bracket,
         below: i,
         above: j,
-        rate: elementary::midpoint(bracket.lower, bracket.upper),
+        rate: math_elementary::midpoint(bracket.lower, bracket.upper),
     }
 }
 
@@ -79,9 +79,9 @@ pub fn critical_rate_of_weights(weights: &[f64], b: &[f64]) -> Critical
 pub fn root_finite(rate: f64, bracket: Bracket) -> bool
     ensures { λ r. ⌜ r ≡ rootFinite rate bracket ⌝ }
 {
-    elementary::is_finite(rate)
-        & elementary::is_finite(bracket.lower)
-        & elementary::is_finite(bracket.upper)
-        & elementary::is_finite(bracket.lower_sum)
-        & elementary::is_finite(bracket.upper_sum)
+    math_elementary::is_finite(rate)
+        & math_elementary::is_finite(bracket.lower)
+        & math_elementary::is_finite(bracket.upper)
+        & math_elementary::is_finite(bracket.lower_sum)
+        & math_elementary::is_finite(bracket.upper_sum)
 }

@@ -4,7 +4,7 @@ use Prim.Native.Nat.{_*_, _^_}
 use native.Mathlib.Nat.{le-of-lt}
 use borrow.Author.Needs.{needs}
 use lib.Ieee.{binary64}
-use Rattle.wide.specs.Words.{words}
+use Rattle.ieee_words.specs.Words.{words}
 use Rattle.ieee.proofs.Sums.{sum-swap, beq-swap}
 use Rattle.ieee.proofs.sum.added.Statement.{statement}
 use Rattle.ieee.proofs.sum.added.Tie as tie

@@ -2,8 +2,8 @@
 use Prim.Native.Nat.{_+_, _*_, _^_}
 use native.Mathlib.Omega.{arith}
 use borrow.Author.Needs.{needs}
-use Rattle.significands.proofs.Unpacking.{unpacked}
-use Rattle.wide.proofs.Words.{by-words, low-lt}
+use Rattle.ieee_significands.proofs.Unpacking.{unpacked}
+use Rattle.ieee_words.proofs.Words.{by-words, low-lt}
 use Rattle.ieee.proofs.Summing.{times-full, placed-pos}
 use Rattle.ieee.proofs.Fusing.{terms-are}
 use Rattle.ieee.proofs.sum.terms_of.Statement.{statement}

@@ -1,6 +1,6 @@
 -- `quotes::annuity_rules` meets its contract: whether each rule applies is what specs/ says, line by line. Assumes nothing.
 use borrow.Author.Needs.{needs}
-use Rattle.lists.specs.Order.{end, ask, asked}
+use Rattle.refusals.specs.Order.{end, ask, asked}
 use Rattle.quotes.proofs.rules.annuity_rules.Statement.{statement}
 use Rattle.quotes.proofs.rules.annuity_rules.Tie as tie
 

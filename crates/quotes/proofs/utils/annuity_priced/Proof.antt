@@ -4,7 +4,7 @@ use Prim.Native.Nat.{_≤_, _-_}
 use borrow.Author.Needs.{needs}
 use lib.ListN.{length, drop}
 use Rattle.quotes.specs.Utils.{annuityFrom, annuityPriced}
-use Rattle.lookups.proofs.Outcomes.{at, missing}
+use Rattle.curve.proofs.Outcomes.{at, missing}
 use Rattle.quotes.proofs.Walks.{annuity-turn, annuity-off, annuity-short, annuity-end}
 use Rattle.quotes.proofs.utils.annuity_priced.Statement.{statement}
 use Rattle.quotes.proofs.utils.annuity_priced.Tie as tie

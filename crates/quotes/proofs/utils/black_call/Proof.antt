@@ -1,9 +1,9 @@
 -- `quotes::black_call` meets its contract: turned down by its rules, or the formula. Assumes nothing.
 use mathlib.Core.Path.{ap, _∙_}
 use borrow.Author.Needs.{needs}
-use Rattle.lists.specs.Refusals.{finishing}
+use Rattle.refusals.specs.Refusals.{finishing}
 use Rattle.quotes.specs.Utils.{blackCallOutcome}
-use Rattle.lists.proofs.Outcomes.{priced-refused, priced-served}
+use Rattle.refusals.proofs.Outcomes.{priced-refused, priced-served}
 use Rattle.quotes.proofs.utils.black_call.Statement.{statement}
 use Rattle.quotes.proofs.utils.black_call.Tie as tie
 

@@ -1,9 +1,9 @@
 -- `quotes::d1_d2` meets its contract: turned down by its rules, or what `d1_d2_worked` finds. Assumes nothing.
 use mathlib.Core.Path.{_∙_, sym, ap}
 use borrow.Author.Needs.{needs}
-use Rattle.lists.specs.Refusals.{reported}
+use Rattle.refusals.specs.Refusals.{reported}
 use Rattle.quotes.specs.Utils.{noD1D2, d1d2Worked, d1d2Outcome}
-use Rattle.lists.proofs.Outcomes.{turned-down, let-through}
+use Rattle.refusals.proofs.Outcomes.{turned-down, let-through}
 use Rattle.quotes.proofs.utils.d1_d2.Statement.{statement}
 use Rattle.quotes.proofs.utils.d1_d2.Tie as tie
 

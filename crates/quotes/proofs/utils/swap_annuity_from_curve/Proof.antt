@@ -1,8 +1,8 @@
 -- `quotes::swap_annuity_from_curve` meets its contract: turned down by its rules, or what `annuity_priced` finds. Assumes nothing.
 use borrow.Author.Needs.{needs}
 use Rattle.quotes.specs.Utils.{annuityOutcome}
-use Rattle.lists.proofs.Outcomes.{priced-refused, priced-served}
-use Rattle.lists.proofs.Refusing.{rises}
+use Rattle.refusals.proofs.Outcomes.{priced-refused, priced-served}
+use Rattle.refusals.proofs.Refusing.{rises}
 use Rattle.quotes.proofs.utils.swap_annuity_from_curve.Statement.{statement}
 use Rattle.quotes.proofs.utils.swap_annuity_from_curve.Tie as tie
 

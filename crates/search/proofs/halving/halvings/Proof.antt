@@ -4,7 +4,7 @@ use Prim.Native.Nat.{_-_, _≤_}
 use native.Mathlib.Omega.{arith}
 use borrow.Author.Needs.{needs}
 use Rattle.search.specs.declared.halving.Halving.{Halving}
-use Rattle.coupons.specs.Sum.{weightedSum}
+use Rattle.search_sum.specs.Sum.{weightedSum}
 use Rattle.search.specs.Rate.{halvingsOf}
 use Rattle.search.proofs.HalvingSteps.{halvings-zero, nan-at, still-at, on-at, end-at}
 use Rattle.search.proofs.halving.halvings.Statement.{statement}

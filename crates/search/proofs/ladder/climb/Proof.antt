@@ -3,7 +3,7 @@ use mathlib.Core.Path.{_≡_, sym, _∙_}
 use Prim.Native.Nat.{_-_, _≤_}
 use borrow.Author.Needs.{needs}
 use Rattle.search.specs.declared.ladder.Ladder.{Ladder}
-use Rattle.coupons.specs.Sum.{weightedSum}
+use Rattle.search_sum.specs.Sum.{weightedSum}
 use Rattle.search.specs.Rate.{rateAt, ladderOf}
 use Rattle.search.proofs.LadderSteps.{ladder-zero, at-nan, at-good, at-last, at-next, next-rate}
 use Rattle.search.proofs.ladder.climb.Statement.{statement}

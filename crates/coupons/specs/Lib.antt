@@ -1,2 +1,0 @@
--- What the contracts of `coupons` say.
-pub mod Sum

@@ -1,0 +1,240 @@
+// The kinds of jobs: which call each is, on which of a job's fields.
+ghost use mathlib.Core.Path.{_≡_};
+ghost use mathlib.Core.List.{[]};
+ghost use Rattle.refusals.specs.Faults.{curveFaults};
+ghost use Rattle.file_jobs.specs.Results.{requestOfLists, optionResult};
+ghost use Rattle.file_jobs.specs.Worked.{wholeOf, swaptionWhole, fitWhole, workOf};
+use super::results;
+use super::results::JobResult;
+use super::results::Worked;
+use file_layout::Job;
+use fit::Quote;
+use hullwhite_options::BondOption;
+use pricer::SwaptionType;
+use refusals::Faults;
+
+// Kinds 1 to 4: caplet, floorlet, bond put, bond call. What is told is all that their calls return.
+// A caller that works a file's jobs has the curve's faults, worked once for all of them.
+pub fn option_result(curve: Faults, alpha: f64, times: &[f64], factors: &[f64], j: Job) -> JobResult
+    requires { ⌜ curve ≡ curveFaults (now times) (now factors) ⌝ }
+    ensures { λ r. ⌜ r ≡ optionResult (requestOfLists alpha [] [] (now (times .entry)) (now (factors .entry)) [] [] [] [] [] []) j ⌝ }
+{
+    if j.kind == 1 {
+        return results::price(hullwhite_options::optionlet_on(
+            BondOption::Put,
+            curve,
+            alpha,
+            times,
+            factors,
+            j.a,
+            j.b,
+            j.c,
+            j.d,
+        ));
+    }
+    if j.kind == 2 {
+        return results::price(hullwhite_options::optionlet_on(
+            BondOption::Call,
+            curve,
+            alpha,
+            times,
+            factors,
+            j.a,
+            j.b,
+            j.c,
+            j.d,
+        ));
+    }
+    if j.kind == 3 {
+        return results::price(hullwhite_options::bond_option_on(
+            BondOption::Put,
+            curve,
+            alpha,
+            times,
+            factors,
+            j.a,
+            j.b,
+            j.c,
+            j.d,
+        ));
+    }
+    results::price(hullwhite_options::bond_option_on(
+        BondOption::Call,
+        curve,
+        alpha,
+        times,
+        factors,
+        j.a,
+        j.b,
+        j.c,
+        j.d,
+    ))
+}
+
+// Kind 5, the model's swaption; 6 and 7, payer and receiver by the pricer.
+// A caller has the curve's faults, worked on these very lists.
+fn swaption_work(
+    curve: Faults,
+    alpha: f64,
+    pillars: &[f64],
+    sigmas: &[f64],
+    times: &[f64],
+    factors: &[f64],
+    payments: &[f64],
+    accruals: &[f64],
+    owns: &[f64],
+    j: Job,
+) -> Worked
+    requires { ⌜ curve ≡ curveFaults (now times) (now factors) ⌝ }
+    ensures { λ r. ⌜ wholeOf r ≡ swaptionWhole (requestOfLists alpha (now (pillars .entry)) (now (sigmas .entry)) (now (times .entry)) (now (factors .entry)) (now (payments .entry)) (now (accruals .entry)) (now (owns .entry)) [] [] []) j ⌝ }
+{
+    if j.kind == 5 {
+        return Worked::Swaption(hullwhite_swaptions::swaption_price_on(
+            curve,
+            alpha,
+            times,
+            factors,
+            payments,
+            accruals,
+            j.a,
+            j.b,
+            j.c,
+        ));
+    }
+    if j.kind == 6 {
+        return Worked::Valuation(pricer::swaption_value_on(
+            SwaptionType::Payer,
+            curve,
+            alpha,
+            pillars,
+            sigmas,
+            times,
+            factors,
+            payments,
+            accruals,
+            owns,
+            j.a,
+            j.b,
+            j.c,
+            j.d,
+        ));
+    }
+    Worked::Valuation(pricer::swaption_value_on(
+        SwaptionType::Receiver,
+        curve,
+        alpha,
+        pillars,
+        sigmas,
+        times,
+        factors,
+        payments,
+        accruals,
+        owns,
+        j.a,
+        j.b,
+        j.c,
+        j.d,
+    ))
+}
+
+// Kinds 8 and 9, a caplet's fit, Black and normal; 10 and 11, a swaption's.
+// A caller has the curve's faults, worked on these very lists.
+fn fit_work(
+    curve: Faults,
+    alpha: f64,
+    times: &[f64],
+    factors: &[f64],
+    payments: &[f64],
+    accruals: &[f64],
+    j: Job,
+) -> Worked
+    requires { ⌜ curve ≡ curveFaults (now times) (now factors) ⌝ }
+    ensures { λ r. ⌜ wholeOf r ≡ fitWhole (requestOfLists alpha [] [] (now (times .entry)) (now (factors .entry)) (now (payments .entry)) (now (accruals .entry)) [] [] [] []) j ⌝ }
+{
+    if j.kind == 8 {
+        return Worked::Fit(fit::fit_caplet_on(
+            curve,
+            Quote::Black,
+            alpha,
+            times,
+            factors,
+            j.a,
+            j.b,
+            j.c,
+            j.d,
+        ));
+    }
+    if j.kind == 9 {
+        return Worked::Fit(fit::fit_caplet_on(
+            curve,
+            Quote::Normal,
+            alpha,
+            times,
+            factors,
+            j.a,
+            j.b,
+            j.c,
+            j.d,
+        ));
+    }
+    if j.kind == 10 {
+        return Worked::Fit(fit::fit_swaption_on(
+            curve,
+            Quote::Black,
+            alpha,
+            times,
+            factors,
+            payments,
+            accruals,
+            j.a,
+            j.b,
+            j.c,
+        ));
+    }
+    Worked::Fit(fit::fit_swaption_on(
+        curve,
+        Quote::Normal,
+        alpha,
+        times,
+        factors,
+        payments,
+        accruals,
+        j.a,
+        j.b,
+        j.c,
+    ))
+}
+
+// A job of kinds 5 to 11, by the call that its kind is: all that the call returns. A caller that works a file's
+// jobs has the curve's faults, worked once for all of them.
+pub fn work(
+    curve: Faults,
+    alpha: f64,
+    pillars: &[f64],
+    sigmas: &[f64],
+    times: &[f64],
+    factors: &[f64],
+    payments: &[f64],
+    accruals: &[f64],
+    owns: &[f64],
+    j: Job,
+) -> Worked
+    requires { ⌜ curve ≡ curveFaults (now times) (now factors) ⌝ }
+    ensures { λ r. ⌜ wholeOf r ≡ workOf (requestOfLists alpha (now (pillars .entry)) (now (sigmas .entry)) (now (times .entry)) (now (factors .entry)) (now (payments .entry)) (now (accruals .entry)) (now (owns .entry)) [] [] []) j ⌝ }
+{
+    if j.kind < 8 {
+        return swaption_work(
+            curve,
+            alpha,
+            pillars,
+            sigmas,
+            times,
+            factors,
+            payments,
+            accruals,
+            owns,
+            j,
+        );
+    }
+    fit_work(curve, alpha, times, factors, payments, accruals, j)
+}

@@ -1,0 +1,140 @@
+// HwCalibrationObjective: the model price less the market price at a sigma, one function over the kind of
+// instrument. What does not depend on sigma is worked ahead, once a fit.
+ghost use mathlib.Core.Path.{_≡_};
+ghost use Prim.Native.Nat.{_≤_};
+ghost use lib.ListN.{length};
+ghost use Rattle.refusals.specs.Refusals.{outcomeOf};
+ghost use Rattle.math_bisection.specs.Solve.{residualAt};
+ghost use Rattle.fit_objective.specs.Objective.{capletAt, modelPriceOf, valueAlone, objectiveOf};
+ghost use Rattle.hullwhite_jamshidian.specs.Price.{swaptionOutcome};
+use hullwhite_jamshidian::Swaption;
+use refusals::Price;
+use refusals::Refusal;
+
+// An instrument without its market price. A caplet has B and the deviation of its start, the strike of
+// its bond put, its own strike, start and end, and the factors there. A swaption has what its price at a
+// sigma wants beside its lists of terms.
+pub enum Instrument {
+    Caplet {
+        b: f64,
+        deviation: f64,
+        bond_strike: f64,
+        strike: f64,
+        t: f64,
+        end: f64,
+        p_t: f64,
+        p_end: f64,
+    },
+    Swaption {
+        alpha: f64,
+        share: f64,
+        deviation: f64,
+        p_t: f64,
+    },
+}
+
+fn caplet_at(
+    sigma: f64,
+    b: f64,
+    deviation: f64,
+    bond_strike: f64,
+    strike: f64,
+    t: f64,
+    end: f64,
+    p_t: f64,
+    p_end: f64,
+) -> f64
+    ensures { λ r. ⌜ r ≡ capletAt sigma b deviation «bond_strike» strike t end «p_t» «p_end» ⌝ }
+{
+    let sigma_p = hullwhite_formulas::zcb_price_volatility_at(sigma, b, deviation);
+    let put = hullwhite_formulas::bond_put_of(sigma_p, bond_strike, p_t, p_end);
+    hullwhite_formulas::growth_of(end - t, strike) * put
+}
+
+// The model price at a sigma. The lists are a swaption's coefficients, B, curve's parts and factors; a caplet has
+// none. A caller that has worked them ahead has them of one length of at most 64.
+fn model_price(
+    instrument: Instrument,
+    c: &[f64],
+    b: &[f64],
+    curve_part: &[f64],
+    p: &[f64],
+    sigma: f64,
+) -> Price
+    requires { ⌜ (length (now c) ≤ 64) × (length (now b) ≡ length (now c)) × (length (now «curve_part») ≡ length (now c)) × (length (now p) ≡ length (now c)) ⌝ }
+    ensures { λ r. ⌜ outcomeOf r ≡ modelPriceOf instrument (now (c .entry)) (now (b .entry)) (now («curve_part» .entry)) (now (p .entry)) sigma ⌝ }
+{
+    match instrument {
+        Instrument::Caplet {
+            b: b_end,
+            deviation,
+            bond_strike,
+            strike,
+            t,
+            end,
+            p_t,
+            p_end,
+        } => Price::Served(caplet_at(
+            sigma,
+            b_end,
+            deviation,
+            bond_strike,
+            strike,
+            t,
+            end,
+            p_t,
+            p_end,
+        )),
+        Instrument::Swaption {
+            alpha,
+            share,
+            deviation,
+            p_t,
+        } => value_of(hullwhite_jamshidian::price_at(
+            alpha,
+            sigma,
+            share,
+            deviation,
+            p_t,
+            c,
+            b,
+            curve_part,
+            p,
+        )),
+    }
+}
+
+// A swaption's price without its root.
+fn value_of(swaption: Swaption) -> Price
+    ensures { λ r. ⌜ outcomeOf r ≡ valueAlone (swaptionOutcome swaption) ⌝ }
+{
+    match swaption {
+        Swaption::Served(value, _) => Price::Served(value),
+        Swaption::Refused(refusal) => Price::Refused(refusal),
+    }
+}
+
+// The residual at a sigma, or why there is none: the model's refusal, or a NaN. A caller that fits has the
+// lists of one length of at most 64.
+pub fn residual(
+    instrument: Instrument,
+    market: f64,
+    c: &[f64],
+    b: &[f64],
+    curve_part: &[f64],
+    p: &[f64],
+    sigma: f64,
+) -> Price
+    requires { ⌜ (length (now c) ≤ 64) × (length (now b) ≡ length (now c)) × (length (now «curve_part») ≡ length (now c)) × (length (now p) ≡ length (now c)) ⌝ }
+    ensures { λ r. ⌜ outcomeOf r ≡ residualAt (objectiveOf instrument market (now (c .entry)) (now (b .entry)) (now («curve_part» .entry)) (now (p .entry))) sigma ⌝ }
+{
+    let price = model_price(instrument, c, b, curve_part, p, sigma);
+    let Price::Served(model) = price else {
+        return price;
+    };
+    let value = model - market;
+    if value != value {
+        return Price::Refused(Refusal::NanReached);
+    }
+    Price::Served(value)
+}

@@ -1,0 +1,17 @@
+-- The price at a sigma, by what its search comes to. Assumes nothing.
+use mathlib.Core.Path.{_≡_}
+use mathlib.Core.List.{List}
+use lib.Ieee.{Float}
+use Rattle.refusals.specs.Refusals.{served, following}
+use Rattle.search.specs.declared.Critical.{Critical}
+use Rattle.search_sum.specs.Sum.{couponSum}
+use Rattle.search.specs.Values.{criticalOutcome}
+use Rattle.search.specs.Facts.{Searched}
+use Rattle.hullwhite_terms.specs.Terms.{aListAt}
+use Rattle.hullwhite_jamshidian.specs.Ahead.{putsAhead, priceAhead}
+
+module _ (alpha sigma share deviation pt : Float) (cs bs curve-parts ps : List Float) {affs : List Float} {r : Critical} where
+  pub price-is : affs ≡ aListAt alpha sigma share bs curve-parts → Searched (couponSum cs affs bs) r → (x : Critical) → r ≡ x
+      → following (criticalOutcome x) (λ root. served (record { value = putsAhead sigma deviation pt (root .rate) cs affs bs ps; root = root })) ≡ priceAhead alpha sigma share deviation pt cs bs curve-parts ps
+  unfolding priceAhead
+  price-is e g x h = rw (← e, ← g .is, h)

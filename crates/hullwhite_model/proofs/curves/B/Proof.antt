@@ -1,0 +1,47 @@
+-- `hullwhite_model::B` meets its contract: turned down by its rules, or the formula. Assumes nothing.
+use mathlib.Core.Path.{ap, _∙_}
+use borrow.Author.Needs.{needs}
+use Rattle.refusals.specs.Refusals.{finishing}
+use Rattle.hullwhite_model.specs.Curves.{bOutcome}
+use Rattle.refusals.proofs.Outcomes.{priced-refused, priced-served}
+use Rattle.hullwhite_model.proofs.curves.B.Statement.{statement}
+use Rattle.hullwhite_model.proofs.curves.B.Tie as tie
+
+no-faults-requires : tie.Need-no-faults-requires
+no-faults-requires c κs = search needs
+
+option-rules-requires : tie.Need-option-rules-requires
+option-rules-requires c κs = search needs
+
+enum-known-answer : tie.Need-enum-known-answer
+enum-known-answer c = search needs
+
+enum-told : tie.Need-enum-told
+enum-told c = search needs
+
+b-of-requires : tie.Need-b-of-requires
+b-of-requires c κs = search needs
+
+served-requires : tie.Need-served-requires
+served-requires c κs = search needs
+
+returns : tie.Need-returns
+unfolding bOutcome
+returns c = priced-refused _ _ (c .before .answer .given .1) (rw (c .before .before .before .before .no-faults .ensures) at (c .before .before .before .option-rules .ensures))
+
+returns-2 : tie.Need-returns-2
+unfolding bOutcome
+returns-2 c = priced-served _ _ (c .before .before .enum-told .given .1) (rw (c .before .before .before .before .before .no-faults .ensures) at (c .before .before .before .before .option-rules .ensures)) (c .served .ensures ∙ ap finishing (c .before .b-of .ensures))
+
+pub B-spec : {M : Type 1} → statement M
+B-spec =
+    tie.close
+    (tie.spec
+    no-faults-requires
+    option-rules-requires
+    enum-known-answer
+    enum-told
+    b-of-requires
+    served-requires
+    returns
+    returns-2)

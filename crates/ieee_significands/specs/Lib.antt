@@ -1,0 +1,2 @@
+-- What the contracts of `ieee_significands` say.
+pub mod Parts

@@ -1,0 +1,2 @@
+-- What the contracts of `ieee_words` say.
+pub mod Words

@@ -1,3 +1,0 @@
--- What the proofs of `lines` cite, the whole case worked, and that a line's text has one answer.
-pub mod Worked
-pub mod Says

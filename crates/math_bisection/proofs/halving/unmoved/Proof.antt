@@ -1,0 +1,23 @@
+-- `math_bisection::halving::unmoved` meets its contract. Assumes nothing.
+use borrow.Author.Needs.{needs}
+use Rattle.math_bisection.proofs.Finishing.{same-ends}
+use Rattle.math_bisection.proofs.halving.unmoved.Statement.{statement}
+use Rattle.math_bisection.proofs.halving.unmoved.Tie as tie
+
+same-requires : tie.Need-same-requires
+same-requires c κs = search needs
+
+same-requires-2 : tie.Need-same-requires-2
+same-requires-2 c κs = search needs
+
+same-requires-3 : tie.Need-same-requires-3
+same-requires-3 c κs = search needs
+
+same-requires-4 : tie.Need-same-requires-4
+same-requires-4 c κs = search needs
+
+returns : tie.Need-returns
+returns c = same-ends _ _ _ _ _ _ (c .before .before .before .same .ensures) (c .before .before .same2 .ensures) (c .before .same3 .ensures) (c .same4 .ensures)
+
+pub unmoved-spec : {M : Type 1} → statement M
+unmoved-spec = tie.close (tie.spec same-requires same-requires-2 same-requires-3 same-requires-4 returns)

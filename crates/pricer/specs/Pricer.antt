@@ -1,0 +1,46 @@
+-- Kinds 6 and 7: `swaption_value`, payer or receiver, on pillars (times pls, volatilities ss), a curve (times ts, factors fs) and coupons (payment times, accruals, own factors): strike, option time, notional, side.
+use mathlib.Core.Bool.{Bool, not, _&&_, _||_}
+use mathlib.Core.List.{List, [], _∷_}
+use lib.Dec.{eqb}
+use lib.ListN.{length}
+use lib.Ieee.{Float, neg, lt, le, ne}
+use lib.Ieee.Scale.{finite}
+use Rattle.ieee.specs.Numbers.{zero, one}
+use Rattle.refusals.specs.declared.curves.Faults.{Faults}
+use Rattle.refusals.specs.declared.checks.Test.the-variants.{Finite, Zero, Above}
+use Rattle.refusals.specs.declared.refusals.Refusal.the-variants as R
+use Rattle.refusals.specs.Refusals.{Outcome, Rule, rule, unless}
+use Rattle.refusals.specs.Checks.{allOf}
+use Rattle.refusals.specs.Faults.{curveFaults, pillarFaults, couponFaults}
+use Rattle.pricer_formulas.specs.declared.bond_option.SwaptionType.{SwaptionType}
+use Rattle.pricer_value.specs.Value.{PricerValued, swaptionPriced}
+
+-- ---- rules 1 to 7, a line a rule
+
+-- "a coupon's own factor is negative or is 0 beside one that is not": own factors fit where all are 0 or all above 0
+abbrev pub ownFits : List Float → Bool
+ownFits owns = allOf Zero owns || allOf (Above zero) owns
+
+-- `unpaired`: own factors and payments differ in number; `later`: every payment time is above the option time; `empty`: no coupons, or no pillars
+abbrev pub pricerRules : Faults → Faults → Faults → Bool → Bool → Bool → Bool → Bool → Float → Float → Float → Float → Float → List Rule
+pricerRules curve schedule coupons unpaired ownFinite ownFit later empty alpha strike t notional side =
+    rule R.Size (curve .size || schedule .size || coupons .size || unpaired)
+    ∷ rule R.NotFinite (curve .«not_finite» || schedule .«not_finite» || coupons .«not_finite» || not ownFinite || not (finite alpha && finite strike && finite t && finite notional && finite side))
+    ∷ rule R.MeanReversion (le alpha zero)
+    ∷ rule R.Order (curve .order || schedule .order)
+    ∷ rule R.Times (lt t zero || not later)
+    ∷ rule R.Domain (schedule .domain || curve .domain || not ownFit || (ne side one && ne side (neg one)))
+    ∷ rule R.Empty empty
+    ∷ []
+
+-- the rules on a call's own lists and numbers
+abbrev pub pricerRulesOn : Float → List Float → List Float → List Float → List Float → List Float → List Float → List Float → Float → Float → Float → Float → List Rule
+pricerRulesOn alpha pls ss ts fs payments accruals owns strike t notional side =
+    pricerRules (curveFaults ts fs) (pillarFaults pls ss) (couponFaults payments accruals) (not (eqb (length payments) (length owns))) (allOf Finite owns) (ownFits owns) (allOf (Above t) payments)
+    (eqb (length payments) 0 || eqb (length pls) 0) alpha strike t notional side
+
+-- ---- the rules, then the value
+
+unfoldable pub pricerOutcome : SwaptionType → Float → List Float → List Float → List Float → List Float → List Float → List Float → List Float → Float → Float → Float → Float → Outcome PricerValued
+pricerOutcome option alpha pls ss ts fs payments accruals owns strike t notional side =
+    unless (pricerRulesOn alpha pls ss ts fs payments accruals owns strike t notional side) (swaptionPriced option alpha pls ss ts fs payments accruals owns strike t notional side)

@@ -1,0 +1,71 @@
+-- `pricer_value::value::priced_by` meets its contract: refused by the search or by the Newton step, or the components at the stepped rate. Assumes nothing.
+use mathlib.Core.Path.{sym, ap, _∙_}
+use Rattle.hullwhite_terms.proofs.Callers.{nothing-found}
+use Rattle.pricer_formulas.specs.Newton.{stepOutcome}
+use Rattle.pricer_value.proofs.Pricing.{search-nan, search-none, step-flat, valued}
+use borrow.Author.Needs.{needs}
+use Rattle.pricer_value.proofs.value.priced_by.Statement.{statement}
+use Rattle.pricer_value.proofs.value.priced_by.Tie as tie
+
+find-critical-rate-of-requires : tie.Need-find-critical-rate-of-requires
+find-critical-rate-of-requires c κs = search needs
+
+enum-told : tie.Need-enum-told
+enum-told c = search needs
+
+returns : tie.Need-returns
+returns c = let g = c .before .before in search-nan _ _ _ _ _ _ _ _ _ _ (sym (g .find-critical-rate-of .ensures .is) ∙ c .enum-told .given .1)
+
+enum-known-found : tie.Need-enum-known-found
+enum-known-found c = search needs
+
+returns-2 : tie.Need-returns-2
+returns-2 c = let g = c .before .before in search-none _ _ _ _ _ _ _ _ _ _ (sym (g .find-critical-rate-of .ensures .is) ∙ nothing-found (g .find-critical-rate-of .result) (c .before .match .keys2) (c .match2 .keys2))
+
+implicit-critical-rate-of-requires : tie.Need-implicit-critical-rate-of-requires
+implicit-critical-rate-of-requires c κs = let s = c .before .before .before .before .before .before .before .before .before .before .pre in (s .1, s .2)
+
+enum-known-stepped : tie.Need-enum-known-stepped
+enum-known-stepped c = search needs
+
+enum-told-2 : tie.Need-enum-told-2
+enum-told-2 c = search needs
+
+returns-3 : tie.Need-returns-3
+returns-3 c =
+    let g = c .before .before .before .before .before .before .before in
+    step-flat _ _ _ _ _ _ _ _ _ _ (sym (g .find-critical-rate-of .ensures .is) ∙ c .before .before .before .before .found .given .1) (sym (c .before .before .implicit-critical-rate-of .ensures) ∙ ap stepOutcome (c .enum-told2 .given .1))
+
+all-requires : tie.Need-all-requires
+all-requires c κs = search needs
+
+components-requires : tie.Need-components-requires
+components-requires c κs = let s = c .before .before .before .before .before .before .before .before .before .before .before .before .before .before .before .pre in (s .1, s .2, s .3, s .4)
+
+finished-requires : tie.Need-finished-requires
+finished-requires c κs = search needs
+
+returns-4 : tie.Need-returns-4
+returns-4 c =
+    let g = c .before .before .before .before .before .before .before .before .before .before .before in
+    let found = c .before .before .before .before .before .before .before .before in
+    let stepped = c .before .before .before .before in
+    valued _ _ _ _ _ _ _ _ _ _ (sym (g .find-critical-rate-of .ensures .is) ∙ found .found .given .1) (sym (stepped .before .before .implicit-critical-rate-of .ensures) ∙ ap stepOutcome (stepped .stepped .given .1)) (c .before .before .all .ensures) (c .before .components .ensures) (c .finished .ensures)
+
+pub priced-by-spec : {M : Type 1} → statement M
+priced-by-spec =
+    tie.close
+    (tie.spec
+    find-critical-rate-of-requires
+    enum-told
+    returns
+    enum-known-found
+    returns-2
+    implicit-critical-rate-of-requires
+    enum-known-stepped
+    enum-told-2
+    returns-3
+    all-requires
+    components-requires
+    finished-requires
+    returns-4)

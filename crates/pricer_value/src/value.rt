@@ -1,0 +1,201 @@
+// swaption_value behind its rules: the lookups, the terms, the search, the Newton step, and the value after it.
+ghost use mathlib.Core.Path.{_≡_};
+ghost use mathlib.Core.Bool.{true};
+ghost use Prim.Native.Nat.{_≤_};
+ghost use lib.ListN.{length};
+ghost use Rattle.refusals.specs.Checks.{inOrder};
+ghost use Rattle.pricer_formulas.specs.Affine.{pricerDeviationOf, affineAListOf};
+ghost use Rattle.pricer_value.specs.Value.{valuationOutcome, pricedBy, swaptionPriced, finishingValuation};
+use hullwhite_terms::Terms;
+use pricer_formulas::Step;
+use pricer_formulas::SwaptionType;
+use refusals::Refusal;
+use refusals::Test;
+use search::Bracket;
+use search::Critical;
+
+// The value, the critical rate after and before the Newton step, the final bracket, and the rungs.
+pub enum Valuation {
+    Served {
+        value: f64,
+        stepped: f64,
+        rate: f64,
+        bracket: Bracket,
+        below: u64,
+        above: u64,
+    },
+    Refused(Refusal),
+}
+
+// The factors and the terms, then the value. A caller that has asked the rules has the coupons' lists of one length
+// of at most 64, and a curve whose times strictly rise.
+pub fn swaption_priced(
+    option: SwaptionType,
+    alpha: f64,
+    pillars: &[f64],
+    sigmas: &[f64],
+    times: &[f64],
+    factors: &[f64],
+    payments: &[f64],
+    accruals: &[f64],
+    own_dfs: &[f64],
+    strike: f64,
+    t: f64,
+    notional: f64,
+    side: f64,
+) -> Valuation
+    requires { ⌜ (length (now payments) ≤ 64) × (length (now accruals) ≡ length (now payments)) × (length (now «own_dfs») ≡ length (now payments)) × (inOrder true (now times) ≡ true) ⌝ }
+    ensures { λ r. ⌜ valuationOutcome r ≡ swaptionPriced option alpha (now (pillars .entry)) (now (sigmas .entry)) (now (times .entry)) (now (factors .entry)) (now (payments .entry)) (now (accruals .entry)) (now («own_dfs» .entry)) strike t notional side ⌝ }
+{
+    let n = payments.len();
+    let mut c = [0.0; 64];
+    let mut b = [0.0; 64];
+    let mut p = [0.0; 64];
+    let worked = hullwhite_terms::swaption_terms(
+        alpha,
+        times,
+        factors,
+        payments,
+        accruals,
+        strike,
+        t,
+        &mut c[..n],
+        &mut b[..n],
+        &mut p[..n],
+    );
+    match worked {
+        Terms::Refused(refusal) => Valuation::Refused(refusal),
+        Terms::Served { p_t, forward } => {
+            let state_variance = hullwhite_parameters::hull_white_piecewise_variance_of(
+                alpha,
+                pillars,
+                sigmas,
+                0.0,
+                t,
+            );
+            terms_priced(
+                option,
+                state_variance,
+                p_t,
+                forward,
+                &c[..n],
+                &b[..n],
+                &p[..n],
+                own_dfs,
+                notional,
+                side,
+            )
+        }
+    }
+}
+
+// A of each term, then the value; the lists are of one length of at most 64.
+fn terms_priced(
+    option: SwaptionType,
+    state_variance: f64,
+    p_t: f64,
+    forward: f64,
+    c: &[f64],
+    b: &[f64],
+    p: &[f64],
+    own_dfs: &[f64],
+    notional: f64,
+    side: f64,
+) -> Valuation
+    requires { ⌜ (length (now c) ≤ 64) × (length (now b) ≡ length (now c)) × (length (now p) ≡ length (now c)) × (length (now «own_dfs») ≡ length (now c)) ⌝ }
+    ensures { λ r. ⌜ valuationOutcome r ≡ pricedBy option (pricerDeviationOf «state_variance») «p_t» (now (c .entry)) (affineAListOf «state_variance» forward «p_t» (now (b .entry)) (now (p .entry))) (now (b .entry)) (now (p .entry)) (now («own_dfs» .entry)) notional side ⌝ }
+{
+    let n = c.len();
+    let mut a = [0.0; 64];
+    pricer_formulas::affine_a_list(state_variance, forward, p_t, b, p, &mut a[..n]);
+    let deviation = pricer_formulas::pricer_deviation(state_variance);
+    priced_by(
+        option,
+        deviation,
+        p_t,
+        c,
+        &a[..n],
+        b,
+        p,
+        own_dfs,
+        notional,
+        side,
+    )
+}
+
+// The search, the Newton step, the components. A caller that has worked the terms has the lists of one length
+// of at most 64.
+fn priced_by(
+    option: SwaptionType,
+    deviation: f64,
+    p_t: f64,
+    c: &[f64],
+    a: &[f64],
+    b: &[f64],
+    p: &[f64],
+    own_dfs: &[f64],
+    notional: f64,
+    side: f64,
+) -> Valuation
+    requires { ⌜ (length (now c) ≤ 64) × (length (now a) ≡ length (now c)) × (length (now b) ≡ length (now c)) × (length (now p) ≡ length (now c)) × (length (now «own_dfs») ≡ length (now c)) ⌝ }
+    ensures { λ r. ⌜ valuationOutcome r ≡ pricedBy option deviation «p_t» (now (c .entry)) (now (a .entry)) (now (b .entry)) (now (p .entry)) (now («own_dfs» .entry)) notional side ⌝ }
+{
+    let found = hullwhite_terms::find_critical_rate_of(c, a, b);
+    if let Critical::NotANumber = found {
+        return Valuation::Refused(Refusal::NanReached);
+    }
+    let Critical::Found {
+        bracket,
+        below,
+        above,
+        rate,
+    } = found
+    else {
+        return Valuation::Refused(Refusal::NoBracket);
+    };
+    let Step::To(stepped) = pricer_formulas::implicit_critical_rate_of(rate, c, a, b) else {
+        return Valuation::Refused(Refusal::FlatDerivative);
+    };
+    let own = !refusals::all(own_dfs, Test::Zero);
+    let sum = pricer_formulas::components(
+        option,
+        own,
+        deviation,
+        p_t,
+        stepped,
+        c,
+        a,
+        b,
+        p,
+        own_dfs,
+    );
+    finished(sum * notional * side, stepped, rate, bracket, below, above)
+}
+
+// Rule 13 looks at every float of the answer.
+fn finished(
+    value: f64,
+    stepped: f64,
+    rate: f64,
+    bracket: Bracket,
+    below: u64,
+    above: u64,
+) -> Valuation
+    ensures { λ r. ⌜ valuationOutcome r ≡ finishingValuation (record { value = value; after-step = stepped; root = record { rate = rate; bracket = bracket; low-rung = below; high-rung = above } }) ⌝ }
+{
+    let finite = math_elementary::is_finite(value)
+        & math_elementary::is_finite(stepped)
+        & search::root_finite(rate, bracket);
+    if finite {
+        Valuation::Served {
+            value,
+            stepped,
+            rate,
+            bracket,
+            below,
+            above,
+        }
+    } else {
+        Valuation::Refused(Refusal::Overflow)
+    }
+}

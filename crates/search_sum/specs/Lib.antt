@@ -1,0 +1,2 @@
+-- What the contracts of `search_sum` say.
+pub mod Sum

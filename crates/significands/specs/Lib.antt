@@ -1,2 +1,0 @@
--- What the contracts of `significands` say.
-pub mod Parts

@@ -1,4 +1,0 @@
--- What the contracts of `steps` say.
-pub mod Open
-pub mod Rounding
-pub mod Fixed

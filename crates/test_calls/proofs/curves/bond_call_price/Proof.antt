@@ -1,0 +1,45 @@
+-- `test_calls::curves::bond_call_price` meets its contract: the call's arguments are those of the record. Assumes nothing.
+use borrow.Author.Needs.{needs}
+use Rattle.test_calls.proofs.curves.bond_call_price.Statement.{statement}
+use Rattle.test_calls.proofs.curves.bond_call_price.Tie as tie
+
+float-of-requires : tie.Need-float-of-requires
+float-of-requires c κs = search needs
+
+part-requires : tie.Need-part-requires
+part-requires c κs = search needs
+
+part-requires-2 : tie.Need-part-requires-2
+part-requires-2 c κs = search needs
+
+float-of-requires-2 : tie.Need-float-of-requires-2
+float-of-requires-2 c κs = search needs
+
+float-of-requires-3 : tie.Need-float-of-requires-3
+float-of-requires-3 c κs = search needs
+
+float-of-requires-4 : tie.Need-float-of-requires-4
+float-of-requires-4 c κs = search needs
+
+float-of-requires-5 : tie.Need-float-of-requires-5
+float-of-requires-5 c κs = search needs
+
+bond-call-price-requires : tie.Need-bond-call-price-requires
+bond-call-price-requires c κs = search needs
+
+returns : tie.Need-returns
+returns c = rw (c .bond-call-price .ensures .outcome, c .before .float-of5 .ensures, c .before .before .float-of4 .ensures, c .before .before .before .float-of3 .ensures, c .before .before .before .before .float-of2 .ensures, c .before .before .before .before .before .part2 .ensures, c .before .before .before .before .before .before .part .ensures, c .before .before .before .before .before .before .before .float-of .ensures)
+
+pub bond-call-price-spec : {M : Type 1} → statement M
+bond-call-price-spec =
+    tie.close
+    (tie.spec
+    float-of-requires
+    part-requires
+    part-requires-2
+    float-of-requires-2
+    float-of-requires-3
+    float-of-requires-4
+    float-of-requires-5
+    bond-call-price-requires
+    returns)

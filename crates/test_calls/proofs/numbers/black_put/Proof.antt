@@ -1,0 +1,33 @@
+-- `test_calls::numbers::black_put` meets its contract: the call's arguments are those of the record. Assumes nothing.
+use borrow.Author.Needs.{needs}
+use Rattle.test_calls.proofs.numbers.black_put.Statement.{statement}
+use Rattle.test_calls.proofs.numbers.black_put.Tie as tie
+
+float-of-requires : tie.Need-float-of-requires
+float-of-requires c κs = search needs
+
+float-of-requires-2 : tie.Need-float-of-requires-2
+float-of-requires-2 c κs = search needs
+
+float-of-requires-3 : tie.Need-float-of-requires-3
+float-of-requires-3 c κs = search needs
+
+float-of-requires-4 : tie.Need-float-of-requires-4
+float-of-requires-4 c κs = search needs
+
+black-put-requires : tie.Need-black-put-requires
+black-put-requires c κs = search needs
+
+returns : tie.Need-returns
+returns c = rw (c .black-put .ensures .outcome, c .before .float-of4 .ensures, c .before .before .float-of3 .ensures, c .before .before .before .float-of2 .ensures, c .before .before .before .before .float-of .ensures)
+
+pub black-put-spec : {M : Type 1} → statement M
+black-put-spec =
+    tie.close
+    (tie.spec
+    float-of-requires
+    float-of-requires-2
+    float-of-requires-3
+    float-of-requires-4
+    black-put-requires
+    returns)

@@ -1,2 +1,0 @@
--- What the contracts of `wide` say.
-pub mod Words
