@@ -7,6 +7,16 @@ use borrow.Author.Needs.{needs}
 use Rattle.pricer_value.proofs.value.priced_by.Statement.{statement}
 use Rattle.pricer_value.proofs.value.priced_by.Tie as tie
 
+-- the points of the walk that the rest speaks of: where it was called, from the search; the search, from the rate found; and the rate found, from the rate stepped
+abbrev called : tie.After-find-critical-rate-of → tie.Start
+called c = c .before .before .before .before .before .before
+
+abbrev searched : tie.After-found → tie.After-find-critical-rate-of
+searched c = c .before .before .before
+
+abbrev found : tie.After-stepped → tie.After-found
+found c = c .before .before .before .before
+
 find-critical-rate-of-requires : tie.Need-find-critical-rate-of-requires
 find-critical-rate-of-requires c κs = search needs
 
@@ -23,7 +33,7 @@ returns-2 : tie.Need-returns-2
 returns-2 c = let g = c .before .before in search-none _ _ _ _ _ _ _ _ _ _ (sym (g .find-critical-rate-of .ensures .is) ∙ nothing-found (g .find-critical-rate-of .result) (c .before .match .keys2) (c .match2 .keys2))
 
 implicit-critical-rate-of-requires : tie.Need-implicit-critical-rate-of-requires
-implicit-critical-rate-of-requires c κs = let s = c .before .before .before .before .before .before .before .before .before .before .pre in (s .1, s .2)
+implicit-critical-rate-of-requires c κs = let s = called (searched (c .before)) .pre in (s .1, s .2)
 
 enum-known-stepped : tie.Need-enum-known-stepped
 enum-known-stepped c = search needs
@@ -40,17 +50,17 @@ all-requires : tie.Need-all-requires
 all-requires c κs = search needs
 
 components-requires : tie.Need-components-requires
-components-requires c κs = let s = c .before .before .before .before .before .before .before .before .before .before .before .before .before .before .before .pre in (s .1, s .2, s .3, s .4)
+components-requires c κs = let s = called (searched (found (c .before .before))) .pre in (s .1, s .2, s .3, s .4)
 
 finished-requires : tie.Need-finished-requires
 finished-requires c κs = search needs
 
 returns-4 : tie.Need-returns-4
 returns-4 c =
-    let g = c .before .before .before .before .before .before .before .before .before .before .before in
-    let found = c .before .before .before .before .before .before .before .before in
     let stepped = c .before .before .before .before in
-    valued _ _ _ _ _ _ _ _ _ _ (sym (g .find-critical-rate-of .ensures .is) ∙ found .found .given .1) (sym (stepped .before .before .implicit-critical-rate-of .ensures) ∙ ap stepOutcome (stepped .stepped .given .1)) (c .before .before .all .ensures) (c .before .components .ensures) (c .finished .ensures)
+    let f = stepped .before .before .before .before in
+    let g = f .before .before .before in
+    valued _ _ _ _ _ _ _ _ _ _ (sym (g .find-critical-rate-of .ensures .is) ∙ f .found .given .1) (sym (stepped .before .before .implicit-critical-rate-of .ensures) ∙ ap stepOutcome (stepped .stepped .given .1)) (c .before .before .all .ensures) (c .before .components .ensures) (c .finished .ensures)
 
 pub priced-by-spec : {M : Type 1} → statement M
 priced-by-spec =
