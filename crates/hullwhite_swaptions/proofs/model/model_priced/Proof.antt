@@ -8,6 +8,13 @@ use borrow.Author.Needs.{needs}
 use Rattle.hullwhite_swaptions.proofs.model.model_priced.Statement.{statement}
 use Rattle.hullwhite_swaptions.proofs.model.model_priced.Tie as tie
 
+-- the points of the walk that the rest speaks of: where it was called, from the last of the lists known, and where the terms are worked out, from where they are served
+abbrev called : tie.After-shared-slice-known4 → tie.Start
+called c = c .before .before .before .before
+
+abbrev worked-out : tie.After-known-told2 → tie.After-swaption-terms
+worked-out c = c .before .before .before .before .before .before
+
 -- ---- what was written into the lent lists
 abbrev cs-of : tie.After-swaption-terms → List Float
 cs-of g = g .swaption-terms .last .1 .1 .1 .1 .1 .1 .1 .0
@@ -24,23 +31,23 @@ array-borrow-prefix-c : tie.Need-array-borrow-prefix-c
 array-borrow-prefix-c c = search needs
 
 slice-aggregate-swaption-terms : tie.Need-slice-aggregate-swaption-terms
-slice-aggregate-swaption-terms c = lent-is work _ (c .before .before .before .before .before .pre .0)
+slice-aggregate-swaption-terms c = lent-is work _ (called (c .before) .pre .0)
 
 array-borrow-prefix-b : tie.Need-array-borrow-prefix-b
 array-borrow-prefix-b c = search needs
 
 slice-aggregate-swaption-terms-2 : tie.Need-slice-aggregate-swaption-terms-2
-slice-aggregate-swaption-terms-2 c = lent-is work _ (c .before .before .before .before .before .before .pre .0)
+slice-aggregate-swaption-terms-2 c = lent-is work _ (called (c .before .before) .pre .0)
 
 array-borrow-prefix-p : tie.Need-array-borrow-prefix-p
 array-borrow-prefix-p c = search needs
 
 slice-aggregate-swaption-terms-3 : tie.Need-slice-aggregate-swaption-terms-3
-slice-aggregate-swaption-terms-3 c = lent-is work _ (c .before .before .before .before .before .before .before .pre .0)
+slice-aggregate-swaption-terms-3 c = lent-is work _ (called (c .before .before .before) .pre .0)
 
 swaption-terms-requires : tie.Need-swaption-terms-requires
 swaption-terms-requires c κs =
-    let s = c .before .before .before .before .before .before .before .pre in
+    let s = called (c .before .before .before) .pre in
     let l = sym (lent-is work _ (s .0)) in
     (s .2, s .1, l, l, l)
 
@@ -51,27 +58,27 @@ enum-known-worked-2 : tie.Need-enum-known-worked-2
 enum-known-worked-2 c = search needs
 
 array-share-prefix-c : tie.Need-array-share-prefix-c
-array-share-prefix-c c = let g = c .before .before .before .before .before .before in back-fits work _ (g .before .before .before .before .before .before .before .before .pre .0) (cs-of g) (g .swaption-terms .kept .1 .1 .1 .1 .1 .1 .1 .0)
+array-share-prefix-c c = let g = worked-out c in back-fits work _ (called (g .before .before .before .before) .pre .0) (cs-of g) (g .swaption-terms .kept .1 .1 .1 .1 .1 .1 .1 .0)
 
 slice-aggregate-terms-priced : tie.Need-slice-aggregate-terms-priced
-slice-aggregate-terms-priced c = let g = c .before .before .before .before .before .before .before in back-is work _ (g .before .before .before .before .before .before .before .before .pre .0) (cs-of g) (g .swaption-terms .kept .1 .1 .1 .1 .1 .1 .1 .0)
+slice-aggregate-terms-priced c = let g = worked-out (c .before) in back-is work _ (called (g .before .before .before .before) .pre .0) (cs-of g) (g .swaption-terms .kept .1 .1 .1 .1 .1 .1 .1 .0)
 
 array-share-prefix-b : tie.Need-array-share-prefix-b
-array-share-prefix-b c = let g = c .before .before .before .before .before .before .before in back-fits work _ (g .before .before .before .before .before .before .before .before .pre .0) (bs-of g) (g .swaption-terms .kept .1 .1 .1 .1 .1 .1 .1 .1 .0)
+array-share-prefix-b c = let g = worked-out (c .before) in back-fits work _ (called (g .before .before .before .before) .pre .0) (bs-of g) (g .swaption-terms .kept .1 .1 .1 .1 .1 .1 .1 .1 .0)
 
 slice-aggregate-terms-priced-2 : tie.Need-slice-aggregate-terms-priced-2
-slice-aggregate-terms-priced-2 c = let g = c .before .before .before .before .before .before .before .before in back-is work _ (g .before .before .before .before .before .before .before .before .pre .0) (bs-of g) (g .swaption-terms .kept .1 .1 .1 .1 .1 .1 .1 .1 .0)
+slice-aggregate-terms-priced-2 c = let g = worked-out (c .before .before) in back-is work _ (called (g .before .before .before .before) .pre .0) (bs-of g) (g .swaption-terms .kept .1 .1 .1 .1 .1 .1 .1 .1 .0)
 
 array-share-prefix-p : tie.Need-array-share-prefix-p
-array-share-prefix-p c = let g = c .before .before .before .before .before .before .before .before in back-fits work _ (g .before .before .before .before .before .before .before .before .pre .0) (ps-of g) (g .swaption-terms .kept .1 .1 .1 .1 .1 .1 .1 .1 .1 .0)
+array-share-prefix-p c = let g = worked-out (c .before .before) in back-fits work _ (called (g .before .before .before .before) .pre .0) (ps-of g) (g .swaption-terms .kept .1 .1 .1 .1 .1 .1 .1 .1 .1 .0)
 
 slice-aggregate-terms-priced-3 : tie.Need-slice-aggregate-terms-priced-3
-slice-aggregate-terms-priced-3 c = let g = c .before .before .before .before .before .before .before .before .before in back-is work _ (g .before .before .before .before .before .before .before .before .pre .0) (ps-of g) (g .swaption-terms .kept .1 .1 .1 .1 .1 .1 .1 .1 .1 .0)
+slice-aggregate-terms-priced-3 c = let g = worked-out (c .before .before .before) in back-is work _ (called (g .before .before .before .before) .pre .0) (ps-of g) (g .swaption-terms .kept .1 .1 .1 .1 .1 .1 .1 .1 .1 .0)
 
 terms-priced-requires : tie.Need-terms-priced-requires
 terms-priced-requires c κs =
-    let g = c .before .before .before .before .before .before .before .before .before in
-    let s = g .before .before .before .before .before .before .before .before .pre .0 in
+    let g = worked-out (c .before .before .before) in
+    let s = called (g .before .before .before .before) .pre .0 in
     let n = back-is work _ s (cs-of g) (g .swaption-terms .kept .1 .1 .1 .1 .1 .1 .1 .0) in
     (rw (← n) s, sym (back-is work _ s (bs-of g) (g .swaption-terms .kept .1 .1 .1 .1 .1 .1 .1 .1 .0)) ∙ n, sym (back-is work _ s (ps-of g) (g .swaption-terms .kept .1 .1 .1 .1 .1 .1 .1 .1 .1 .0)) ∙ n)
 
@@ -80,9 +87,10 @@ returns c = let g = c .before .before .before .before .before .before in off-cur
 
 returns-2 : tie.Need-returns-2
 returns-2 c =
-    let g = c .before .before .before .before .before .before .before .before .before .before in
-    let s = g .before .before .before .before .before .before .before .before .pre .0 in
-    on-curve _ _ _ _ _ _ _ _ _ _ _ _ (g .swaption-terms .ensures) (c .before .before .before .before .before .worked2 .given .1) (values-are work _ s (cs-of g) (g .swaption-terms .kept .1 .1 .1 .1 .1 .1 .1 .0)) (values-are work _ s (bs-of g) (g .swaption-terms .kept .1 .1 .1 .1 .1 .1 .1 .1 .0)) (values-are work _ s (ps-of g) (g .swaption-terms .kept .1 .1 .1 .1 .1 .1 .1 .1 .1 .0)) (c .terms-priced .ensures)
+    let w = c .before .before .before .before .before in
+    let g = w .before .before .before .before .before in
+    let s = called (g .before .before .before .before) .pre .0 in
+    on-curve _ _ _ _ _ _ _ _ _ _ _ _ (g .swaption-terms .ensures) (w .worked2 .given .1) (values-are work _ s (cs-of g) (g .swaption-terms .kept .1 .1 .1 .1 .1 .1 .1 .0)) (values-are work _ s (bs-of g) (g .swaption-terms .kept .1 .1 .1 .1 .1 .1 .1 .1 .0)) (values-are work _ s (ps-of g) (g .swaption-terms .kept .1 .1 .1 .1 .1 .1 .1 .1 .1 .0)) (c .terms-priced .ensures)
 
 pub model-priced-spec : {M : Type 1} → statement M
 model-priced-spec =

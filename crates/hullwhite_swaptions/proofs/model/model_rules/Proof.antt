@@ -34,10 +34,13 @@ and-rule-requires-5 c κs = search needs
 and-rule-requires-6 : tie.Need-and-rule-requires-6
 and-rule-requires-6 c κs = search needs
 
+-- the points of the walk that it speaks of: the first rule, and where it is known of all four numbers whether they are finite
 returns : tie.Need-returns
 returns c =
-    let finite = rw (c .before .before .before .before .before .before .before .before .before .before .before .before .before .before .is-finite .ensures, c .before .before .before .before .before .before .before .before .before .before .before .before .before .is-finite2 .ensures, c .before .before .before .before .before .before .before .before .before .before .before .before .is-finite3 .ensures, c .before .before .before .before .before .before .before .before .before .before .before .is-finite4 .ensures) at (c .before .before .before .before .before .and-rule2 .ensures) in
-    asked _ _ (ask (c .before .before .before .before .before .before .before .before .and-rule .ensures) (ask finite (ask (c .before .before .before .before .and-rule3 .ensures) (ask (c .before .before .before .and-rule4 .ensures) (ask (c .before .before .and-rule5 .ensures) (ask (c .and-rule6 .ensures) end))))))
+    let first = c .before .before .before .before .before .before .before .before in
+    let known = first .before .before .before in
+    let finite = rw (known .before .before .before .is-finite .ensures, known .before .before .is-finite2 .ensures, known .before .is-finite3 .ensures, known .is-finite4 .ensures) at (c .before .before .before .before .before .and-rule2 .ensures) in
+    asked _ _ (ask (first .and-rule .ensures) (ask finite (ask (c .before .before .before .before .and-rule3 .ensures) (ask (c .before .before .before .and-rule4 .ensures) (ask (c .before .before .and-rule5 .ensures) (ask (c .and-rule6 .ensures) end))))))
 
 pub model-rules-spec : {M : Type 1} → statement M
 model-rules-spec =
