@@ -1,6 +1,7 @@
 // The formulas of the Hull-White model on plain numbers, as the Rust writes them: every operation in its
 // order, fused where it says mul_add. Nothing is refused here.
 mod hullwhite;
+mod instruments;
 
 pub use hullwhite::VolatilityParts;
 pub use hullwhite::a_at;
@@ -23,3 +24,4 @@ pub use hullwhite::volatility_parts;
 pub use hullwhite::zcb_price_of;
 pub use hullwhite::zcb_price_volatility_at;
 pub use hullwhite::zcb_price_volatility_of;
+pub use instruments::Optionlet;
