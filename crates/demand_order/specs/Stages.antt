@@ -34,11 +34,11 @@ abbrev pub stageOf : Refusal → Stage
 stageOf r = stageAt (placeOf r)
 
 -- the stages' own order
-abbrev pub turnOf : Stage → ℕ
-turnOf by-rule = 1
-turnOf off-curve = 2
-turnOf evaluated = 3
-turnOf finished = 4
+abbrev pub orderOf : Stage → ℕ
+orderOf by-rule = 1
+orderOf off-curve = 2
+orderOf evaluated = 3
+orderOf finished = 4
 
 -- what is met in an earlier stage has a smaller place
 abbrev Within : Stage → ℕ → Type 0
@@ -60,7 +60,7 @@ within place =
     let other = eqb-false place (placeOf R.OffCurve) b in
     chosen P (ltb place (placeOf R.Overflow)) _ _ (λ c. (omega arith, ltb-true place (placeOf R.Overflow) c)) (ltb-false place (placeOf R.Overflow))))
 
-apart : (s t : Stage) (m n : ℕ) → Within s m → Within t n → turnOf s < turnOf t → m < n
+apart : (s t : Stage) (m n : ℕ) → Within s m → Within t n → orderOf s < orderOf t → m < n
 apart by-rule by-rule m n a b h = omega arith
 apart by-rule off-curve m n a b h = omega arith
 apart by-rule evaluated m n a b h = omega arith
@@ -78,7 +78,7 @@ apart finished off-curve m n a b h = omega arith
 apart finished evaluated m n a b h = omega arith
 apart finished finished m n a b h = omega arith
 
-pub by-place : (q r : Refusal) → turnOf (stageOf q) < turnOf (stageOf r) → placeOf q < placeOf r
+pub by-place : (q r : Refusal) → orderOf (stageOf q) < orderOf (stageOf r) → placeOf q < placeOf r
 by-place q r h = apart (stageOf q) (stageOf r) (placeOf q) (placeOf r) (within (placeOf q)) (within (placeOf r)) h
 
 -- refused, if at all, by what belongs to the stage

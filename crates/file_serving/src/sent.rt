@@ -49,8 +49,9 @@ pub fn failed(sent: Sent) -> bool
     sent.failed
 }
 
-// The one call that writes: the piece of the file's output that is due, behind no write that failed. A state may be
-// copied, `due` may not: once a piece is sent, an older state is not due any more.
+// The one call that writes: the piece of the file's output that is due, behind no write that failed. A caller that
+// sends a file's pieces from the first on, each as it was worked, has both. A state may be copied, `due` may not: once a
+// piece is sent, an older state is not due any more.
 pub fn send(sent: Sent, due: &mut usize, text: &[u8]) -> Sent
     requires { ⌜ Due (fileOf sent) sent (now due) × (now due < length (piecesOf (fileOf sent))) × (now text ≡ pieceOf (fileOf sent) (now due)) ⌝ }
     ensures { λ r. ⌜ SameFile sent r × (r .next ≡ sent .next + 1) × (now (due .exit) ≡ r .next) ⌝ }

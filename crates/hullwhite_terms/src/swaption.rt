@@ -17,8 +17,9 @@ pub enum Terms {
 }
 
 // Looks up the factor at t, at t + h and at every payment time, in this order, and works the coefficients c and the
-// B b beside the factors p. Rule 1 has the coupons' lists of one length and rule 4 the curve's times strictly
-// rising; each list that is lent has a place a coupon. Beside a refusal they hold what was worked before it.
+// B b beside the factors p. A caller that has asked the rules has the coupons' lists of one length (rule 1) and the
+// curve's times strictly rising (rule 4), and lends a place a coupon in each list. Beside a refusal they hold what was
+// worked before it.
 pub fn swaption_terms(
     alpha: f64,
     times: &[f64],

@@ -3,7 +3,7 @@
 ghost use mathlib.Core.Path.{_≡_};
 ghost use mathlib.Core.Bool.{true};
 ghost use Rattle.math_bisection.specs.Solve.{sameSign, closeEnough, endsMovedTo};
-use math_elementary::same;
+use math_elementary::surely_same;
 
 // The last two ends with their residuals.
 pub struct Ends {
@@ -52,8 +52,8 @@ pub fn moved(ends: Ends, sigma: f64, residual: f64) -> Ends
 pub fn unmoved(x: Ends, y: Ends) -> bool
     ensures { λ r. ⌜ (r ≡ true → x ≡ y) ⌝ }
 {
-    same(x.low, y.low)
-        & same(x.high, y.high)
-        & same(x.low_residual, y.low_residual)
-        & same(x.high_residual, y.high_residual)
+    surely_same(x.low, y.low)
+        & surely_same(x.high, y.high)
+        & surely_same(x.low_residual, y.low_residual)
+        & surely_same(x.high_residual, y.high_residual)
 }

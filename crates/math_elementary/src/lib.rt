@@ -12,5 +12,5 @@ pub use simple::is_finite;
 pub use simple::max;
 pub use simple::midpoint;
 pub use simple::min;
-pub use simple::same;
 pub use simple::signum;
+pub use simple::surely_same;

@@ -68,7 +68,7 @@ pub fn is_finite(x: f64) -> bool
 }
 
 // Whether two f64 are surely the same value. Of zeros it says no: `==` does not see their sign.
-pub fn same(x: f64, y: f64) -> bool
+pub fn surely_same(x: f64, y: f64) -> bool
     ensures { λ r. ⌜ (r ≡ true → x ≡ y) ⌝ }
 {
     if x != y {

@@ -11,7 +11,7 @@ ghost use Rattle.math_exponential.specs.Exp.{moderate, nearestWhole, kOf
 ghost use Rattle.math_exponential.specs.ExactCases.{exactCases};
 use math_elementary::LN_2_HIGH;
 use math_elementary::LN_2_LOW;
-use math_elementary::same;
+use math_elementary::surely_same;
 
 // Above the first exp is infinite, below the second 0.
 const TOP: f64 = 710.0;
@@ -209,7 +209,7 @@ fn guessed(x: f64) -> f64
         k -= 1;
         let n = (1 + k) as f64;
         let guess = 1.0 + (x * p) * (1.0 / n);
-        if same(guess, turn(x, p, n)) {
+        if surely_same(guess, turn(x, p, n)) {
             p = guess;
         } else {
             return series(x, 1, 13);

@@ -12,33 +12,33 @@ use Rattle.pricer_formulas.specs.declared.bond_option.SwaptionType.{SwaptionTyp
 use Rattle.pricer_formulas.specs.BondOption.{intrinsicOf, flooredAtZeroOf, movingOf, pricerBondOptionOf}
 
 -- 1e-12, and the f64s beside it
-abbrev pub justAt : Float
-justAt = decimal 1 12
+abbrev pub atLimit : Float
+atLimit = decimal 1 12
 
-abbrev pub justAbove : Float
-justAbove = ofBits binary64 0x3d71_9799_812d_ea12
+abbrev pub aboveLimit : Float
+aboveLimit = ofBits binary64 0x3d71_9799_812d_ea12
 
-abbrev pub justBelow : Float
-justBelow = ofBits binary64 0x3d71_9799_812d_ea10
+abbrev pub belowLimit : Float
+belowLimit = ofBits binary64 0x3d71_9799_812d_ea10
 
-pub limit-between : justAt ≡ ofBits binary64 0x3d71_9799_812d_ea11
+pub limit-between : atLimit ≡ ofBits binary64 0x3d71_9799_812d_ea11
 unfolding decimal ofBits
 limit-between = refl
 
 -- ---- bond volatility
-still-at : le justAt justAt ≡ true
+still-at : le atLimit atLimit ≡ true
 unfolding le decimal
 still-at = refl
 
-moves-above : le justAbove justAt ≡ false
+moves-above : le aboveLimit atLimit ≡ false
 unfolding le decimal ofBits
 moves-above = refl
 
-pub intrinsic-at-limit : (option : SwaptionType) (strike optionDf bondDf : Float) → pricerBondOptionOf option justAt strike optionDf bondDf ≡ flooredAtZeroOf (intrinsicOf option (strike ⊗ optionDf) bondDf)
+pub intrinsic-at-limit : (option : SwaptionType) (strike optionDf bondDf : Float) → pricerBondOptionOf option atLimit strike optionDf bondDf ≡ flooredAtZeroOf (intrinsicOf option (strike ⊗ optionDf) bondDf)
 unfolding pricerBondOptionOf
 intrinsic-at-limit option strike optionDf bondDf = rw still-at refl
 
-pub moving-above-limit : (option : SwaptionType) (strike optionDf bondDf : Float) → pricerBondOptionOf option justAbove strike optionDf bondDf ≡ movingOf option justAbove (strike ⊗ optionDf) bondDf
+pub moving-above-limit : (option : SwaptionType) (strike optionDf bondDf : Float) → pricerBondOptionOf option aboveLimit strike optionDf bondDf ≡ movingOf option aboveLimit (strike ⊗ optionDf) bondDf
 unfolding pricerBondOptionOf
 moving-above-limit option strike optionDf bondDf = rw moves-above refl
 
@@ -46,24 +46,24 @@ moving-above-limit option strike optionDf bondDf = rw moves-above refl
 abbrev exponentialWeight : Float → Float → Float → Float → Float
 exponentialWeight alpha end lower upper = expOf (neg two ⊗ alpha ⊗ (end ⊖ upper)) ⊗ neg (expM1Of (neg two ⊗ alpha ⊗ (upper ⊖ lower))) ⊘ (two ⊗ alpha)
 
-weight-at : (alpha end lower upper : Float) → lt (absOf alpha) justAt ≡ false → weightOf alpha end lower upper ≡ exponentialWeight alpha end lower upper
+weight-at : (alpha end lower upper : Float) → lt (absOf alpha) atLimit ≡ false → weightOf alpha end lower upper ≡ exponentialWeight alpha end lower upper
 unfolding weightOf
 weight-at alpha end lower upper h = rw h refl
 
-weight-below : (alpha end lower upper : Float) → lt (absOf alpha) justAt ≡ true → weightOf alpha end lower upper ≡ upper ⊖ lower
+weight-below : (alpha end lower upper : Float) → lt (absOf alpha) atLimit ≡ true → weightOf alpha end lower upper ≡ upper ⊖ lower
 unfolding weightOf
 weight-below alpha end lower upper h = rw h refl
 
-sized-at : (lt (absOf justAt) justAt ≡ false) × (lt (absOf (neg justAt)) justAt ≡ false)
+sized-at : (lt (absOf atLimit) atLimit ≡ false) × (lt (absOf (neg atLimit)) atLimit ≡ false)
 unfolding lt neg decimal
 sized-at = (refl, refl)
 
-sized-below : (lt (absOf justBelow) justAt ≡ true) × (lt (absOf (neg justBelow)) justAt ≡ true)
+sized-below : (lt (absOf belowLimit) atLimit ≡ true) × (lt (absOf (neg belowLimit)) atLimit ≡ true)
 unfolding lt neg decimal ofBits
 sized-below = (refl, refl)
 
-pub exponential-at-limit : (end lower upper : Float) → (weightOf justAt end lower upper ≡ exponentialWeight justAt end lower upper) × (weightOf (neg justAt) end lower upper ≡ exponentialWeight (neg justAt) end lower upper)
-exponential-at-limit end lower upper = (weight-at justAt end lower upper (sized-at .0), weight-at (neg justAt) end lower upper (sized-at .1))
+pub exponential-at-limit : (end lower upper : Float) → (weightOf atLimit end lower upper ≡ exponentialWeight atLimit end lower upper) × (weightOf (neg atLimit) end lower upper ≡ exponentialWeight (neg atLimit) end lower upper)
+exponential-at-limit end lower upper = (weight-at atLimit end lower upper (sized-at .0), weight-at (neg atLimit) end lower upper (sized-at .1))
 
-pub flat-below-limit : (end lower upper : Float) → (weightOf justBelow end lower upper ≡ upper ⊖ lower) × (weightOf (neg justBelow) end lower upper ≡ upper ⊖ lower)
-flat-below-limit end lower upper = (weight-below justBelow end lower upper (sized-below .0), weight-below (neg justBelow) end lower upper (sized-below .1))
+pub flat-below-limit : (end lower upper : Float) → (weightOf belowLimit end lower upper ≡ upper ⊖ lower) × (weightOf (neg belowLimit) end lower upper ≡ upper ⊖ lower)
+flat-below-limit end lower upper = (weight-below belowLimit end lower upper (sized-below .0), weight-below (neg belowLimit) end lower upper (sized-below .1))

@@ -4,7 +4,7 @@ ghost use mathlib.Core.Bool.{true};
 ghost use Rattle.search_sum.specs.Sum.{weightedSum};
 ghost use Rattle.search.specs.Rate.{halveOf, halvingsOf};
 use super::Bracket;
-use math_elementary::same;
+use math_elementary::surely_same;
 
 // What a halving, or a run of them, comes to: a bracket, or a stop at a NaN sum.
 pub enum Halving {
@@ -42,8 +42,8 @@ fn halve(weights: &[f64], b: &[f64], bracket: Bracket) -> Halving
 fn same_ends(x: Bracket, y: Bracket) -> bool
     ensures { λ r. ⌜ (r ≡ true → (x .lower ≡ y .lower) × (x .upper ≡ y .upper)) ⌝ }
 {
-    if same(x.lower, y.lower) {
-        same(x.upper, y.upper)
+    if surely_same(x.lower, y.lower) {
+        surely_same(x.upper, y.upper)
     } else {
         false
     }

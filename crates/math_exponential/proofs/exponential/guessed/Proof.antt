@@ -29,8 +29,8 @@ int-to-float-n c = search needs
 turn-requires : tie.Need-turn-requires Inv-loop μ-loop
 turn-requires c κs = search needs
 
-same-requires : tie.Need-same-requires Inv-loop μ-loop
-same-requires c κs = search needs
+surely-same-requires : tie.Need-surely-same-requires Inv-loop μ-loop
+surely-same-requires c κs = search needs
 
 loop-less : tie.Need-loop-less Inv-loop μ-loop
 loop-less c = search needs
@@ -40,7 +40,7 @@ loop-again c =
     let s = c .before in
     let t = s .before .before .before in
     let l = t .before in
-    (search needs, ap (seriesOf (l .before .args .x) 1 (l .loop .k - 1)) (s .same .ensures (c .if1 .taken) ∙ s .before .turn .ensures) ∙ series-turn _ _ _ _ (t .loop-test .taken) ∙ l .loop .inv .1)
+    (search needs, ap (seriesOf (l .before .args .x) 1 (l .loop .k - 1)) (s .surely-same .ensures (c .if1 .taken) ∙ s .before .turn .ensures) ∙ series-turn _ _ _ _ (t .loop-test .taken) ∙ l .loop .inv .1)
 
 series-requires : tie.Need-series-requires Inv-loop μ-loop
 series-requires c κs = search needs
@@ -62,7 +62,7 @@ guessed-spec =
     add-n
     int-to-float-n
     turn-requires
-    same-requires
+    surely-same-requires
     loop-less
     loop-again
     series-requires
