@@ -58,7 +58,7 @@ unfolding bondOptionPriced stateDeviationOf
 returns-3 c =
     let v = c .before .before in
     let m = v .before .before in
-    let j = m .before .before in
+    let j = m .before .before .before in
     let i = j .before .before .before .before in
     let d = i .before .before .before .volatility-parts .ensures in
     rw (at _ (i .p-t .given .1) (i .before .before .factor .ensures), at _ (j .p-bond .given .1) (j .before .before .factor2 .ensures)) (c .served .ensures ∙ rw (c .before .put-or-call .ensures, v .zcb-price-volatility-at .ensures, v .before .sqrt .ensures .0, d .0, d .1, m .moneyness-of .ensures) refl)

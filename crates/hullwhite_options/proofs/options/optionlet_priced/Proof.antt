@@ -62,7 +62,7 @@ returns-3 c =
     let v = c .before .before in
     let m = v .before .before in
     let g = m .before in
-    let j = g .before .before in
+    let j = g .before .before .before in
     let i = j .before .before .before .before in
     let d = i .before .before .before .volatility-parts .ensures in
     rw (at _ (i .p-t .given .1) (i .before .before .factor .ensures), at _ (j .p-end .given .1) (j .before .before .factor2 .ensures)) (c .served .ensures ∙ rw (c .before .put-or-call .ensures, v .zcb-price-volatility-at .ensures, v .before .sqrt .ensures .0, d .0, d .1, m .moneyness-of .ensures, g .growth-of .ensures) refl)
