@@ -28,7 +28,7 @@ use Rattle.quotes.specs.Utils.{D1D2Values, d1d2Worked, d1d2Outcome, blackCallOu
 use Rattle.hullwhite_parameters.specs.Variance.{piecewiseVarianceOf}
 use Rattle.hullwhite_parameters.specs.Rules.{varianceRules}
 use Rattle.hullwhite_parameters.specs.Parameters as Schedules
-use Rattle.hullwhite_options.specs.declared.options.BondOption.{BondOption}
+use Rattle.hullwhite_options.specs.declared.options.OptionType.{OptionType}
 use Rattle.hullwhite_options.specs.Rules.{optionRules}
 use Rattle.hullwhite_options.specs.Options.{bondOptionOf, bondOptionPriced, bondOptionOutcome, optionletPriced, optionletOutcome}
 use Rattle.hullwhite_model.specs.Rules.{noFaults, forwardRules, thetaRules}
@@ -47,7 +47,7 @@ finite-only : (v : Float) → Only finished (finishing v)
 finite-only v = finishing-only (finite v) v
 
 -- ---- kinds 1 to 4
-pub optionlet-met : (option : BondOption) (alpha : Float) (ts fs : List Float) (strike t S sigma : Float)
+pub optionlet-met : (option : OptionType) (alpha : Float) (ts fs : List Float) (strike t S sigma : Float)
     → Met (optionRules (curveFaults ts fs) alpha t S sigma strike) (factorsAt ts fs (t ∷ S ∷ []))
     (λ ps. served (optionletOf strike t S (bondOptionOf option (zcbPriceVolatilityOf alpha sigma t S) (optionletStrikeOf strike t S) (nth 0 ps) (nth 1 ps)))) finishing
     (optionletOutcome option alpha ts fs strike t S sigma)
@@ -57,7 +57,7 @@ optionlet-met option alpha ts fs strike t S sigma =
     (ap (λ (o : Outcome Float). unless (optionRules (curveFaults ts fs) alpha t S sigma strike) o)
     (two-and (factorAt ts fs t) (factorAt ts fs S) (served []) (λ p q ps. finishing (optionletOf strike t S (bondOptionOf option (zcbPriceVolatilityOf alpha sigma t S) (optionletStrikeOf strike t S) p q)))))
 
-pub bond-option-met : (option : BondOption) (alpha : Float) (ts fs : List Float) (t T strike sigma : Float)
+pub bond-option-met : (option : OptionType) (alpha : Float) (ts fs : List Float) (t T strike sigma : Float)
     → Met (optionRules (curveFaults ts fs) alpha t T sigma strike) (factorsAt ts fs (t ∷ T ∷ []))
     (λ ps. served (bondOptionOf option (zcbPriceVolatilityOf alpha sigma t T) strike (nth 0 ps) (nth 1 ps))) finishing
     (bondOptionOutcome option alpha ts fs t T strike sigma)

@@ -7,7 +7,7 @@ use Rattle.refusals.specs.declared.refusals.Refusal.{Refusal}
 use Rattle.refusals.specs.declared.refusals.Refusal.the-variants as R
 use Rattle.refusals.specs.Refusals.{Outcome, served, refused, Rule}
 use Rattle.refusals.proofs.Outcomes.{not-both}
-use Rattle.hullwhite_options.specs.declared.options.BondOption.{BondOption}
+use Rattle.hullwhite_options.specs.declared.options.OptionType.{OptionType}
 use Rattle.quotes.specs.Utils.{d1d2Outcome, blackCallOutcome, blackPutOutcome, bachelierCallOutcome, annuityOutcome}
 use Rattle.hullwhite_options.specs.Options.{bondOptionOutcome, optionletOutcome}
 use Rattle.hullwhite_model.specs.Curves as Curves
@@ -30,10 +30,10 @@ unsought : {W B : Type 0} {rules : List Rule} {found : Outcome (List Float)} {va
 unsought m = nothing-evaluated m R.NoBracket refl
 
 -- ---- kinds 1 to 4
-pub optionlet-never : (option : BondOption) (alpha : Float) (ts fs : List Float) (strike t S sigma : Float) → NeverNoBracket (optionletOutcome option alpha ts fs strike t S sigma)
+pub optionlet-never : (option : OptionType) (alpha : Float) (ts fs : List Float) (strike t S sigma : Float) → NeverNoBracket (optionletOutcome option alpha ts fs strike t S sigma)
 optionlet-never option alpha ts fs strike t S sigma = unsought (optionlet-met option alpha ts fs strike t S sigma)
 
-pub bond-option-never : (option : BondOption) (alpha : Float) (ts fs : List Float) (t T strike sigma : Float) → NeverNoBracket (bondOptionOutcome option alpha ts fs t T strike sigma)
+pub bond-option-never : (option : OptionType) (alpha : Float) (ts fs : List Float) (t T strike sigma : Float) → NeverNoBracket (bondOptionOutcome option alpha ts fs t T strike sigma)
 bond-option-never option alpha ts fs t T strike sigma = unsought (bond-option-met option alpha ts fs t T strike sigma)
 
 -- ---- the other formulas of hullwhitemodel.rs

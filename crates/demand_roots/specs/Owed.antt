@@ -8,7 +8,7 @@ use lib.ListN.{length}
 use lib.Ieee.{Float}
 use Rattle.refusals.specs.Refusals.{Outcome, served}
 use Rattle.hullwhite_terms.specs.Begun.{RootFound, WantsBracket}
-use Rattle.hullwhite_options.specs.declared.options.BondOption.the-variants.{Put, Call}
+use Rattle.hullwhite_options.specs.declared.options.OptionType.the-variants.{Put, Call}
 use Rattle.hullwhite_options.specs.Options.{optionletOutcome, bondOptionOutcome}
 use Rattle.hullwhite_jamshidian.specs.Price as Model
 use Rattle.hullwhite_jamshidian.specs.PricedSum as ModelSum

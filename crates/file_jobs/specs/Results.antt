@@ -6,7 +6,7 @@ use lib.Dec.{ltb, eqb}
 use lib.Ieee.{Float}
 use Rattle.ieee.specs.Numbers.{zero}
 use Rattle.refusals.specs.Refusals.{Outcome, served, refused, numberOf, answerOf, answerNumber, valueOr, following}
-use Rattle.hullwhite_options.specs.declared.options.BondOption.the-variants.{Put, Call}
+use Rattle.hullwhite_options.specs.declared.options.OptionType.the-variants.{Put, Call}
 use Rattle.hullwhite_options.specs.Options.{optionletOutcome, bondOptionOutcome}
 use Rattle.hullwhite_jamshidian.specs.Price as Model
 use Rattle.hullwhite_swaptions.specs.Model.{modelOutcome}

@@ -10,6 +10,8 @@ use super::results::Worked;
 use file_layout::Job;
 use fit::Quote;
 use hullwhite_options::BondOption;
+use hullwhite_options::OptionType;
+use hullwhite_options::Optionlet;
 use pricer::SwaptionType;
 use refusals::Faults;
 
@@ -19,54 +21,56 @@ pub fn option_result(curve: Faults, alpha: f64, times: &[f64], factors: &[f64], 
     requires { ⌜ curve ≡ curveFaults (now times) (now factors) ⌝ }
     ensures { λ r. ⌜ r ≡ optionResult (requestOfLists alpha [] [] (now (times .entry)) (now (factors .entry)) [] [] [] [] [] []) j ⌝ }
 {
+    let optionlet = Optionlet {
+        strike: j.a,
+        start: j.b,
+        end: j.c,
+    };
+    let bond_option = BondOption {
+        t: j.a,
+        bond: j.b,
+        strike: j.c,
+    };
     if j.kind == 1 {
         return results::price(hullwhite_options::optionlet_on(
-            BondOption::Put,
+            OptionType::Put,
             curve,
             alpha,
             times,
             factors,
-            j.a,
-            j.b,
-            j.c,
+            optionlet,
             j.d,
         ));
     }
     if j.kind == 2 {
         return results::price(hullwhite_options::optionlet_on(
-            BondOption::Call,
+            OptionType::Call,
             curve,
             alpha,
             times,
             factors,
-            j.a,
-            j.b,
-            j.c,
+            optionlet,
             j.d,
         ));
     }
     if j.kind == 3 {
         return results::price(hullwhite_options::bond_option_on(
-            BondOption::Put,
+            OptionType::Put,
             curve,
             alpha,
             times,
             factors,
-            j.a,
-            j.b,
-            j.c,
+            bond_option,
             j.d,
         ));
     }
     results::price(hullwhite_options::bond_option_on(
-        BondOption::Call,
+        OptionType::Call,
         curve,
         alpha,
         times,
         factors,
-        j.a,
-        j.b,
-        j.c,
+        bond_option,
         j.d,
     ))
 }

@@ -2,7 +2,7 @@
 use mathlib.Core.Path.{_≡_}
 use mathlib.Core.List.{List}
 use lib.Ieee.{Float}
-use Rattle.hullwhite_formulas.specs.HullWhite.{bOf, stationaryShareOf, stateDeviationOf, optionletStrikeOf}
+use Rattle.hullwhite_formulas.specs.HullWhite.{bOf, stationaryShareOf, stateDeviationOf, zcb-price-volatility-ahead, optionletStrikeOf}
 use Rattle.hullwhite_terms.specs.Terms.{curvePartsOf}
 use Rattle.hullwhite_terms.specs.Swaption.{termsOn}
 use Rattle.hullwhite_jamshidian.specs.Ahead.{price-ahead}
@@ -15,7 +15,7 @@ module _ (quote : Quote) (alpha strike t S vol pt pS : Float) where
   pub caplet-same : {b deviation x market : Float} (cs bs ds ps : List Float) → b ≡ bOf alpha t S → deviation ≡ stateDeviationOf alpha t → x ≡ optionletStrikeOf strike t S → market ≡ capletMarketPriceOf quote strike t S vol pt pS
       → (sigma : Float) → objectiveOf (I.Caplet b deviation x strike t S pt pS) market cs bs ds ps sigma ≡ capletObjective quote alpha strike t S vol pt pS sigma
   unfolding objectiveOf modelPriceOf capletAt capletObjective
-  caplet-same cs bs ds ps p q r m sigma = rw (← p, ← q, ← r, ← m)
+  caplet-same cs bs ds ps p q r m sigma = rw (← zcb-price-volatility-ahead alpha sigma t S, ← p, ← q, ← r, ← m)
 
 -- a swaption's on its terms is the one that the code works with, and the one on its factors
 pub swaption-same : (alpha t pt forward market : Float) (cs bs ps : List Float) {ds : List Float} {share deviation : Float} → ds ≡ curvePartsOf forward pt bs ps → share ≡ stationaryShareOf alpha t → deviation ≡ stateDeviationOf alpha t

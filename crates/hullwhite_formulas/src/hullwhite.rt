@@ -1,6 +1,6 @@
 // hullwhitemodel.rs: the analytic formulas of the one-factor model, on factors that are already fetched.
 ghost use mathlib.Core.Path.{_≡_};
-ghost use Rattle.hullwhite_formulas.specs.HullWhite.{h, stationaryShareOf, bOf, forwardOf, curvePartOf, aAt, aOf, zcbPriceOf, stateVarianceOf, stateDeviationOf, zcbPriceVolatilityAt, zcbPriceVolatilityOf, slopeOf, thetaOf, shortRateVarianceOf, moneynessOf, bondD1Of, bondPutAt, bondPutOf, bondCallAt, growthOf};
+ghost use Rattle.hullwhite_formulas.specs.HullWhite.{h, stationaryShareOf, bOf, forwardOf, curvePartOf, aAt, aOf, zcbPriceOf, stateVarianceOf, stateDeviationOf, zcbPriceVolatilityAt, zcbPriceVolatilityOf, slopeOf, thetaOf, shortRateVarianceOf, moneynessOf, bondD1At, bondPutAt, bondPutOf, bondCallAt, growthOf};
 
 // A day, the step of every finite difference.
 pub fn day() -> f64
@@ -136,7 +136,7 @@ pub fn moneyness_of(p_bond: f64, strike_value: f64) -> f64
 }
 
 fn bond_d1(sigma_p: f64, moneyness: f64) -> f64
-    ensures { λ r. ⌜ r ≡ bondD1Of «sigma_p» moneyness ⌝ }
+    ensures { λ r. ⌜ r ≡ bondD1At «sigma_p» moneyness ⌝ }
 {
     ieee::fused(0.5 * sigma_p, sigma_p, moneyness) / sigma_p
 }

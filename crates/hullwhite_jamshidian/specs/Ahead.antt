@@ -5,7 +5,7 @@ use lib.Ieee.{Float}
 use Rattle.ieee.specs.Numbers.{zero}
 use Rattle.ieee.specs.Fused.{fusedOf}
 use Rattle.refusals.specs.Refusals.{Outcome, served, following}
-use Rattle.hullwhite_formulas.specs.HullWhite.{forwardOf, stationaryShareOf, stateDeviationOf, zcbPriceOf, zcbPriceVolatilityAt, bondPutOf}
+use Rattle.hullwhite_formulas.specs.HullWhite.{forwardOf, stationaryShareOf, stateDeviationOf, zcbPriceOf, zcbPriceVolatilityAt, zcb-price-volatility-ahead, bondPutOf}
 use Rattle.search_sum.specs.Sum.{couponSum}
 use Rattle.search.specs.Rate.{criticalOf}
 use Rattle.search.specs.Values.{Values, criticalOutcome}
@@ -45,7 +45,7 @@ unfolding putsAheadOnto putsOnto aListOf bsOf putAhead putOf
 puts-onto alpha t sigma forward pt r total [] payments ps = refl
 puts-onto alpha t sigma forward pt r total (c ∷ cs) [] ps = refl
 puts-onto alpha t sigma forward pt r total (c ∷ cs) (payment ∷ payments) [] = refl
-puts-onto alpha t sigma forward pt r total (c ∷ cs) (payment ∷ payments) (p ∷ ps) = puts-onto alpha t sigma forward pt r (fusedOf c (putOf alpha t sigma forward pt r payment p) total) cs payments ps
+puts-onto alpha t sigma forward pt r total (c ∷ cs) (payment ∷ payments) (p ∷ ps) = rw (zcb-price-volatility-ahead alpha sigma t payment) (puts-onto alpha t sigma forward pt r (fusedOf c (putOf alpha t sigma forward pt r payment p) total) cs payments ps)
 
 pub puts-ahead : (alpha t sigma forward pt r : Float) (cs payments ps : List Float)
     → putsAhead sigma (stateDeviationOf alpha t) pt r cs (aListOf alpha t sigma forward pt payments ps) (bsOf alpha t payments) ps ≡ putsOf alpha t sigma forward pt r cs payments ps

@@ -3,7 +3,9 @@
 mod options;
 mod rules;
 
+pub use hullwhite_formulas::Optionlet;
 pub use options::BondOption;
+pub use options::OptionType;
 pub use options::bond_call_price;
 pub use options::bond_option_on;
 pub use options::bond_put_price;

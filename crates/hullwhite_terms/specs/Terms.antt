@@ -8,7 +8,7 @@ use Rattle.ieee.specs.Numbers.{one}
 use Rattle.ieee.specs.Fused.{fusedOf}
 use Rattle.refusals.specs.Refusals.{Outcome, served, prepend}
 use Rattle.curve.specs.Lookups.{factorAt, needing}
-use Rattle.hullwhite_formulas.specs.HullWhite.{bOf, stationaryShareOf, curvePartOf, aAt, aOf}
+use Rattle.hullwhite_formulas.specs.HullWhite.{bOf, aOf, stationaryShareOf, curvePartOf, aAt, a-ahead}
 
 -- accrual × K; the last coupon's is accrual × K + 1, fused
 abbrev pub coefficientAt : Bool → Float → Float → Float
@@ -56,4 +56,4 @@ pub a-list-ahead : (alpha t sigma forward pt : Float) (payments ps : List Float)
 unfolding bsOf aListOf curvePartsOf aListAt
 a-list-ahead alpha t sigma forward pt [] ps = refl
 a-list-ahead alpha t sigma forward pt (payment ∷ payments) [] = refl
-a-list-ahead alpha t sigma forward pt (payment ∷ payments) (p ∷ ps) = ap (λ (rest : List Float). aOf alpha t sigma (bOf alpha t payment) forward pt p ∷ rest) (a-list-ahead alpha t sigma forward pt payments ps)
+a-list-ahead alpha t sigma forward pt (payment ∷ payments) (p ∷ ps) = rw (a-ahead alpha t sigma (bOf alpha t payment) forward pt p) (ap (λ (rest : List Float). aOf alpha t sigma (bOf alpha t payment) forward pt p ∷ rest) (a-list-ahead alpha t sigma forward pt payments ps))

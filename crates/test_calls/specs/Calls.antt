@@ -5,7 +5,7 @@ use mathlib.Core.List.{List}
 use lib.Dec.{eqb}
 use lib.Ieee.{Float}
 use Rattle.refusals.specs.Refusals.{Outcome}
-use Rattle.hullwhite_options.specs.declared.options.BondOption.the-variants.{Put, Call}
+use Rattle.hullwhite_options.specs.declared.options.OptionType.the-variants.{Put, Call}
 use Rattle.hullwhite_options.specs.Options.{bondOptionOutcome, optionletOutcome}
 use Rattle.hullwhite_model.specs.Curves.{bOutcome, zcbPriceVolatilityOutcome, shortRateVarianceOutcome, aOutcome, zcbOutcome, thetaOutcome, forwardOutcome}
 use Rattle.quotes.specs.Utils.{D1D2Values, d1d2Outcome, blackCallOutcome, blackPutOutcome, bachelierCallOutcome, annuityOutcome}

@@ -4,6 +4,8 @@ ghost use Rattle.refusals.specs.Refusals.{outcomeOf};
 ghost use Rattle.test_calls.specs.Calls.{aCall, zcbCall, thetaCall, forwardCall, bondPutCall, bondCallCall, capletCall, floorletCall, annuityCall};
 use crate::record::Record;
 use crate::store;
+use hullwhite_options::BondOption;
+use hullwhite_options::Optionlet;
 use refusals::Price;
 
 pub fn a(r: Record, s: &[f64]) -> Price
@@ -62,9 +64,11 @@ pub fn bond_put_price(r: Record, s: &[f64]) -> Price
         file_layout::float_of(r.a),
         store::part(s, r.times),
         store::part(s, r.factors),
-        file_layout::float_of(r.b),
-        file_layout::float_of(r.c),
-        file_layout::float_of(r.d),
+        BondOption {
+            t: file_layout::float_of(r.b),
+            bond: file_layout::float_of(r.c),
+            strike: file_layout::float_of(r.d),
+        },
         file_layout::float_of(r.e),
     )
 }
@@ -76,9 +80,11 @@ pub fn bond_call_price(r: Record, s: &[f64]) -> Price
         file_layout::float_of(r.a),
         store::part(s, r.times),
         store::part(s, r.factors),
-        file_layout::float_of(r.b),
-        file_layout::float_of(r.c),
-        file_layout::float_of(r.d),
+        BondOption {
+            t: file_layout::float_of(r.b),
+            bond: file_layout::float_of(r.c),
+            strike: file_layout::float_of(r.d),
+        },
         file_layout::float_of(r.e),
     )
 }
@@ -90,9 +96,11 @@ pub fn caplet_price(r: Record, s: &[f64]) -> Price
         file_layout::float_of(r.a),
         store::part(s, r.times),
         store::part(s, r.factors),
-        file_layout::float_of(r.b),
-        file_layout::float_of(r.c),
-        file_layout::float_of(r.d),
+        Optionlet {
+            strike: file_layout::float_of(r.b),
+            start: file_layout::float_of(r.c),
+            end: file_layout::float_of(r.d),
+        },
         file_layout::float_of(r.e),
     )
 }
@@ -104,9 +112,11 @@ pub fn floorlet_price(r: Record, s: &[f64]) -> Price
         file_layout::float_of(r.a),
         store::part(s, r.times),
         store::part(s, r.factors),
-        file_layout::float_of(r.b),
-        file_layout::float_of(r.c),
-        file_layout::float_of(r.d),
+        Optionlet {
+            strike: file_layout::float_of(r.b),
+            start: file_layout::float_of(r.c),
+            end: file_layout::float_of(r.d),
+        },
         file_layout::float_of(r.e),
     )
 }

@@ -1,4 +1,5 @@
 -- `hullwhite_formulas::a_of` meets its contract. Assumes nothing.
+use Rattle.hullwhite_formulas.specs.HullWhite.{a-ahead}
 use borrow.Author.Needs.{needs}
 use Rattle.hullwhite_formulas.proofs.hullwhite.a_of.Statement.{statement}
 use Rattle.hullwhite_formulas.proofs.hullwhite.a_of.Tie as tie
@@ -13,7 +14,7 @@ a-at-requires : tie.Need-a-at-requires
 a-at-requires c κs = search needs
 
 returns : tie.Need-returns
-returns c = rw (c .a-at .ensures, c .before .stationary-share-of .ensures, c .before .before .curve-part-of .ensures)
+returns c = rw (c .a-at .ensures, c .before .stationary-share-of .ensures, c .before .before .curve-part-of .ensures) (a-ahead _ _ _ _ _ _ _)
 
 pub a-of-spec : {M : Type 1} → statement M
 a-of-spec = tie.close (tie.spec curve-part-of-requires stationary-share-of-requires a-at-requires returns)

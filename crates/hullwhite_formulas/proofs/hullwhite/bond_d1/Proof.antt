@@ -2,7 +2,7 @@
 use mathlib.Core.Path.{refl}
 use borrow.Author.Needs.{needs}
 use lib.Ieee.{ofBits}
-use Rattle.hullwhite_formulas.specs.HullWhite.{bondD1Of}
+use Rattle.hullwhite_formulas.specs.HullWhite.{bondD1At}
 use Rattle.hullwhite_formulas.proofs.hullwhite.bond_d1.Statement.{statement}
 use Rattle.hullwhite_formulas.proofs.hullwhite.bond_d1.Tie as tie
 
@@ -10,7 +10,7 @@ fused-requires : tie.Need-fused-requires
 fused-requires c κs = search needs
 
 returns : tie.Need-returns
-unfolding bondD1Of ofBits
+unfolding bondD1At ofBits
 returns c = rw (c .fused .ensures) refl
 
 pub bond-d1-spec : {M : Type 1} → statement M

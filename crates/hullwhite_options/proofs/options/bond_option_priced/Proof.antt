@@ -1,8 +1,8 @@
 -- `hullwhite_options::bond_option_priced` meets its contract: each factor is found or the call is refused by rule 8, and then the formula is worked. Assumes nothing.
 use mathlib.Core.Path.{refl, _∙_}
 use borrow.Author.Needs.{needs}
-use Rattle.hullwhite_formulas.specs.HullWhite.{stateDeviationOf}
-use Rattle.hullwhite_options.specs.Options.{bondOptionPriced}
+use Rattle.hullwhite_formulas.specs.HullWhite.{zcb-price-volatility-ahead, stateDeviationOf}
+use Rattle.hullwhite_options.specs.Options.{bondOptionPriced, bond-option-ahead}
 use Rattle.curve.proofs.Outcomes.{at, missing}
 use Rattle.hullwhite_options.proofs.options.bond_option_priced.Statement.{statement}
 use Rattle.hullwhite_options.proofs.options.bond_option_priced.Tie as tie
@@ -58,10 +58,10 @@ unfolding bondOptionPriced stateDeviationOf
 returns-3 c =
     let v = c .before .before in
     let m = v .before .before in
-    let j = m .before .before in
+    let j = m .before .before .before in
     let i = j .before .before .before .before in
     let d = i .before .before .before .volatility-parts .ensures in
-    rw (at _ (i .p-t .given .1) (i .before .before .factor .ensures), at _ (j .p-bond .given .1) (j .before .before .factor2 .ensures)) (c .served .ensures ∙ rw (c .before .put-or-call .ensures, v .zcb-price-volatility-at .ensures, v .before .sqrt .ensures .0, d .0, d .1, m .moneyness-of .ensures) refl)
+    rw (at _ (i .p-t .given .1) (i .before .before .factor .ensures), at _ (j .p-bond .given .1) (j .before .before .factor2 .ensures)) (c .served .ensures ∙ rw (c .before .put-or-call .ensures, v .zcb-price-volatility-at .ensures, v .before .sqrt .ensures .0, d .0, d .1, m .moneyness-of .ensures, zcb-price-volatility-ahead, bond-option-ahead) refl)
 
 pub bond-option-priced-spec : {M : Type 1} → statement M
 bond-option-priced-spec =

@@ -1,8 +1,8 @@
 -- `hullwhite_options::optionlet_priced` meets its contract: each factor is found or the call is refused by rule 8, and then the formula is worked. Assumes nothing.
 use mathlib.Core.Path.{refl, _∙_}
 use borrow.Author.Needs.{needs}
-use Rattle.hullwhite_formulas.specs.HullWhite.{stateDeviationOf, optionletStrikeOf, optionletOf}
-use Rattle.hullwhite_options.specs.Options.{optionletPriced}
+use Rattle.hullwhite_formulas.specs.HullWhite.{zcb-price-volatility-ahead, stateDeviationOf, optionletStrikeOf, optionletOf}
+use Rattle.hullwhite_options.specs.Options.{optionletPriced, bond-option-ahead}
 use Rattle.curve.proofs.Outcomes.{at, missing}
 use Rattle.hullwhite_options.proofs.options.optionlet_priced.Statement.{statement}
 use Rattle.hullwhite_options.proofs.options.optionlet_priced.Tie as tie
@@ -62,10 +62,10 @@ returns-3 c =
     let v = c .before .before in
     let m = v .before .before in
     let g = m .before in
-    let j = g .before .before in
+    let j = g .before .before .before in
     let i = j .before .before .before .before in
     let d = i .before .before .before .volatility-parts .ensures in
-    rw (at _ (i .p-t .given .1) (i .before .before .factor .ensures), at _ (j .p-end .given .1) (j .before .before .factor2 .ensures)) (c .served .ensures ∙ rw (c .before .put-or-call .ensures, v .zcb-price-volatility-at .ensures, v .before .sqrt .ensures .0, d .0, d .1, m .moneyness-of .ensures, g .growth-of .ensures) refl)
+    rw (at _ (i .p-t .given .1) (i .before .before .factor .ensures), at _ (j .p-end .given .1) (j .before .before .factor2 .ensures)) (c .served .ensures ∙ rw (c .before .put-or-call .ensures, v .zcb-price-volatility-at .ensures, v .before .sqrt .ensures .0, d .0, d .1, m .moneyness-of .ensures, g .growth-of .ensures, zcb-price-volatility-ahead, bond-option-ahead) refl)
 
 pub optionlet-priced-spec : {M : Type 1} → statement M
 optionlet-priced-spec =

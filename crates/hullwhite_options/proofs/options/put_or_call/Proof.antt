@@ -1,5 +1,6 @@
 -- `hullwhite_options::put_or_call` meets its contract: a put or a call, as asked. Assumes nothing.
 use borrow.Author.Needs.{needs}
+use Rattle.hullwhite_options.specs.Options.{bondOptionAt}
 use Rattle.hullwhite_options.proofs.options.put_or_call.Statement.{statement}
 use Rattle.hullwhite_options.proofs.options.put_or_call.Tie as tie
 
@@ -16,9 +17,11 @@ bond-call-at-requires : tie.Need-bond-call-at-requires
 bond-call-at-requires c κs = search needs
 
 returns : tie.Need-returns
+unfolding bondOptionAt
 returns c = rw (c .before .enum-told .given .1) (c .bond-put-at .ensures)
 
 returns-2 : tie.Need-returns-2
+unfolding bondOptionAt
 returns-2 c = rw (c .before .enum-told2 .given .1) (c .bond-call-at .ensures)
 
 pub put-or-call-spec : {M : Type 1} → statement M
