@@ -16,34 +16,37 @@ use Rattle.math_bisection.specs.declared.result.Fit.{Fit}
 use Rattle.math_bisection.specs.declared.result.Fitted.{Fitted}
 use Rattle.math_bisection.specs.declared.result.Fitted.the-variants as F
 use Rattle.math_bisection.specs.Result.{fittedOutcome}
+use Rattle.hullwhite_formulas.specs.declared.instruments.Optionlet.{Optionlet}
 use Rattle.fit_objective.specs.declared.market.Quote.{Quote}
 use Rattle.fit.specs.Fits.{capletFitted}
-use Rattle.basket_entries.specs.Entries.{quoteOf, entriesOf}
+use Rattle.basket_entries.specs.Entries.{entriesOf}
 use Rattle.basket_entries.proofs.Walks.{from, entryAt, next-entry, no-entries}
+use Rattle.basket.specs.Lent.{entryOf}
 use Rattle.basket.specs.Basket.{diagonalOf, statusOf, Bumps, bumpOf, withBump, bumpsOf}
 use Rattle.basket.proofs.Literals.{bump-is}
 use Rattle.refusals.proofs.Walks.{next, longer}
 
 -- ---- one entry's bumped fit
-module _ (alpha : Float) (xs fs : List Float) (strike t S vol sigma : Float) (n : Bool) {quote : Quote} (q : quote ≡ quoteOf n) (fitted : Fitted) (h : fittedOutcome fitted ≡ capletFitted quote alpha xs fs strike t S (vol ⊕ ofBits binary64 0x3eb0_c6f7_a0b5_ed8d)) where
-  pub bump-refused : {r : Refusal} → fitted ≡ F.Refused r → fittedOutcome fitted ≡ bumpOf alpha xs fs (record { quote = quoteOf n; strike = strike; start = t; end = S; vol = vol }) sigma
+module _ (alpha : Float) (xs fs : List Float) (quote : Quote) (caplet : Optionlet) (sigma : Float) (fitted : Fitted) (h : fittedOutcome fitted ≡ capletFitted (quote .sort) alpha xs fs (caplet .strike) (caplet .start) (caplet .end) (quote .volatility ⊕ ofBits binary64 0x3eb0_c6f7_a0b5_ed8d)) where
+  pub bump-refused : {r : Refusal} → fitted ≡ F.Refused r → fittedOutcome fitted ≡ bumpOf alpha xs fs (entryOf quote caplet) sigma
   unfolding bumpOf
-  bump-refused e = rw (← bump-is, ← q, ← h, e)
+  bump-refused e = rw (← bump-is, ← h, e)
 
-  pub bump-kept : {fit : Fit} {d : Float} {b : Bool} → fitted ≡ F.Served fit → d ≡ diagonalOf (fit .sigma) sigma → b ≡ finite d → b ≡ true → served fit ≡ bumpOf alpha xs fs (record { quote = quoteOf n; strike = strike; start = t; end = S; vol = vol }) sigma
+  pub bump-kept : {fit : Fit} {d : Float} {b : Bool} → fitted ≡ F.Served fit → d ≡ diagonalOf (fit .sigma) sigma → b ≡ finite d → b ≡ true → served fit ≡ bumpOf alpha xs fs (entryOf quote caplet) sigma
   unfolding bumpOf
-  bump-kept e p z w = rw (← bump-is, ← q, ← h, e, ← p, ← z, w)
+  bump-kept e p z w = rw (← bump-is, ← h, e, ← p, ← z, w)
 
-  pub bump-lost : {fit : Fit} {d : Float} {b : Bool} → fitted ≡ F.Served fit → d ≡ diagonalOf (fit .sigma) sigma → b ≡ finite d → b ≡ false → refused R.Overflow ≡ bumpOf alpha xs fs (record { quote = quoteOf n; strike = strike; start = t; end = S; vol = vol }) sigma
+  pub bump-lost : {fit : Fit} {d : Float} {b : Bool} → fitted ≡ F.Served fit → d ≡ diagonalOf (fit .sigma) sigma → b ≡ finite d → b ≡ false → refused R.Overflow ≡ bumpOf alpha xs fs (entryOf quote caplet) sigma
   unfolding bumpOf
-  bump-lost e p z w = rw (← bump-is, ← q, ← h, e, ← p, ← z, w)
+  bump-lost e p z w = rw (← bump-is, ← h, e, ← p, ← z, w)
 
 -- ---- as the walk takes it apart
-pub bump-gave : {fitted : Fitted} {o : Outcome Fit} {fit : Fit} → fitted ≡ F.Served fit → fittedOutcome fitted ≡ o → o ≡ served fit
-bump-gave e h = rw (← h, e)
+module _ (alpha : Float) (xs fs : List Float) (sigma : Float) {quote asked : Quote} {caplet named : Optionlet} (q : quote ≡ asked) (k : caplet ≡ named) (fitted : Fitted) (h : fittedOutcome fitted ≡ bumpOf alpha xs fs (entryOf quote caplet) sigma) where
+  pub bump-gave : {fit : Fit} → fitted ≡ F.Served fit → bumpOf alpha xs fs (entryOf asked named) sigma ≡ served fit
+  bump-gave e = rw (← q, ← k, ← h, e)
 
-pub bump-gave-none : {fitted : Fitted} {o : Outcome Fit} {r : Refusal} → fitted ≡ F.Refused r → fittedOutcome fitted ≡ o → o ≡ refused r
-bump-gave-none e h = rw (← h, e)
+  pub bump-gave-none : {r : Refusal} → fitted ≡ F.Refused r → bumpOf alpha xs fs (entryOf asked named) sigma ≡ refused r
+  bump-gave-none e = rw (← q, ← k, ← h, e)
 
 -- ---- an outcome with some bumps before its own
 abbrev pub behind : List Float → List Float → Outcome Bumps → Outcome Bumps

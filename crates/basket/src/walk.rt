@@ -1,12 +1,16 @@
 // The two walks over a basket's entries: their fits, and their bumped fits.
 ghost use mathlib.Core.Path.{_≡_};
 ghost use mathlib.Core.Bool.{true};
+ghost use Prim.Native.Nat.{_<_};
 ghost use lib.ListN.{length};
 ghost use Rattle.refusals.specs.Checks.{inOrder};
 ghost use Rattle.refusals.specs.Refusals.{served, after};
 ghost use Rattle.math_bisection.specs.Result.{fittedOutcome};
-ghost use Rattle.basket_entries.specs.Entries.{quoteOf, entriesOf};
+ghost use Rattle.basket_entries.specs.Entries.{entriesOf};
+ghost use Rattle.basket.specs.Lent.{entryOf, quoteAt, capletAt};
 ghost use Rattle.basket.specs.Basket.{statusOf, diagonalOf, fitsOf, bumpOf, bumpsOf};
+use fit::Optionlet;
+use fit::Quote;
 use math_bisection::Fitted;
 use refusals::Answer;
 use refusals::Refusal;
@@ -21,6 +25,29 @@ fn diagonal_of(bumped: f64, sigma: f64) -> f64
     ensures { λ r. ⌜ r ≡ diagonalOf bumped sigma ⌝ }
 {
     (bumped - sigma) / 1e-6
+}
+
+// The quote of the entry at place i: a caller that has asked the rules has lists that go so far.
+fn quote_at(normals: &[bool], vols: &[f64], i: usize) -> Quote
+    requires { ⌜ (i < length (now normals)) × (i < length (now vols)) ⌝ }
+    ensures { λ r. ⌜ r ≡ quoteAt (now (normals .entry)) (now (vols .entry)) i ⌝ }
+{
+    Quote {
+        sort: basket_entries::quote_type_of(normals[i]),
+        volatility: vols[i],
+    }
+}
+
+// The caplet of the entry at place i: a caller that has asked the rules has lists that go so far.
+fn caplet_at(strikes: &[f64], starts: &[f64], ends: &[f64], i: usize) -> Optionlet
+    requires { ⌜ (i < length (now strikes)) × (i < length (now starts)) × (i < length (now ends)) ⌝ }
+    ensures { λ r. ⌜ r ≡ capletAt (now (strikes .entry)) (now (starts .entry)) (now (ends .entry)) i ⌝ }
+{
+    Optionlet {
+        strike: strikes[i],
+        start: starts[i],
+        end: ends[i],
+    }
 }
 
 // Every entry's fit, into lists that are lent for them. A caller that has asked the rules has the entries'
@@ -44,16 +71,9 @@ pub fn first_fits(
 {
     let mut i = 0;
     while i < normals.len() {
-        let fitted = fit::caplet_fitted(
-            basket_entries::quote_of(normals[i]),
-            alpha,
-            times,
-            factors,
-            strikes[i],
-            starts[i],
-            ends[i],
-            vols[i],
-        );
+        let quote = quote_at(normals, vols, i);
+        let caplet = caplet_at(strikes, starts, ends, i);
+        let fitted = fit::caplet_fitted(quote, alpha, times, factors, caplet);
         match fitted {
             Fitted::Refused(refusal) => {
                 return Answer::Refused(refusal);
@@ -73,21 +93,22 @@ pub fn first_fits(
 // One entry's bumped fit; the diagonal's float must be finite too. A caller that has asked the rules has a
 // curve whose times strictly rise.
 fn bumped(
-    normal: bool,
+    quote: Quote,
     alpha: f64,
     times: &[f64],
     factors: &[f64],
-    strike: f64,
-    start: f64,
-    end: f64,
-    vol: f64,
+    caplet: Optionlet,
     sigma: f64,
 ) -> Fitted
     requires { ⌜ inOrder true (now times) ≡ true ⌝ }
-    ensures { λ r. ⌜ fittedOutcome r ≡ bumpOf alpha (now (times .entry)) (now (factors .entry)) (record { quote = quoteOf normal; strike = strike; start = start; end = end; vol = vol }) sigma ⌝ }
+    ensures { λ r. ⌜ fittedOutcome r ≡ bumpOf alpha (now (times .entry)) (now (factors .entry)) (entryOf quote caplet) sigma ⌝ }
 {
-    let quote = basket_entries::quote_of(normal);
-    let fitted = fit::caplet_fitted(quote, alpha, times, factors, strike, start, end, vol + 1e-6);
+    let sort = quote.sort;
+    let moved = Quote {
+        sort,
+        volatility: quote.volatility + 1e-6,
+    };
+    let fitted = fit::caplet_fitted(moved, alpha, times, factors, caplet);
     let Fitted::Served(fit) = fitted else {
         return fitted;
     };
@@ -118,17 +139,9 @@ pub fn bumped_fits(
 {
     let mut i = 0;
     while i < normals.len() {
-        let fitted = bumped(
-            normals[i],
-            alpha,
-            times,
-            factors,
-            strikes[i],
-            starts[i],
-            ends[i],
-            vols[i],
-            sigmas[i],
-        );
+        let quote = quote_at(normals, vols, i);
+        let caplet = caplet_at(strikes, starts, ends, i);
+        let fitted = bumped(quote, alpha, times, factors, caplet, sigmas[i]);
         match fitted {
             Fitted::Refused(refusal) => {
                 return Answer::Refused(refusal);

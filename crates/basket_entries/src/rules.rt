@@ -1,18 +1,22 @@
 // Rules 1 to 7 over all entries of a basket.
 ghost use mathlib.Core.Path.{_≡_};
 ghost use Rattle.refusals.specs.Refusals.{firstOf};
-ghost use Rattle.basket_entries.specs.Entries.{quoteOf, sizeWrong, numbersWrong, timesWrong, domainWrong, basketRules};
-use fit::Quote;
+ghost use Rattle.basket_entries.specs.Entries.{quoteTypeOf, sizeWrong, numbersWrong, timesWrong, domainWrong, basketRules};
+use fit::QuoteType;
 use refusals::Answer;
 use refusals::Faults;
 use refusals::Refusal;
 use refusals::Test;
 
-// How a quote is lent: true is a normal one.
-pub fn quote_of(normal: bool) -> Quote
-    ensures { λ r. ⌜ r ≡ quoteOf normal ⌝ }
+// How the type of a quote is lent: true is a normal one.
+pub fn quote_type_of(normal: bool) -> QuoteType
+    ensures { λ r. ⌜ r ≡ quoteTypeOf normal ⌝ }
 {
-    if normal { Quote::Normal } else { Quote::Black }
+    if normal {
+        QuoteType::Normal
+    } else {
+        QuoteType::Black
+    }
 }
 
 pub fn size_wrong(
@@ -67,8 +71,8 @@ pub fn domain_wrong(normals: &[bool], strikes: &[f64], vols: &[f64]) -> bool
         if vols.len() <= i {
             return false;
         }
-        let quote = quote_of(normals[i]);
-        if (vols[i] <= 0.0) | fit::strike_wrong(quote, strikes[i]) {
+        let sort = quote_type_of(normals[i]);
+        if (vols[i] <= 0.0) | fit::strike_wrong(sort, strikes[i]) {
             return true;
         }
         i += 1;

@@ -9,6 +9,8 @@ use super::results::JobResult;
 use super::results::Worked;
 use file_layout::Job;
 use fit::Quote;
+use fit::QuoteType;
+use hullwhite_formulas::Optionlet;
 use hullwhite_options::BondOption;
 use hullwhite_options::OptionType;
 use hullwhite_options::Optionlet;
@@ -155,36 +157,33 @@ fn fit_work(
     requires { ⌜ curve ≡ curveFaults (now times) (now factors) ⌝ }
     ensures { λ r. ⌜ wholeOf r ≡ fitWhole (requestOfLists alpha [] [] (now (times .entry)) (now (factors .entry)) (now (payments .entry)) (now (accruals .entry)) [] [] [] []) j ⌝ }
 {
+    let caplet = Optionlet {
+        strike: j.a,
+        start: j.b,
+        end: j.c,
+    };
     if j.kind == 8 {
-        return Worked::Fit(fit::fit_caplet_on(
-            curve,
-            Quote::Black,
-            alpha,
-            times,
-            factors,
-            j.a,
-            j.b,
-            j.c,
-            j.d,
-        ));
+        let quote = Quote {
+            sort: QuoteType::Black,
+            volatility: j.d,
+        };
+        return Worked::Fit(fit::fit_caplet_on(curve, quote, alpha, times, factors, caplet));
     }
     if j.kind == 9 {
-        return Worked::Fit(fit::fit_caplet_on(
-            curve,
-            Quote::Normal,
-            alpha,
-            times,
-            factors,
-            j.a,
-            j.b,
-            j.c,
-            j.d,
-        ));
+        let quote = Quote {
+            sort: QuoteType::Normal,
+            volatility: j.d,
+        };
+        return Worked::Fit(fit::fit_caplet_on(curve, quote, alpha, times, factors, caplet));
     }
     if j.kind == 10 {
+        let quote = Quote {
+            sort: QuoteType::Black,
+            volatility: j.c,
+        };
         return Worked::Fit(fit::fit_swaption_on(
             curve,
-            Quote::Black,
+            quote,
             alpha,
             times,
             factors,
@@ -192,12 +191,15 @@ fn fit_work(
             accruals,
             j.a,
             j.b,
-            j.c,
         ));
     }
+    let quote = Quote {
+        sort: QuoteType::Normal,
+        volatility: j.c,
+    };
     Worked::Fit(fit::fit_swaption_on(
         curve,
-        Quote::Normal,
+        quote,
         alpha,
         times,
         factors,
@@ -205,7 +207,6 @@ fn fit_work(
         accruals,
         j.a,
         j.b,
-        j.c,
     ))
 }
 

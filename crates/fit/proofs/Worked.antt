@@ -4,19 +4,24 @@ use mathlib.Core.List.{List}
 use lib.Ieee.{Float}
 use Rattle.refusals.specs.declared.refusals.Refusal.{Refusal}
 use Rattle.refusals.specs.Refusals.{Outcome, refused, following}
-use Rattle.hullwhite_formulas.specs.HullWhite.{bOf, stationaryShareOf, stateDeviationOf, optionletStrikeOf}
+use Rattle.hullwhite_formulas.specs.declared.instruments.Optionlet.{Optionlet}
+use Rattle.hullwhite_formulas.specs.HullWhite.{bOf, stateDeviationOf, optionletStrikeOf}
 use Rattle.hullwhite_terms.specs.declared.swaption.Terms.{Terms}
 use Rattle.hullwhite_terms.specs.declared.swaption.Terms.the-variants as T
 use Rattle.hullwhite_terms.specs.Terms.{curvePartsOf}
 use Rattle.hullwhite_terms.specs.Swaption.{SwaptionTerms, termsOn, termsOf, termsOutcome}
 use Rattle.hullwhite_terms.proofs.OnTerms.{terms-refused, terms-served}
+use Rattle.hullwhite_jamshidian.specs.declared.price.SwaptionAhead.{SwaptionAhead}
+use Rattle.hullwhite_jamshidian.specs.Ahead.{aheadOf}
 use Rattle.math_bisection.specs.declared.result.Fit.{Fit}
 use Rattle.math_bisection.specs.Result.{finishingFit}
 use Rattle.math_bisection.specs.Solve.{solveOf}
+use Rattle.fit_objective.specs.declared.market.QuoteType.{QuoteType}
 use Rattle.fit_objective.specs.declared.market.Quote.{Quote}
 use Rattle.fit_objective.specs.declared.objective.Instrument.the-variants as I
 use Rattle.fit_objective.specs.Market.{capletMarketPriceOf, swaptionMarketPriceOf}
-use Rattle.fit_objective.specs.Objective.{capletObjective, swaptionObjective, objectiveOf, objectiveOn}
+use Rattle.fit_objective.specs.Objective.{capletObjective, swaptionObjective}
+use Rattle.fit_objective.specs.Ahead.{objectiveOf, objectiveOn}
 use Rattle.fit_objective.proofs.Worked.{caplet-same, swaption-same, swaption-ahead}
 use Rattle.fit.specs.Fits.{swaptionFitted}
 
@@ -26,19 +31,19 @@ finished {f} {g} same p h =
     let e : f ≡ g = λ i sigma. same sigma i in
     h ∙ ap (λ (x : Outcome Fit). following x finishingFit) (p ∙ ap solveOf e)
 
-module _ (quote : Quote) (alpha strike t S vol pt pS : Float) where
-  pub caplet-fit : {b deviation x market : Float} (cs bs ds ps : List Float) {o q : Outcome Fit} → b ≡ bOf alpha t S → deviation ≡ stateDeviationOf alpha t → x ≡ optionletStrikeOf strike t S → market ≡ capletMarketPriceOf quote strike t S vol pt pS
-      → o ≡ solveOf (objectiveOf (I.Caplet b deviation x strike t S pt pS) market cs bs ds ps) → q ≡ following o finishingFit
-      → q ≡ following (solveOf (capletObjective quote alpha strike t S vol pt pS)) finishingFit
-  caplet-fit cs bs ds ps p q r m = finished (caplet-same quote alpha strike t S vol pt pS cs bs ds ps p q r m)
+module _ (quote : Quote) (alpha : Float) (caplet : Optionlet) (pt pS : Float) where
+  pub caplet-fit : {b deviation x market : Float} (cs bs ds ps : List Float) {o q : Outcome Fit} → b ≡ bOf alpha (caplet .start) (caplet .end) → deviation ≡ stateDeviationOf alpha (caplet .start) → x ≡ optionletStrikeOf (caplet .strike) (caplet .start) (caplet .end) → market ≡ capletMarketPriceOf (quote .sort) (caplet .strike) (caplet .start) (caplet .end) (quote .volatility) pt pS
+      → o ≡ solveOf (objectiveOf (I.Caplet (record { b = b; deviation = deviation; «bond_strike» = x; caplet = caplet; «p_t» = pt; «p_end» = pS })) market cs bs ds ps) → q ≡ following o finishingFit
+      → q ≡ following (solveOf (capletObjective (quote .sort) alpha (caplet .strike) (caplet .start) (caplet .end) (quote .volatility) pt pS)) finishingFit
+  caplet-fit cs bs ds ps p q r m = finished (caplet-same quote alpha caplet pt pS cs bs ds ps p q r m)
 
-pub swaption-fit : (alpha t pt forward market : Float) (cs bs ps : List Float) {ds : List Float} {share deviation : Float} {o q : Outcome Fit} → ds ≡ curvePartsOf forward pt bs ps → share ≡ stationaryShareOf alpha t → deviation ≡ stateDeviationOf alpha t
-    → o ≡ solveOf (objectiveOf (I.Swaption alpha share deviation pt) market cs bs ds ps) → q ≡ following o finishingFit
+pub swaption-fit : (alpha t pt forward market : Float) (cs bs ps : List Float) {ds : List Float} {ahead : SwaptionAhead} {o q : Outcome Fit} → ds ≡ curvePartsOf forward pt bs ps → ahead ≡ aheadOf alpha t pt
+    → o ≡ solveOf (objectiveOf (I.Swaption ahead) market cs bs ds ps) → q ≡ following o finishingFit
     → q ≡ following (solveOf (objectiveOn alpha t (record { pt = pt; forward = forward; coefficients = cs; bs = bs; factors = ps }) market)) finishingFit
-swaption-fit alpha t pt forward market cs bs ps d y v = finished (swaption-same alpha t pt forward market cs bs ps d y v)
+swaption-fit alpha t pt forward market cs bs ps d h = finished (swaption-same alpha t pt forward market cs bs ps d h)
 
 -- the call, by what its terms came to, `r` with the lists beside it
-module _ (quote : Quote) (alpha : Float) (ts fs payments accruals : List Float) (strike t vol : Float) (r : Terms) (cs bs ps : List Float) (is : termsOutcome r cs bs ps ≡ termsOf alpha ts fs payments accruals strike t) where
+module _ (quote : QuoteType) (alpha : Float) (ts fs payments accruals : List Float) (strike t vol : Float) (r : Terms) (cs bs ps : List Float) (is : termsOutcome r cs bs ps ≡ termsOf alpha ts fs payments accruals strike t) where
   abbrev on : SwaptionTerms → Outcome Fit
   on w = following (solveOf (objectiveOn alpha t w (swaptionMarketPriceOf quote strike t vol accruals (w .pt) (w .factors)))) finishingFit
 

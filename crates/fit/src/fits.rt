@@ -8,12 +8,16 @@ ghost use Rattle.refusals.specs.Refusals.{reported, firstOf, following};
 ghost use Rattle.refusals.specs.Faults.{curveFaults};
 ghost use Rattle.math_bisection.specs.Result.{fittedOutcome, noFit, finishingFit};
 ghost use Rattle.math_bisection.specs.Solve.{solveOf};
-ghost use Rattle.fit_objective.specs.Objective.{capletObjective, objectiveOn};
+ghost use Rattle.fit_objective.specs.Objective.{capletObjective};
+ghost use Rattle.fit_objective.specs.Ahead.{objectiveOn};
 ghost use Rattle.fit.specs.Fits.{strikeWrong, capletRules, swaptionRules, capletFitted, capletFitOutcome, swaptionFitted, swaptionFitOutcome};
 ghost use Rattle.fit.specs.Demand3.{CapletFitHolds, CapletFitNeverNoBracket, SwaptionFitHolds, SwaptionFitNoBracketExactly};
 use curve::Found;
+use fit_objective::CapletAhead;
 use fit_objective::Instrument;
 use fit_objective::Quote;
+use fit_objective::QuoteType;
+use hullwhite_formulas::Optionlet;
 use hullwhite_terms::Terms;
 use math_bisection::Fitted;
 use refusals::Answer;
@@ -21,24 +25,21 @@ use refusals::Faults;
 use refusals::Refusal;
 use refusals::Test;
 
-// Kinds 8 and 9: strike, start, end, quoted volatility.
+// Kinds 8 and 9.
 pub fn fit_caplet(
     quote: Quote,
     alpha: f64,
     times: &[f64],
     factors: &[f64],
-    strike: f64,
-    t: f64,
-    end: f64,
-    vol: f64,
+    caplet: Optionlet,
 ) -> Fitted
-    ensures answer { λ r. ⌜ fittedOutcome r ≡ capletFitOutcome quote alpha (now (times .entry)) (now (factors .entry)) strike t end vol ⌝ }
-    ensures held { λ r. ⌜ CapletFitHolds quote alpha (now (times .entry)) (now (factors .entry)) strike t end vol r ⌝ }
-    ensures bracket { λ r. ⌜ CapletFitNeverNoBracket quote alpha (now (times .entry)) (now (factors .entry)) strike t end vol r ⌝ }
-    ensures report { λ r. ⌜ reported noFit (fittedOutcome r) ≡ reported noFit (capletFitOutcome quote alpha (now (times .entry)) (now (factors .entry)) strike t end vol) ⌝ }
+    ensures answer { λ r. ⌜ fittedOutcome r ≡ capletFitOutcome (quote .sort) alpha (now (times .entry)) (now (factors .entry)) (caplet .strike) (caplet .start) (caplet .end) (quote .volatility) ⌝ }
+    ensures held { λ r. ⌜ CapletFitHolds (quote .sort) alpha (now (times .entry)) (now (factors .entry)) (caplet .strike) (caplet .start) (caplet .end) (quote .volatility) r ⌝ }
+    ensures bracket { λ r. ⌜ CapletFitNeverNoBracket (quote .sort) alpha (now (times .entry)) (now (factors .entry)) (caplet .strike) (caplet .start) (caplet .end) (quote .volatility) r ⌝ }
+    ensures report { λ r. ⌜ reported noFit (fittedOutcome r) ≡ reported noFit (capletFitOutcome (quote .sort) alpha (now (times .entry)) (now (factors .entry)) (caplet .strike) (caplet .start) (caplet .end) (quote .volatility)) ⌝ }
 {
     let curve = refusals::curve_faults(times, factors);
-    fit_caplet_on(curve, quote, alpha, times, factors, strike, t, end, vol)
+    fit_caplet_on(curve, quote, alpha, times, factors, caplet)
 }
 
 // The same on a curve whose faults are known: a caller has worked them on these very lists, for this call or
@@ -49,57 +50,49 @@ pub fn fit_caplet_on(
     alpha: f64,
     times: &[f64],
     factors: &[f64],
-    strike: f64,
-    t: f64,
-    end: f64,
-    vol: f64,
+    caplet: Optionlet,
 ) -> Fitted
     requires { ⌜ curve ≡ curveFaults (now times) (now factors) ⌝ }
-    ensures answer { λ r. ⌜ fittedOutcome r ≡ capletFitOutcome quote alpha (now (times .entry)) (now (factors .entry)) strike t end vol ⌝ }
-    ensures held { λ r. ⌜ CapletFitHolds quote alpha (now (times .entry)) (now (factors .entry)) strike t end vol r ⌝ }
-    ensures bracket { λ r. ⌜ CapletFitNeverNoBracket quote alpha (now (times .entry)) (now (factors .entry)) strike t end vol r ⌝ }
-    ensures report { λ r. ⌜ reported noFit (fittedOutcome r) ≡ reported noFit (capletFitOutcome quote alpha (now (times .entry)) (now (factors .entry)) strike t end vol) ⌝ }
+    ensures answer { λ r. ⌜ fittedOutcome r ≡ capletFitOutcome (quote .sort) alpha (now (times .entry)) (now (factors .entry)) (caplet .strike) (caplet .start) (caplet .end) (quote .volatility) ⌝ }
+    ensures held { λ r. ⌜ CapletFitHolds (quote .sort) alpha (now (times .entry)) (now (factors .entry)) (caplet .strike) (caplet .start) (caplet .end) (quote .volatility) r ⌝ }
+    ensures bracket { λ r. ⌜ CapletFitNeverNoBracket (quote .sort) alpha (now (times .entry)) (now (factors .entry)) (caplet .strike) (caplet .start) (caplet .end) (quote .volatility) r ⌝ }
+    ensures report { λ r. ⌜ reported noFit (fittedOutcome r) ≡ reported noFit (capletFitOutcome (quote .sort) alpha (now (times .entry)) (now (factors .entry)) (caplet .strike) (caplet .start) (caplet .end) (quote .volatility)) ⌝ }
 {
-    let answer = caplet_rules(curve, quote, alpha, strike, t, end, vol);
+    let answer = caplet_rules(curve, quote, alpha, caplet);
     if let Answer::Refused(refusal) = answer {
         return Fitted::Refused(refusal);
     }
-    caplet_fitted(quote, alpha, times, factors, strike, t, end, vol)
+    caplet_fitted(quote, alpha, times, factors, caplet)
 }
 
 // Whether a strike is one that the quote's formula cannot take.
-pub fn strike_wrong(quote: Quote, strike: f64) -> bool
+pub fn strike_wrong(quote: QuoteType, strike: f64) -> bool
     ensures { λ r. ⌜ r ≡ strikeWrong quote strike ⌝ }
 {
     match quote {
-        Quote::Black => strike <= 0.0,
-        Quote::Normal => false,
+        QuoteType::Black => strike <= 0.0,
+        QuoteType::Normal => false,
     }
 }
 
-fn caplet_rules(
-    curve: Faults,
-    quote: Quote,
-    alpha: f64,
-    strike: f64,
-    t: f64,
-    end: f64,
-    vol: f64,
-) -> Answer
-    ensures { λ r. ⌜ r ≡ firstOf (capletRules curve quote alpha strike t end vol) ⌝ }
+fn caplet_rules(curve: Faults, quote: Quote, alpha: f64, caplet: Optionlet) -> Answer
+    ensures { λ r. ⌜ r ≡ firstOf (capletRules curve (quote .sort) alpha (caplet .strike) (caplet .start) (caplet .end) (quote .volatility)) ⌝ }
 {
     let finite = math_elementary::is_finite(alpha)
-        & math_elementary::is_finite(strike)
-        & math_elementary::is_finite(t)
-        & math_elementary::is_finite(end)
-        & math_elementary::is_finite(vol);
-    let wrong = strike_wrong(quote, strike);
+        & math_elementary::is_finite(caplet.strike)
+        & math_elementary::is_finite(caplet.start)
+        & math_elementary::is_finite(caplet.end)
+        & math_elementary::is_finite(quote.volatility);
+    let sort = quote.sort;
+    let wrong = strike_wrong(sort, caplet.strike);
     let mut answer = refusals::and_rule(Answer::Served, Refusal::Size, curve.size);
     answer = refusals::and_rule(answer, Refusal::NotFinite, curve.not_finite | !finite);
     answer = refusals::and_rule(answer, Refusal::MeanReversion, alpha <= 0.0);
     answer = refusals::and_rule(answer, Refusal::Order, curve.order);
-    answer = refusals::and_rule(answer, Refusal::Times, (t <= 0.0) | (end <= t));
-    refusals::and_rule(answer, Refusal::Domain, (vol <= 0.0) | wrong | curve.domain)
+    let times = (caplet.start <= 0.0) | (caplet.end <= caplet.start);
+    answer = refusals::and_rule(answer, Refusal::Times, times);
+    let domain = (quote.volatility <= 0.0) | wrong | curve.domain;
+    refusals::and_rule(answer, Refusal::Domain, domain)
 }
 
 // The factors, then the bisection. A caller that has asked the rules, of this caplet or of several at once, has
@@ -109,54 +102,40 @@ pub fn caplet_fitted(
     alpha: f64,
     times: &[f64],
     factors: &[f64],
-    strike: f64,
-    t: f64,
-    end: f64,
-    vol: f64,
+    caplet: Optionlet,
 ) -> Fitted
     requires { ⌜ inOrder true (now times) ≡ true ⌝ }
-    ensures { λ r. ⌜ fittedOutcome r ≡ capletFitted quote alpha (now (times .entry)) (now (factors .entry)) strike t end vol ⌝ }
+    ensures { λ r. ⌜ fittedOutcome r ≡ capletFitted (quote .sort) alpha (now (times .entry)) (now (factors .entry)) (caplet .strike) (caplet .start) (caplet .end) (quote .volatility) ⌝ }
 {
-    let Found::At(p_t) = curve::factor(times, factors, t) else {
+    let Found::At(p_t) = curve::factor(times, factors, caplet.start) else {
         return Fitted::Refused(Refusal::OffCurve);
     };
-    let Found::At(p_end) = curve::factor(times, factors, end) else {
+    let Found::At(p_end) = curve::factor(times, factors, caplet.end) else {
         return Fitted::Refused(Refusal::OffCurve);
     };
-    caplet_worked(quote, alpha, strike, t, end, vol, p_t, p_end)
+    caplet_worked(quote, alpha, caplet, p_t, p_end)
 }
 
 // What does not depend on sigma, once; then the bisection.
-fn caplet_worked(
-    quote: Quote,
-    alpha: f64,
-    strike: f64,
-    t: f64,
-    end: f64,
-    vol: f64,
-    p_t: f64,
-    p_end: f64,
-) -> Fitted
-    ensures { λ r. ⌜ fittedOutcome r ≡ following (solveOf (capletObjective quote alpha strike t end vol «p_t» «p_end»)) finishingFit ⌝ }
+fn caplet_worked(quote: Quote, alpha: f64, caplet: Optionlet, p_t: f64, p_end: f64) -> Fitted
+    ensures { λ r. ⌜ fittedOutcome r ≡ following (solveOf (capletObjective (quote .sort) alpha (caplet .strike) (caplet .start) (caplet .end) (quote .volatility) «p_t» «p_end»)) finishingFit ⌝ }
 {
-    let caplet = Instrument::Caplet {
-        b: hullwhite_formulas::b_of(alpha, t, end),
-        deviation: hullwhite_formulas::state_deviation_of(alpha, t),
-        bond_strike: 1.0 / hullwhite_formulas::growth_of(end - t, strike),
-        strike,
-        t,
-        end,
+    let ahead = CapletAhead {
+        b: hullwhite_formulas::b_of(alpha, caplet.start, caplet.end),
+        deviation: hullwhite_formulas::state_deviation_of(alpha, caplet.start),
+        bond_strike: 1.0 / hullwhite_formulas::growth_of(caplet.end - caplet.start, caplet.strike),
+        caplet,
         p_t,
         p_end,
     };
-    let price = fit_objective::caplet_market_price(quote, strike, t, end, vol, p_t, p_end);
+    let price = fit_objective::caplet_market_price(quote, caplet, p_t, p_end);
     let none = [0.0; 1];
     let empty = &none[..0];
-    let fitted = fit_solver::solve(caplet, price, empty, empty, empty, empty);
+    let fitted = fit_solver::solve(Instrument::Caplet(ahead), price, empty, empty, empty, empty);
     math_bisection::finished(fitted)
 }
 
-// Kinds 10 and 11: strike, option time, quoted volatility; the coupons are payment times and accruals.
+// Kinds 10 and 11: strike and option time; the coupons are payment times and accruals.
 pub fn fit_swaption(
     quote: Quote,
     alpha: f64,
@@ -166,12 +145,11 @@ pub fn fit_swaption(
     accruals: &[f64],
     strike: f64,
     t: f64,
-    vol: f64,
 ) -> Fitted
-    ensures answer { λ r. ⌜ fittedOutcome r ≡ swaptionFitOutcome quote alpha (now (times .entry)) (now (factors .entry)) (now (payments .entry)) (now (accruals .entry)) strike t vol ⌝ }
-    ensures held { λ r. ⌜ SwaptionFitHolds quote alpha (now (times .entry)) (now (factors .entry)) (now (payments .entry)) (now (accruals .entry)) strike t vol r ⌝ }
-    ensures bracket { λ r. ⌜ SwaptionFitNoBracketExactly quote alpha (now (times .entry)) (now (factors .entry)) (now (payments .entry)) (now (accruals .entry)) strike t vol r ⌝ }
-    ensures report { λ r. ⌜ reported noFit (fittedOutcome r) ≡ reported noFit (swaptionFitOutcome quote alpha (now (times .entry)) (now (factors .entry)) (now (payments .entry)) (now (accruals .entry)) strike t vol) ⌝ }
+    ensures answer { λ r. ⌜ fittedOutcome r ≡ swaptionFitOutcome (quote .sort) alpha (now (times .entry)) (now (factors .entry)) (now (payments .entry)) (now (accruals .entry)) strike t (quote .volatility) ⌝ }
+    ensures held { λ r. ⌜ SwaptionFitHolds (quote .sort) alpha (now (times .entry)) (now (factors .entry)) (now (payments .entry)) (now (accruals .entry)) strike t (quote .volatility) r ⌝ }
+    ensures bracket { λ r. ⌜ SwaptionFitNoBracketExactly (quote .sort) alpha (now (times .entry)) (now (factors .entry)) (now (payments .entry)) (now (accruals .entry)) strike t (quote .volatility) r ⌝ }
+    ensures report { λ r. ⌜ reported noFit (fittedOutcome r) ≡ reported noFit (swaptionFitOutcome (quote .sort) alpha (now (times .entry)) (now (factors .entry)) (now (payments .entry)) (now (accruals .entry)) strike t (quote .volatility)) ⌝ }
 {
     let curve = refusals::curve_faults(times, factors);
     fit_swaption_on(
@@ -184,7 +162,6 @@ pub fn fit_swaption(
         accruals,
         strike,
         t,
-        vol,
     )
 }
 
@@ -200,32 +177,21 @@ pub fn fit_swaption_on(
     accruals: &[f64],
     strike: f64,
     t: f64,
-    vol: f64,
 ) -> Fitted
     requires { ⌜ curve ≡ curveFaults (now times) (now factors) ⌝ }
-    ensures answer { λ r. ⌜ fittedOutcome r ≡ swaptionFitOutcome quote alpha (now (times .entry)) (now (factors .entry)) (now (payments .entry)) (now (accruals .entry)) strike t vol ⌝ }
-    ensures held { λ r. ⌜ SwaptionFitHolds quote alpha (now (times .entry)) (now (factors .entry)) (now (payments .entry)) (now (accruals .entry)) strike t vol r ⌝ }
-    ensures bracket { λ r. ⌜ SwaptionFitNoBracketExactly quote alpha (now (times .entry)) (now (factors .entry)) (now (payments .entry)) (now (accruals .entry)) strike t vol r ⌝ }
-    ensures report { λ r. ⌜ reported noFit (fittedOutcome r) ≡ reported noFit (swaptionFitOutcome quote alpha (now (times .entry)) (now (factors .entry)) (now (payments .entry)) (now (accruals .entry)) strike t vol) ⌝ }
+    ensures answer { λ r. ⌜ fittedOutcome r ≡ swaptionFitOutcome (quote .sort) alpha (now (times .entry)) (now (factors .entry)) (now (payments .entry)) (now (accruals .entry)) strike t (quote .volatility) ⌝ }
+    ensures held { λ r. ⌜ SwaptionFitHolds (quote .sort) alpha (now (times .entry)) (now (factors .entry)) (now (payments .entry)) (now (accruals .entry)) strike t (quote .volatility) r ⌝ }
+    ensures bracket { λ r. ⌜ SwaptionFitNoBracketExactly (quote .sort) alpha (now (times .entry)) (now (factors .entry)) (now (payments .entry)) (now (accruals .entry)) strike t (quote .volatility) r ⌝ }
+    ensures report { λ r. ⌜ reported noFit (fittedOutcome r) ≡ reported noFit (swaptionFitOutcome (quote .sort) alpha (now (times .entry)) (now (factors .entry)) (now (payments .entry)) (now (accruals .entry)) strike t (quote .volatility)) ⌝ }
 {
     let coupons = refusals::coupon_faults(payments, accruals);
     let later = refusals::all(payments, Test::Above(t));
     let empty = payments.len() == 0;
-    let answer = swaption_rules(curve, coupons, later, empty, quote, alpha, strike, t, vol);
+    let answer = swaption_rules(curve, coupons, later, empty, quote, alpha, strike, t);
     if let Answer::Refused(refusal) = answer {
         return Fitted::Refused(refusal);
     }
-    swaption_fitted(
-        quote,
-        alpha,
-        times,
-        factors,
-        payments,
-        accruals,
-        strike,
-        t,
-        vol,
-    )
+    swaption_fitted(quote, alpha, times, factors, payments, accruals, strike, t)
 }
 
 fn swaption_rules(
@@ -237,15 +203,15 @@ fn swaption_rules(
     alpha: f64,
     strike: f64,
     t: f64,
-    vol: f64,
 ) -> Answer
-    ensures { λ r. ⌜ r ≡ firstOf (swaptionRules curve coupons later empty quote alpha strike t vol) ⌝ }
+    ensures { λ r. ⌜ r ≡ firstOf (swaptionRules curve coupons later empty (quote .sort) alpha strike t (quote .volatility)) ⌝ }
 {
     let finite = math_elementary::is_finite(alpha)
         & math_elementary::is_finite(strike)
         & math_elementary::is_finite(t)
-        & math_elementary::is_finite(vol);
-    let wrong = strike_wrong(quote, strike);
+        & math_elementary::is_finite(quote.volatility);
+    let sort = quote.sort;
+    let wrong = strike_wrong(sort, strike);
     let mut answer = refusals::and_rule(Answer::Served, Refusal::Size, curve.size | coupons.size);
     answer = refusals::and_rule(
         answer,
@@ -255,7 +221,8 @@ fn swaption_rules(
     answer = refusals::and_rule(answer, Refusal::MeanReversion, alpha <= 0.0);
     answer = refusals::and_rule(answer, Refusal::Order, curve.order);
     answer = refusals::and_rule(answer, Refusal::Times, (t <= 0.0) | !later);
-    answer = refusals::and_rule(answer, Refusal::Domain, (vol <= 0.0) | wrong | curve.domain);
+    let domain = (quote.volatility <= 0.0) | wrong | curve.domain;
+    answer = refusals::and_rule(answer, Refusal::Domain, domain);
     refusals::and_rule(answer, Refusal::Empty, empty)
 }
 
@@ -270,10 +237,9 @@ fn swaption_fitted(
     accruals: &[f64],
     strike: f64,
     t: f64,
-    vol: f64,
 ) -> Fitted
     requires { ⌜ (0 < length (now payments)) × (length (now payments) ≤ 64) × (length (now accruals) ≡ length (now payments)) × (inOrder true (now times) ≡ true) ⌝ }
-    ensures { λ r. ⌜ fittedOutcome r ≡ swaptionFitted quote alpha (now (times .entry)) (now (factors .entry)) (now (payments .entry)) (now (accruals .entry)) strike t vol ⌝ }
+    ensures { λ r. ⌜ fittedOutcome r ≡ swaptionFitted (quote .sort) alpha (now (times .entry)) (now (factors .entry)) (now (payments .entry)) (now (accruals .entry)) strike t (quote .volatility) ⌝ }
 {
     let n = payments.len();
     let mut c = [0.0; 64];
@@ -299,7 +265,6 @@ fn swaption_fitted(
                 quote,
                 strike,
                 t,
-                vol,
                 accruals,
                 p_t,
                 fetched,
@@ -327,12 +292,7 @@ fn terms_fitted(
     let n = c.len();
     let mut curve_part = [0.0; 64];
     hullwhite_terms::curve_parts(forward, p_t, b, p, &mut curve_part[..n]);
-    let swaption = Instrument::Swaption {
-        alpha,
-        share: hullwhite_formulas::stationary_share_of(alpha, t),
-        deviation: hullwhite_formulas::state_deviation_of(alpha, t),
-        p_t,
-    };
+    let swaption = Instrument::Swaption(hullwhite_jamshidian::ahead_of(alpha, t, p_t));
     let fitted = fit_solver::solve(swaption, price, c, b, &curve_part[..n], p);
     math_bisection::finished(fitted)
 }

@@ -12,7 +12,7 @@ use Rattle.refusals.specs.declared.refusals.Price.the-variants as P
 use Rattle.refusals.specs.Refusals.{served, refused, outcomeOf}
 use Rattle.math_bisection.specs.Solve.{residualAt}
 use Rattle.fit_objective.specs.declared.objective.Instrument.{Instrument}
-use Rattle.fit_objective.specs.Objective.{modelPriceOf, objectiveOf}
+use Rattle.fit_objective.specs.Ahead.{modelPriceOf, objectiveOf}
 
 module _ (instrument : Instrument) (market : Float) (cs bs ds ps : List Float) (sigma : Float) (price : Price) (h : outcomeOf price ≡ modelPriceOf instrument cs bs ds ps sigma) where
   pub residual-refused : {q : Refusal} → price ≡ P.Refused q → outcomeOf price ≡ residualAt (objectiveOf instrument market cs bs ds ps) sigma

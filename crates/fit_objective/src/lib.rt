@@ -4,7 +4,9 @@ mod market;
 mod objective;
 
 pub use market::Quote;
+pub use market::QuoteType;
 pub use market::caplet_market_price;
 pub use market::swaption_market_price;
+pub use objective::CapletAhead;
 pub use objective::Instrument;
 pub use objective::residual;

@@ -3,37 +3,37 @@ ghost use mathlib.Core.Path.{_≡_};
 ghost use Prim.Native.Nat.{_<_};
 ghost use lib.ListN.{length};
 ghost use Rattle.fit_objective.specs.Market.{vanillaCallOf, capletMarketPriceOf, annuityOf, swaptionMarketPriceOf};
+use hullwhite_formulas::Optionlet;
 
 // What a quoted volatility is one of.
-pub enum Quote {
+pub enum QuoteType {
     Black,
     Normal,
 }
 
-fn vanilla_call(quote: Quote, fwd: f64, strike: f64, vol: f64, tau: f64) -> f64
-    ensures { λ r. ⌜ r ≡ vanillaCallOf quote fwd strike vol tau ⌝ }
+// A quoted volatility.
+pub struct Quote {
+    pub sort: QuoteType,
+    pub volatility: f64,
+}
+
+fn vanilla_call(quote: Quote, fwd: f64, strike: f64, tau: f64) -> f64
+    ensures { λ r. ⌜ r ≡ vanillaCallOf (quote .sort) fwd strike (quote .volatility) tau ⌝ }
 {
-    match quote {
-        Quote::Black => quotes::black_call_of(fwd, strike, vol, tau),
-        Quote::Normal => quotes::bachelier_call_of(fwd, strike, vol, tau),
+    let sort = quote.sort;
+    match sort {
+        QuoteType::Black => quotes::black_call_of(fwd, strike, quote.volatility, tau),
+        QuoteType::Normal => quotes::bachelier_call_of(fwd, strike, quote.volatility, tau),
     }
 }
 
 // p_t and p_end are the factors at the caplet's start and end.
-pub fn caplet_market_price(
-    quote: Quote,
-    strike: f64,
-    t: f64,
-    end: f64,
-    vol: f64,
-    p_t: f64,
-    p_end: f64,
-) -> f64
-    ensures { λ r. ⌜ r ≡ capletMarketPriceOf quote strike t end vol «p_t» «p_end» ⌝ }
+pub fn caplet_market_price(quote: Quote, caplet: Optionlet, p_t: f64, p_end: f64) -> f64
+    ensures { λ r. ⌜ r ≡ capletMarketPriceOf (quote .sort) (caplet .strike) (caplet .start) (caplet .end) (quote .volatility) «p_t» «p_end» ⌝ }
 {
-    let tau = end - t;
+    let tau = caplet.end - caplet.start;
     let fwd = (p_t / p_end - 1.0) / tau;
-    p_end * tau * vanilla_call(quote, fwd, strike, vol, t)
+    p_end * tau * vanilla_call(quote, fwd, caplet.strike, caplet.start)
 }
 
 // The annuity on factors that are fetched: a caller has one for each accrual. The call on a curve adds the same
@@ -58,15 +58,14 @@ pub fn swaption_market_price(
     quote: Quote,
     strike: f64,
     t: f64,
-    vol: f64,
     accruals: &[f64],
     p_t: f64,
     p: &[f64],
 ) -> f64
     requires { ⌜ (length (now p) ≡ length (now accruals)) × (0 < length (now p)) ⌝ }
-    ensures { λ r. ⌜ r ≡ swaptionMarketPriceOf quote strike t vol (now (accruals .entry)) «p_t» (now (p .entry)) ⌝ }
+    ensures { λ r. ⌜ r ≡ swaptionMarketPriceOf (quote .sort) strike t (quote .volatility) (now (accruals .entry)) «p_t» (now (p .entry)) ⌝ }
 {
     let sum = annuity(accruals, p);
     let fwd = (p_t - p[p.len() - 1]) / sum;
-    sum * vanilla_call(quote, fwd, strike, vol, t)
+    sum * vanilla_call(quote, fwd, strike, t)
 }

@@ -5,50 +5,39 @@ ghost use Prim.Native.Nat.{_≤_};
 ghost use lib.ListN.{length};
 ghost use Rattle.refusals.specs.Refusals.{outcomeOf};
 ghost use Rattle.math_bisection.specs.Solve.{residualAt};
-ghost use Rattle.fit_objective.specs.Objective.{capletAt, modelPriceOf, valueAlone, objectiveOf};
+ghost use Rattle.fit_objective.specs.Objective.{valueAlone};
+ghost use Rattle.fit_objective.specs.Ahead.{capletAt, modelPriceOf, objectiveOf};
 ghost use Rattle.hullwhite_jamshidian.specs.Price.{swaptionOutcome};
+use hullwhite_formulas::Optionlet;
 use hullwhite_jamshidian::Swaption;
+use hullwhite_jamshidian::SwaptionAhead;
 use refusals::Price;
 use refusals::Refusal;
 
-// An instrument without its market price. A caplet has B and the deviation of its start, the strike of
-// its bond put, its own strike, start and end, and the factors there. A swaption has what its price at a
-// sigma wants beside its lists of terms.
-pub enum Instrument {
-    Caplet {
-        b: f64,
-        deviation: f64,
-        bond_strike: f64,
-        strike: f64,
-        t: f64,
-        end: f64,
-        p_t: f64,
-        p_end: f64,
-    },
-    Swaption {
-        alpha: f64,
-        share: f64,
-        deviation: f64,
-        p_t: f64,
-    },
+// What no sigma changes of a caplet's price: B and the state's deviation of its start, the strike of its bond
+// put, the caplet itself, and the factors at its start and end.
+pub struct CapletAhead {
+    pub b: f64,
+    pub deviation: f64,
+    pub bond_strike: f64,
+    pub caplet: Optionlet,
+    pub p_t: f64,
+    pub p_end: f64,
 }
 
-fn caplet_at(
-    sigma: f64,
-    b: f64,
-    deviation: f64,
-    bond_strike: f64,
-    strike: f64,
-    t: f64,
-    end: f64,
-    p_t: f64,
-    p_end: f64,
-) -> f64
-    ensures { λ r. ⌜ r ≡ capletAt sigma b deviation «bond_strike» strike t end «p_t» «p_end» ⌝ }
+// An instrument without its market price. A swaption has its lists of terms beside it.
+pub enum Instrument {
+    Caplet(CapletAhead),
+    Swaption(SwaptionAhead),
+}
+
+fn caplet_at(sigma: f64, ahead: CapletAhead) -> f64
+    ensures { λ r. ⌜ r ≡ capletAt sigma ahead ⌝ }
 {
-    let sigma_p = hullwhite_formulas::zcb_price_volatility_at(sigma, b, deviation);
-    let put = hullwhite_formulas::bond_put_of(sigma_p, bond_strike, p_t, p_end);
-    hullwhite_formulas::growth_of(end - t, strike) * put
+    let sigma_p = hullwhite_formulas::zcb_price_volatility_at(sigma, ahead.b, ahead.deviation);
+    let put = hullwhite_formulas::bond_put_of(sigma_p, ahead.bond_strike, ahead.p_t, ahead.p_end);
+    let caplet = ahead.caplet;
+    hullwhite_formulas::growth_of(caplet.end - caplet.start, caplet.strike) * put
 }
 
 // The model price at a sigma. The lists are a swaption's coefficients, B, curve's parts and factors; a caplet has
@@ -65,37 +54,10 @@ fn model_price(
     ensures { λ r. ⌜ outcomeOf r ≡ modelPriceOf instrument (now (c .entry)) (now (b .entry)) (now («curve_part» .entry)) (now (p .entry)) sigma ⌝ }
 {
     match instrument {
-        Instrument::Caplet {
-            b: b_end,
-            deviation,
-            bond_strike,
-            strike,
-            t,
-            end,
-            p_t,
-            p_end,
-        } => Price::Served(caplet_at(
+        Instrument::Caplet(ahead) => Price::Served(caplet_at(sigma, ahead)),
+        Instrument::Swaption(ahead) => value_of(hullwhite_jamshidian::price_at(
+            ahead,
             sigma,
-            b_end,
-            deviation,
-            bond_strike,
-            strike,
-            t,
-            end,
-            p_t,
-            p_end,
-        )),
-        Instrument::Swaption {
-            alpha,
-            share,
-            deviation,
-            p_t,
-        } => value_of(hullwhite_jamshidian::price_at(
-            alpha,
-            sigma,
-            share,
-            deviation,
-            p_t,
             c,
             b,
             curve_part,

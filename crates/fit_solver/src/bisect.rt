@@ -5,7 +5,7 @@ ghost use Prim.Native.Nat.{_≤_};
 ghost use lib.ListN.{length};
 ghost use Rattle.math_bisection.specs.Result.{fittedOutcome};
 ghost use Rattle.math_bisection.specs.Solve.{unconvergedAt, halvingsFrom, solveOf};
-ghost use Rattle.fit_objective.specs.Objective.{objectiveOf};
+ghost use Rattle.fit_objective.specs.Ahead.{objectiveOf};
 ghost use Rattle.fit_solver.specs.Turn.{turnAt, solveAbove};
 use fit_objective::Instrument;
 use math_bisection::Ends;

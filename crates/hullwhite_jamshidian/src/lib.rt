@@ -4,4 +4,6 @@ mod price;
 
 pub use price::Root;
 pub use price::Swaption;
+pub use price::SwaptionAhead;
+pub use price::ahead_of;
 pub use price::price_at;

@@ -3,7 +3,7 @@ ghost use mathlib.Core.Path.{_≡_};
 ghost use Prim.Native.Nat.{_≤_};
 ghost use lib.ListN.{length};
 ghost use Rattle.hullwhite_jamshidian.specs.Price.{swaptionOutcome};
-ghost use Rattle.hullwhite_jamshidian.specs.Ahead.{putAhead, putsAhead, priceAhead};
+ghost use Rattle.hullwhite_jamshidian.specs.Ahead.{aheadOf, putAhead, putsAhead, priceAhead};
 use refusals::Refusal;
 use search::Bracket;
 use search::Critical;
@@ -17,20 +17,41 @@ pub struct Root {
     pub above: u64,
 }
 
+// What no sigma changes of a swaption's price, beside its lists of terms: alpha, and of the option time the
+// stationary share, the state's deviation and the factor.
+pub struct SwaptionAhead {
+    pub alpha: f64,
+    pub share: f64,
+    pub deviation: f64,
+    pub p_t: f64,
+}
+
 pub enum Swaption {
     Served(f64, Root),
     Refused(Refusal),
 }
 
+// At an option time t whose factor is p_t.
+pub fn ahead_of(alpha: f64, t: f64, p_t: f64) -> SwaptionAhead
+    ensures { λ r. ⌜ r ≡ aheadOf alpha t «p_t» ⌝ }
+{
+    SwaptionAhead {
+        alpha,
+        share: hullwhite_formulas::stationary_share_of(alpha, t),
+        deviation: hullwhite_formulas::state_deviation_of(alpha, t),
+        p_t,
+    }
+}
+
 // One coupon's bond put, struck at the bond's price at the critical rate.
-fn coupon_put(sigma: f64, deviation: f64, p_t: f64, rate: f64, a: f64, b: f64, p: f64) -> f64
-    ensures { λ r. ⌜ r ≡ putAhead sigma deviation «p_t» rate a b p ⌝ }
+fn coupon_put(ahead: SwaptionAhead, sigma: f64, rate: f64, a: f64, b: f64, p: f64) -> f64
+    ensures { λ r. ⌜ r ≡ putAhead ahead sigma rate a b p ⌝ }
 {
     let strike = hullwhite_formulas::zcb_price_of(a, b, rate);
     hullwhite_formulas::bond_put_of(
-        hullwhite_formulas::zcb_price_volatility_at(sigma, b, deviation),
+        hullwhite_formulas::zcb_price_volatility_at(sigma, b, ahead.deviation),
         strike,
-        p_t,
+        ahead.p_t,
         p,
     )
 }
@@ -38,9 +59,8 @@ fn coupon_put(sigma: f64, deviation: f64, p_t: f64, rate: f64, a: f64, b: f64, p
 // The coupons' puts, each times its coefficient, fused. A caller has an A, a B and a factor for each
 // coefficient.
 fn puts(
+    ahead: SwaptionAhead,
     sigma: f64,
-    deviation: f64,
-    p_t: f64,
     rate: f64,
     c: &[f64],
     a: &[f64],
@@ -48,38 +68,34 @@ fn puts(
     p: &[f64],
 ) -> f64
     requires { ⌜ (length (now a) ≡ length (now c)) × (length (now b) ≡ length (now c)) × (length (now p) ≡ length (now c)) ⌝ }
-    ensures { λ r. ⌜ r ≡ putsAhead sigma deviation «p_t» rate (now (c .entry)) (now (a .entry)) (now (b .entry)) (now (p .entry)) ⌝ }
+    ensures { λ r. ⌜ r ≡ putsAhead ahead sigma rate (now (c .entry)) (now (a .entry)) (now (b .entry)) (now (p .entry)) ⌝ }
 {
     let mut total = 0.0;
     let mut i = 0;
     while i < c.len() {
-        let price = coupon_put(sigma, deviation, p_t, rate, a[i], b[i], p[i]);
+        let price = coupon_put(ahead, sigma, rate, a[i], b[i], p[i]);
         total = ieee::fused(c[i], price, total);
         i += 1;
     }
     total
 }
 
-// The price at a sigma: A a coupon, the search, then the puts. `share` and `deviation` are those of the option
-// time, p_t its factor; c, b, curve_part and p are the terms' coefficients, B, curve's parts and factors. A caller that has
-// asked rule 1 of the coupons has them of one length of at most 64.
+// The price at a sigma: A a coupon, the search, then the puts. c, b, curve_part and p are the terms' coefficients,
+// B, curve's parts and factors. A caller that has asked rule 1 of the coupons has them of one length of at most 64.
 pub fn price_at(
-    alpha: f64,
+    ahead: SwaptionAhead,
     sigma: f64,
-    share: f64,
-    deviation: f64,
-    p_t: f64,
     c: &[f64],
     b: &[f64],
     curve_part: &[f64],
     p: &[f64],
 ) -> Swaption
     requires { ⌜ (length (now c) ≤ 64) × (length (now b) ≡ length (now c)) × (length (now «curve_part») ≡ length (now c)) × (length (now p) ≡ length (now c)) ⌝ }
-    ensures { λ r. ⌜ swaptionOutcome r ≡ priceAhead alpha sigma share deviation «p_t» (now (c .entry)) (now (b .entry)) (now («curve_part» .entry)) (now (p .entry)) ⌝ }
+    ensures { λ r. ⌜ swaptionOutcome r ≡ priceAhead ahead sigma (now (c .entry)) (now (b .entry)) (now («curve_part» .entry)) (now (p .entry)) ⌝ }
 {
     let n = c.len();
     let mut a = [0.0; 64];
-    hullwhite_terms::a_list_at(alpha, sigma, share, b, curve_part, &mut a[..n]);
+    hullwhite_terms::a_list_at(ahead.alpha, sigma, ahead.share, b, curve_part, &mut a[..n]);
     let found = hullwhite_terms::find_critical_rate_of(c, &a[..n], b);
     if let Critical::NotANumber = found {
         return Swaption::Refused(Refusal::NanReached);
@@ -93,7 +109,7 @@ pub fn price_at(
     else {
         return Swaption::Refused(Refusal::NoBracket);
     };
-    let value = puts(sigma, deviation, p_t, rate, c, &a[..n], b, p);
+    let value = puts(ahead, sigma, rate, c, &a[..n], b, p);
     Swaption::Served(
         value,
         Root {

@@ -19,7 +19,6 @@ use Rattle.refusals.specs.Checks.{inOrder}
 use Rattle.refusals.specs.Faults.{curveFaults, couponFaults}
 use Rattle.refusals.proofs.Outcomes.{neither}
 use Rattle.refusals.proofs.CurveLaws.{curve-rises}
-use Rattle.hullwhite_formulas.specs.HullWhite.{stationaryShareOf, stateDeviationOf}
 use Rattle.hullwhite_terms.specs.Terms.{curvePartsOf}
 use Rattle.search.specs.Values.{rootFinite}
 use Rattle.search.proofs.Answers.{and-root}
@@ -30,8 +29,9 @@ use Rattle.hullwhite_terms.proofs.OnTerms.{terms-refused, terms-served}
 use Rattle.hullwhite_jamshidian.specs.declared.price.Swaption.{Swaption}
 use Rattle.hullwhite_jamshidian.specs.declared.price.Swaption.the-variants as S
 use Rattle.hullwhite_jamshidian.specs.declared.price.Root.{Root}
+use Rattle.hullwhite_jamshidian.specs.declared.price.SwaptionAhead.{SwaptionAhead}
 use Rattle.hullwhite_jamshidian.specs.Price.{ModelValued, swaptionOutcome, noModelValued, finishingSwaption}
-use Rattle.hullwhite_jamshidian.specs.Ahead.{priceAhead, priceOn, price-ahead}
+use Rattle.hullwhite_jamshidian.specs.Ahead.{aheadOf, priceAhead, priceOn, price-ahead}
 use Rattle.hullwhite_swaptions.specs.Model.{modelRules, modelRulesOn, termsPriced, modelPriced, modelOutcome}
 
 -- ---- the rules do not ask where the faults come from
@@ -65,10 +65,10 @@ module _ (alpha : Float) (ts fs payments accruals : List Float) (strike t sigma 
       )
 
 -- ---- the terms, and the price on them
-pub terms-are : (alpha t sigma pt forward : Float) (cs bs ps : List Float) {ds : List Float} {share deviation : Float} {o q : Outcome ModelValued}
-    → ds ≡ curvePartsOf forward pt bs ps → share ≡ stationaryShareOf alpha t → deviation ≡ stateDeviationOf alpha t
-    → o ≡ priceAhead alpha sigma share deviation pt cs bs ds ps → q ≡ following o finishingSwaption → q ≡ following (priceOn alpha t (record { pt = pt; forward = forward; coefficients = cs; bs = bs; factors = ps }) sigma) finishingSwaption
-terms-are alpha t sigma pt forward cs bs ps d y v o q = rw (← d, ← y, ← v, ← o) q
+pub terms-are : (alpha t sigma pt forward : Float) (cs bs ps : List Float) {ds : List Float} {ahead : SwaptionAhead} {o q : Outcome ModelValued}
+    → ds ≡ curvePartsOf forward pt bs ps → ahead ≡ aheadOf alpha t pt
+    → o ≡ priceAhead ahead sigma cs bs ds ps → q ≡ following o finishingSwaption → q ≡ following (priceOn alpha t (record { pt = pt; forward = forward; coefficients = cs; bs = bs; factors = ps }) sigma) finishingSwaption
+terms-are alpha t sigma pt forward cs bs ps d h o q = rw (← d, ← h, ← o) q
 
 -- on all the terms it is the price on the factors
 pub terms-priced : (alpha : Float) (payments accruals : List Float) (strike t sigma pt pPlus : Float) (ps : List Float)

@@ -161,13 +161,13 @@ fn model_priced(
     match worked {
         Terms::Refused(refusal) => Swaption::Refused(refusal),
         Terms::Served { p_t, forward } => {
-            terms_priced(alpha, t, sigma, p_t, forward, &c[..n], &b[..n], &p[..n])
+            model_price_on_terms(alpha, t, sigma, p_t, forward, &c[..n], &b[..n], &p[..n])
         }
     }
 }
 
 // The price on the terms. A caller that has worked them has the lists of one length of at most 64.
-fn terms_priced(
+fn model_price_on_terms(
     alpha: f64,
     t: f64,
     sigma: f64,
@@ -183,19 +183,8 @@ fn terms_priced(
     let n = c.len();
     let mut curve_part = [0.0; 64];
     hullwhite_terms::curve_parts(forward, p_t, b, p, &mut curve_part[..n]);
-    let share = hullwhite_formulas::stationary_share_of(alpha, t);
-    let deviation = hullwhite_formulas::state_deviation_of(alpha, t);
-    let swaption = hullwhite_jamshidian::price_at(
-        alpha,
-        sigma,
-        share,
-        deviation,
-        p_t,
-        c,
-        b,
-        &curve_part[..n],
-        p,
-    );
+    let ahead = hullwhite_jamshidian::ahead_of(alpha, t, p_t);
+    let swaption = hullwhite_jamshidian::price_at(ahead, sigma, c, b, &curve_part[..n], p);
     finished(swaption)
 }
 

@@ -12,9 +12,6 @@ fitted c = c .before .before .before .before .before
 abbrev start : tie.After-caplet-fitted → tie.Start
 start c = c .before .before .before .before
 
-quote-of-requires : tie.Need-quote-of-requires
-quote-of-requires c κs = search needs
-
 caplet-fitted-requires : tie.Need-caplet-fitted-requires
 caplet-fitted-requires c κs = search needs
 
@@ -28,7 +25,7 @@ returns : tie.Need-returns
 returns c =
     let f = c .before .before in
     let a = start f .args in
-    bump-refused (a .alpha) (now (a .times)) (now (a .factors)) (a .strike) (a .start) (a .end) (a .vol) (a .sigma) (a .normal) (f .before .quote-of .ensures) _ (f .caplet-fitted .ensures) (c .enum-told .given .1)
+    bump-refused (a .alpha) (now (a .times)) (now (a .factors)) (a .quote) (a .caplet) (a .sigma) _ (f .caplet-fitted .ensures) (c .enum-told .given .1)
 
 diagonal-of-requires : tie.Need-diagonal-of-requires
 diagonal-of-requires c κs = search needs
@@ -40,19 +37,18 @@ returns-2 : tie.Need-returns-2
 returns-2 c =
     let f = fitted (c .before) in
     let a = start f .args in
-    bump-kept (a .alpha) (now (a .times)) (now (a .factors)) (a .strike) (a .start) (a .end) (a .vol) (a .sigma) (a .normal) (f .before .quote-of .ensures) _ (f .caplet-fitted .ensures) (c .before .before .before .before .fitted .given .1) (c .before .before .diagonal-of .ensures) (c .before .is-finite .ensures) (c .if1 .taken)
+    bump-kept (a .alpha) (now (a .times)) (now (a .factors)) (a .quote) (a .caplet) (a .sigma) _ (f .caplet-fitted .ensures) (c .before .before .before .before .fitted .given .1) (c .before .before .diagonal-of .ensures) (c .before .is-finite .ensures) (c .if1 .taken)
 
 returns-3 : tie.Need-returns-3
 returns-3 c =
     let f = fitted (c .before) in
     let a = start f .args in
-    bump-lost (a .alpha) (now (a .times)) (now (a .factors)) (a .strike) (a .start) (a .end) (a .vol) (a .sigma) (a .normal) (f .before .quote-of .ensures) _ (f .caplet-fitted .ensures) (c .before .before .before .before .fitted .given .1) (c .before .before .diagonal-of .ensures) (c .before .is-finite .ensures) (c .if1 .left)
+    bump-lost (a .alpha) (now (a .times)) (now (a .factors)) (a .quote) (a .caplet) (a .sigma) _ (f .caplet-fitted .ensures) (c .before .before .before .before .fitted .given .1) (c .before .before .diagonal-of .ensures) (c .before .is-finite .ensures) (c .if1 .left)
 
 pub bumped-spec : {M : Type 1} → statement M
 bumped-spec =
     tie.close
     (tie.spec
-    quote-of-requires
     caplet-fitted-requires
     enum-known-fitted
     enum-told

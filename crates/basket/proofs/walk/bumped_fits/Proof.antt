@@ -1,5 +1,5 @@
 -- `basket::walk::bumped_fits` meets its contract: each turn of its loop writes the next entry's bump, and a refusal ends it. Assumes nothing.
-use Prim.Native.Nat.{_+_, _-_}
+use Prim.Native.Nat.{_+_, _*_, _-_}
 use native.Mathlib.Omega.{arith}
 use mir.Syntax.{w64}
 use mir.Val.{Fits}
@@ -15,53 +15,35 @@ Inv-loop alpha times factors normals strikes starts ends vols sigmas diagonal₀
 abbrev μ-loop : tie.MeasureT-loop
 μ-loop alpha times factors normals strikes starts ends vols sigmas diagonal₀ statuses₀ i₀ diagonal statuses i = length normals - i
 
--- the points of the walk that the rest speaks of: where it was called, from the first list to write, and the place of a turn, from its bump
+-- the points of the walk that the rest speaks of: where it was called, from the first list to write, and the turn, from its bump
 abbrev called : tie.After-slice-known Inv-loop μ-loop → tie.Start Inv-loop μ-loop
 called c = c .before .before .before .before .before .before .before .before .before
 
-abbrev place : tie.After-bumped Inv-loop μ-loop → tie.After-shared-slice-known9 Inv-loop μ-loop
-place c = c .before .before .before .before .before .before
+abbrev turned : tie.After-bumped Inv-loop μ-loop → tie.In-loop Inv-loop μ-loop
+turned c = c .before .before .before .before
 
 -- ---- what a turn knows of its place
 next-fits : (t : tie.In-loop Inv-loop μ-loop) → Fits w64 (t .before .loop .i + 1)
 next-fits t = omega arith
 
+place-fits : (t : tie.In-loop Inv-loop μ-loop) → Fits w64 (t .before .loop .i * 8)
+place-fits t = omega arith
+
 -- ---- the needs
 loop-holds : tie.Need-loop-holds Inv-loop μ-loop
 loop-holds c = let p = called (c .before) .pre in start (p .0) (p .1) (p .2) (p .3) (p .4) (p .5) (p .6)
 
-shared-slice-read-bumped : tie.Need-shared-slice-read-bumped Inv-loop μ-loop
-shared-slice-read-bumped c = search needs
+quote-at-requires : tie.Need-quote-at-requires Inv-loop μ-loop
+quote-at-requires c κs = (search needs, search needs)
+
+caplet-at-requires : tie.Need-caplet-at-requires Inv-loop μ-loop
+caplet-at-requires c κs = (search needs, search needs, search needs)
 
 mul-bumped : tie.Need-mul-bumped Inv-loop μ-loop
 mul-bumped c = search needs
 
-shared-slice-read-bumped-2 : tie.Need-shared-slice-read-bumped-2 Inv-loop μ-loop
-shared-slice-read-bumped-2 c = search needs
-
-mul-bumped-2 : tie.Need-mul-bumped-2 Inv-loop μ-loop
-mul-bumped-2 c = search needs
-
-shared-slice-read-bumped-3 : tie.Need-shared-slice-read-bumped-3 Inv-loop μ-loop
-shared-slice-read-bumped-3 c = search needs
-
-mul-bumped-3 : tie.Need-mul-bumped-3 Inv-loop μ-loop
-mul-bumped-3 c = search needs
-
-shared-slice-read-bumped-4 : tie.Need-shared-slice-read-bumped-4 Inv-loop μ-loop
-shared-slice-read-bumped-4 c = search needs
-
-mul-bumped-4 : tie.Need-mul-bumped-4 Inv-loop μ-loop
-mul-bumped-4 c = search needs
-
-shared-slice-read-bumped-5 : tie.Need-shared-slice-read-bumped-5 Inv-loop μ-loop
-shared-slice-read-bumped-5 c = search needs
-
-mul-bumped-5 : tie.Need-mul-bumped-5 Inv-loop μ-loop
-mul-bumped-5 c = search needs
-
-shared-slice-read-bumped-6 : tie.Need-shared-slice-read-bumped-6 Inv-loop μ-loop
-shared-slice-read-bumped-6 c = search needs
+shared-slice-read-bumped : tie.Need-shared-slice-read-bumped Inv-loop μ-loop
+shared-slice-read-bumped c = search needs
 
 bumped-requires : tie.Need-bumped-requires Inv-loop μ-loop
 bumped-requires c κs = search needs
@@ -76,13 +58,15 @@ same-length-2 : tie.Need-same-length-2 Inv-loop μ-loop
 same-length-2 c = search needs
 
 returns : tie.Need-returns Inv-loop μ-loop
-returns c = stop (place (c .before .before .before) .before .loop-test .taken) (place (c .before .before .before) .before .before .loop .inv) (bump-gave-none (c .before .fitted .given .1) (c .before .before .before .bumped .ensures))
+returns c =
+    let f = c .before .before .before in
+    stop (turned f .loop-test .taken) (turned f .before .loop .inv) (bump-gave-none _ _ _ _ (f .before .before .before .quote-at .ensures) (f .before .before .caplet-at .ensures) _ (f .bumped .ensures) (c .before .fitted .given .1))
 
 enum-known-fitted-2 : tie.Need-enum-known-fitted-2 Inv-loop μ-loop
 enum-known-fitted-2 c = search needs
 
 mul-diagonal-of : tie.Need-mul-diagonal-of Inv-loop μ-loop
-mul-diagonal-of c = mul-bumped (place (c .before .before .before))
+mul-diagonal-of c = place-fits (turned (c .before .before .before))
 
 shared-slice-read-diagonal-of : tie.Need-shared-slice-read-diagonal-of Inv-loop μ-loop
 shared-slice-read-diagonal-of c = search needs
@@ -91,7 +75,7 @@ diagonal-of-requires : tie.Need-diagonal-of-requires Inv-loop μ-loop
 diagonal-of-requires c κs = search needs
 
 mul-diagonal : tie.Need-mul-diagonal Inv-loop μ-loop
-mul-diagonal c = mul-bumped (place (c .before .before .before .before .before))
+mul-diagonal c = place-fits (turned (c .before .before .before .before .before))
 
 slice-write-diagonal : tie.Need-slice-write-diagonal Inv-loop μ-loop
 slice-write-diagonal c = search needs
@@ -100,19 +84,21 @@ status-of-requires : tie.Need-status-of-requires Inv-loop μ-loop
 status-of-requires c κs = search needs
 
 mul-statuses : tie.Need-mul-statuses Inv-loop μ-loop
-mul-statuses c = mul-bumped (place (c .before .before .before .before .before .before))
+mul-statuses c = place-fits (turned (c .before .before .before .before .before .before))
 
 slice-write-statuses : tie.Need-slice-write-statuses Inv-loop μ-loop
 slice-write-statuses c = search needs
 
 add-i : tie.Need-add-i Inv-loop μ-loop
-add-i c = next-fits (place (c .before .before .before .before .before .before) .before)
+add-i c = next-fits (turned (c .before .before .before .before .before .before))
 
 loop-less : tie.Need-loop-less Inv-loop μ-loop
 loop-less c = search needs
 
 loop-again : tie.Need-loop-again Inv-loop μ-loop
-loop-again c = turn (place (c .before .before .before .before .before .before) .before .loop-test .taken) (place (c .before .before .before .before .before .before) .before .before .loop .inv) (c .before .diagonal-of .ensures) (c .status-of .ensures) (bump-gave (c .before .before .before .before .fitted2 .given .1) (c .before .before .before .before .before .before .bumped .ensures))
+loop-again c =
+    let f = c .before .before .before .before .before .before in
+    turn (turned f .loop-test .taken) (turned f .before .loop .inv) (c .before .diagonal-of .ensures) (c .status-of .ensures) (bump-gave _ _ _ _ (f .before .before .before .quote-at .ensures) (f .before .before .caplet-at .ensures) _ (f .bumped .ensures) (c .before .before .before .before .fitted2 .given .1))
 
 same-length-3 : tie.Need-same-length-3 Inv-loop μ-loop
 same-length-3 c = search needs
@@ -130,17 +116,10 @@ bumped-fits-spec =
     Inv-loop
     μ-loop
     loop-holds
-    shared-slice-read-bumped
+    quote-at-requires
+    caplet-at-requires
     mul-bumped
-    shared-slice-read-bumped-2
-    mul-bumped-2
-    shared-slice-read-bumped-3
-    mul-bumped-3
-    shared-slice-read-bumped-4
-    mul-bumped-4
-    shared-slice-read-bumped-5
-    mul-bumped-5
-    shared-slice-read-bumped-6
+    shared-slice-read-bumped
     bumped-requires
     enum-known-fitted
     same-length

@@ -1,5 +1,5 @@
 -- `basket::walk::first_fits` meets its contract: each turn of its loop writes the next entry's record, and a refusal ends it. Assumes nothing.
-use Prim.Native.Nat.{_+_, _-_}
+use Prim.Native.Nat.{_+_, _*_, _-_}
 use native.Mathlib.Omega.{arith}
 use mir.Syntax.{w64}
 use mir.Val.{Fits}
@@ -16,50 +16,29 @@ Inv-loop alpha times factors normals strikes starts ends vols sigmas₀ statuses
 abbrev μ-loop : tie.MeasureT-loop
 μ-loop alpha times factors normals strikes starts ends vols sigmas₀ statuses₀ halvings₀ residuals₀ i₀ sigmas statuses halvings residuals i = length normals - i
 
--- the points of the walk that the rest speaks of: where it was called, from the second list to write, and the quote of a turn, from its fit
+-- the points of the walk that the rest speaks of: where it was called, from the second list to write, and the turn, from its fit
 abbrev called : tie.After-slice-known2 Inv-loop μ-loop → tie.Start Inv-loop μ-loop
 called c = c .before .before .before .before .before .before .before .before .before
 
-abbrev quoted : tie.After-caplet-fitted Inv-loop μ-loop → tie.After-quote-of Inv-loop μ-loop
-quoted c = c .before .before .before .before .before
+abbrev turned : tie.After-caplet-fitted Inv-loop μ-loop → tie.In-loop Inv-loop μ-loop
+turned c = c .before .before .before
 
 -- ---- what a turn knows of its place
 next-fits : (t : tie.In-loop Inv-loop μ-loop) → Fits w64 (t .before .loop .i + 1)
 next-fits t = omega arith
 
+place-fits : (t : tie.In-loop Inv-loop μ-loop) → Fits w64 (t .before .loop .i * 8)
+place-fits t = omega arith
+
 -- ---- the needs
 loop-holds : tie.Need-loop-holds Inv-loop μ-loop
 loop-holds c = let p = called (c .before .before) .pre in start (p .0) (p .1) (p .2) (p .3) (p .4) (p .5) (p .6) (p .7)
 
-shared-slice-read-quote-of : tie.Need-shared-slice-read-quote-of Inv-loop μ-loop
-shared-slice-read-quote-of c = search needs
+quote-at-requires : tie.Need-quote-at-requires Inv-loop μ-loop
+quote-at-requires c κs = (search needs, search needs)
 
-quote-of-requires : tie.Need-quote-of-requires Inv-loop μ-loop
-quote-of-requires c κs = search needs
-
-mul-caplet-fitted : tie.Need-mul-caplet-fitted Inv-loop μ-loop
-mul-caplet-fitted c = search needs
-
-shared-slice-read-caplet-fitted : tie.Need-shared-slice-read-caplet-fitted Inv-loop μ-loop
-shared-slice-read-caplet-fitted c = search needs
-
-mul-caplet-fitted-2 : tie.Need-mul-caplet-fitted-2 Inv-loop μ-loop
-mul-caplet-fitted-2 c = search needs
-
-shared-slice-read-caplet-fitted-2 : tie.Need-shared-slice-read-caplet-fitted-2 Inv-loop μ-loop
-shared-slice-read-caplet-fitted-2 c = search needs
-
-mul-caplet-fitted-3 : tie.Need-mul-caplet-fitted-3 Inv-loop μ-loop
-mul-caplet-fitted-3 c = search needs
-
-shared-slice-read-caplet-fitted-3 : tie.Need-shared-slice-read-caplet-fitted-3 Inv-loop μ-loop
-shared-slice-read-caplet-fitted-3 c = search needs
-
-mul-caplet-fitted-4 : tie.Need-mul-caplet-fitted-4 Inv-loop μ-loop
-mul-caplet-fitted-4 c = search needs
-
-shared-slice-read-caplet-fitted-4 : tie.Need-shared-slice-read-caplet-fitted-4 Inv-loop μ-loop
-shared-slice-read-caplet-fitted-4 c = search needs
+caplet-at-requires : tie.Need-caplet-at-requires Inv-loop μ-loop
+caplet-at-requires c κs = (search needs, search needs, search needs)
 
 caplet-fitted-requires : tie.Need-caplet-fitted-requires Inv-loop μ-loop
 caplet-fitted-requires c κs = search needs
@@ -82,14 +61,13 @@ same-length-4 c = search needs
 returns : tie.Need-returns Inv-loop μ-loop
 returns c =
     let f = c .before .before .before in
-    let q = quoted f in
-    stop (q .before .before .loop-test .taken) (q .before .before .before .loop .inv) (fit-refused _ _ _ _ _ _ _ (q .quote-of .ensures) _ (f .caplet-fitted .ensures) (c .before .fitted .given .1))
+    stop (turned f .loop-test .taken) (turned f .before .loop .inv) (fit-refused _ _ _ (f .before .before .quote-at .ensures) (f .before .caplet-at .ensures) _ (f .caplet-fitted .ensures) (c .before .fitted .given .1))
 
 enum-known-fitted-2 : tie.Need-enum-known-fitted-2 Inv-loop μ-loop
 enum-known-fitted-2 c = search needs
 
 mul-sigmas : tie.Need-mul-sigmas Inv-loop μ-loop
-mul-sigmas c = mul-caplet-fitted (quoted (c .before .before .before))
+mul-sigmas c = place-fits (turned (c .before .before .before))
 
 slice-write-sigmas : tie.Need-slice-write-sigmas Inv-loop μ-loop
 slice-write-sigmas c = search needs
@@ -98,28 +76,30 @@ status-of-requires : tie.Need-status-of-requires Inv-loop μ-loop
 status-of-requires c κs = search needs
 
 mul-statuses : tie.Need-mul-statuses Inv-loop μ-loop
-mul-statuses c = mul-caplet-fitted (quoted (c .before .before .before .before))
+mul-statuses c = place-fits (turned (c .before .before .before .before))
 
 slice-write-statuses : tie.Need-slice-write-statuses Inv-loop μ-loop
 slice-write-statuses c = search needs
 
 int-to-float-halvings : tie.Need-int-to-float-halvings Inv-loop μ-loop
-int-to-float-halvings c = let f = c .before .before .before .before .before in in-float _ (halvings-in _ _ _ _ _ _ _ _ _ (fit-served _ _ _ _ _ _ _ (quoted f .quote-of .ensures) _ (f .caplet-fitted .ensures) (c .before .before .before .fitted2 .given .1)))
+int-to-float-halvings c =
+    let f = c .before .before .before .before .before in
+    in-float _ (halvings-in _ _ _ _ _ _ _ _ _ (fit-served _ _ _ (f .before .before .quote-at .ensures) (f .before .caplet-at .ensures) _ (f .caplet-fitted .ensures) (c .before .before .before .fitted2 .given .1)))
 
 mul-halvings : tie.Need-mul-halvings Inv-loop μ-loop
-mul-halvings c = mul-caplet-fitted (quoted (c .before .before .before .before .before))
+mul-halvings c = place-fits (turned (c .before .before .before .before .before))
 
 slice-write-halvings : tie.Need-slice-write-halvings Inv-loop μ-loop
 slice-write-halvings c = search needs
 
 mul-residuals : tie.Need-mul-residuals Inv-loop μ-loop
-mul-residuals c = mul-caplet-fitted (quoted (c .before .before .before .before .before))
+mul-residuals c = place-fits (turned (c .before .before .before .before .before))
 
 slice-write-residuals : tie.Need-slice-write-residuals Inv-loop μ-loop
 slice-write-residuals c = search needs
 
 add-i : tie.Need-add-i Inv-loop μ-loop
-add-i c = next-fits (quoted (c .before .before .before .before .before) .before .before)
+add-i c = next-fits (turned (c .before .before .before .before .before))
 
 loop-less : tie.Need-loop-less Inv-loop μ-loop
 loop-less c = search needs
@@ -127,8 +107,7 @@ loop-less c = search needs
 loop-again : tie.Need-loop-again Inv-loop μ-loop
 loop-again c =
     let f = c .before .before .before .before .before in
-    let q = quoted f in
-    turn (q .before .before .loop-test .taken) (q .before .before .before .loop .inv) (c .before .status-of .ensures) (fit-served _ _ _ _ _ _ _ (q .quote-of .ensures) _ (f .caplet-fitted .ensures) (c .before .before .before .fitted2 .given .1))
+    turn (turned f .loop-test .taken) (turned f .before .loop .inv) (c .before .status-of .ensures) (fit-served _ _ _ (f .before .before .quote-at .ensures) (f .before .caplet-at .ensures) _ (f .caplet-fitted .ensures) (c .before .before .before .fitted2 .given .1))
 
 same-length-5 : tie.Need-same-length-5 Inv-loop μ-loop
 same-length-5 c = search needs
@@ -152,16 +131,8 @@ first-fits-spec =
     Inv-loop
     μ-loop
     loop-holds
-    shared-slice-read-quote-of
-    quote-of-requires
-    mul-caplet-fitted
-    shared-slice-read-caplet-fitted
-    mul-caplet-fitted-2
-    shared-slice-read-caplet-fitted-2
-    mul-caplet-fitted-3
-    shared-slice-read-caplet-fitted-3
-    mul-caplet-fitted-4
-    shared-slice-read-caplet-fitted-4
+    quote-at-requires
+    caplet-at-requires
     caplet-fitted-requires
     enum-known-fitted
     same-length

@@ -42,8 +42,8 @@ and-rule-requires-6 c κs = search needs
 
 returns : tie.Need-returns
 returns c =
-    let r5 = c .before .before in
-    let r4 = r5 .before in
+    let r5 = c .before .before .before in
+    let r4 = r5 .before .before .before in
     let r3 = r4 .before in
     let r2 = r3 .before in
     let r1 = r2 .before .before in

@@ -35,7 +35,7 @@ finished-requires c κs = search needs
 
 returns : tie.Need-returns
 unfolding optionletStrikeOf
-returns c = caplet-fit _ _ _ _ _ _ _ _ _ _ _ _ (c .before .before .before .before .before .before .b-of .ensures) (c .before .before .before .before .before .state-deviation-of .ensures) (ap (λ (g : Float). one ⊘ g) (c .before .before .before .before .growth-of .ensures)) (c .before .before .before .caplet-market-price .ensures) (c .before .solve .ensures) (c .finished .ensures)
+returns c = caplet-fit _ _ _ _ _ _ _ _ _ (c .before .before .before .before .before .before .before .b-of .ensures) (c .before .before .before .before .before .before .state-deviation-of .ensures) (ap (λ (g : Float). one ⊘ g) (c .before .before .before .before .growth-of .ensures)) (c .before .before .before .caplet-market-price .ensures) (c .before .solve .ensures) (c .finished .ensures)
 
 pub caplet-worked-spec : {M : Type 1} → statement M
 caplet-worked-spec =

@@ -43,7 +43,7 @@ and-rule-requires-7 c κs = search needs
 returns : tie.Need-returns
 returns c =
     let r6 = c .before in
-    let r5 = r6 .before .before in
+    let r5 = r6 .before .before .before in
     let r4 = r5 .before in
     let r3 = r4 .before in
     let r2 = r3 .before in

@@ -23,21 +23,18 @@ slice-aggregate-curve-parts c = lent-is work _ (c .before .before .before .befor
 curve-parts-requires : tie.Need-curve-parts-requires
 curve-parts-requires c κs = let s = c .before .before .before .before .pre in (sym (lent-is work _ (s .0)) ∙ sym (s .1), s .2 ∙ sym (s .1))
 
-stationary-share-of-requires : tie.Need-stationary-share-of-requires
-stationary-share-of-requires c κs = search needs
-
-state-deviation-of-requires : tie.Need-state-deviation-of-requires
-state-deviation-of-requires c κs = search needs
+ahead-of-requires : tie.Need-ahead-of-requires
+ahead-of-requires c κs = search needs
 
 array-share-prefix-curve-part : tie.Need-array-share-prefix-curve-part
-array-share-prefix-curve-part c = let d = c .before .before .before in back-fits work _ (d .before .before .before .before .before .pre .0) (ds-of d) (d .curve-parts .kept .1 .1 .1 .1 .0)
+array-share-prefix-curve-part c = let d = c .before .before in back-fits work _ (d .before .before .before .before .before .pre .0) (ds-of d) (d .curve-parts .kept .1 .1 .1 .1 .0)
 
 slice-aggregate-solve : tie.Need-slice-aggregate-solve
-slice-aggregate-solve c = let d = c .before .before .before .before in back-is work _ (d .before .before .before .before .before .pre .0) (ds-of d) (d .curve-parts .kept .1 .1 .1 .1 .0)
+slice-aggregate-solve c = let d = c .before .before .before in back-is work _ (d .before .before .before .before .before .pre .0) (ds-of d) (d .curve-parts .kept .1 .1 .1 .1 .0)
 
 solve-requires : tie.Need-solve-requires
 solve-requires c κs =
-    let d = c .before .before .before .before in
+    let d = c .before .before .before in
     let s = d .before .before .before .before .before .pre in
     (s .0, s .1, sym (back-is work _ (s .0) (ds-of d) (d .curve-parts .kept .1 .1 .1 .1 .0)), s .2)
 
@@ -46,8 +43,8 @@ finished-requires c κs = search needs
 
 returns : tie.Need-returns
 returns c =
-    let d = c .before .before .before .before .before .before in
-    swaption-fit _ _ _ _ _ _ _ _ (values-are work _ (d .before .before .before .before .before .pre .0) (ds-of d) (d .curve-parts .kept .1 .1 .1 .1 .0) ∙ d .curve-parts .ensures) (c .before .before .before .before .stationary-share-of .ensures) (c .before .before .before .state-deviation-of .ensures) (c .before .solve .ensures) (c .finished .ensures)
+    let d = c .before .before .before .before .before in
+    swaption-fit _ _ _ _ _ _ _ _ (values-are work _ (d .before .before .before .before .before .pre .0) (ds-of d) (d .curve-parts .kept .1 .1 .1 .1 .0) ∙ d .curve-parts .ensures) (c .before .before .before .ahead-of .ensures) (c .before .solve .ensures) (c .finished .ensures)
 
 pub terms-fitted-spec : {M : Type 1} → statement M
 terms-fitted-spec =
@@ -56,8 +53,7 @@ terms-fitted-spec =
     array-borrow-prefix-curve-part
     slice-aggregate-curve-parts
     curve-parts-requires
-    stationary-share-of-requires
-    state-deviation-of-requires
+    ahead-of-requires
     array-share-prefix-curve-part
     slice-aggregate-solve
     solve-requires

@@ -1,6 +1,6 @@
 -- `fit_objective::objective::caplet_at` meets its contract. Assumes nothing.
 use Rattle.hullwhite_formulas.specs.HullWhite.{optionletOf}
-use Rattle.fit_objective.specs.Objective.{capletAt}
+use Rattle.fit_objective.specs.Ahead.{capletAt}
 use borrow.Author.Needs.{needs}
 use Rattle.fit_objective.proofs.objective.caplet_at.Statement.{statement}
 use Rattle.fit_objective.proofs.objective.caplet_at.Tie as tie
@@ -16,7 +16,7 @@ growth-of-requires c κs = search needs
 
 returns : tie.Need-returns
 unfolding capletAt optionletOf
-returns c = rw (c .growth-of .ensures, c .before .bond-put-of .ensures, c .before .before .zcb-price-volatility-at .ensures)
+returns c = rw (c .growth-of .ensures, c .before .before .before .bond-put-of .ensures, c .before .before .before .before .zcb-price-volatility-at .ensures)
 
 pub caplet-at-spec : {M : Type 1} → statement M
 caplet-at-spec =

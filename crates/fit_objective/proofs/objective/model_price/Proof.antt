@@ -1,7 +1,8 @@
 -- `fit_objective::objective::model_price` meets its contract: each arm is what `modelPriceOf` says of its instrument. Assumes nothing.
 use mathlib.Core.Path.{ap, _∙_}
 use Rattle.refusals.specs.Refusals.{served}
-use Rattle.fit_objective.specs.Objective.{valueAlone, modelPriceOf}
+use Rattle.fit_objective.specs.Objective.{valueAlone}
+use Rattle.fit_objective.specs.Ahead.{modelPriceOf}
 use borrow.Author.Needs.{needs}
 use Rattle.fit_objective.proofs.objective.model_price.Statement.{statement}
 use Rattle.fit_objective.proofs.objective.model_price.Tie as tie

@@ -2,7 +2,7 @@
 use mathlib.Core.Path.{_≡_, refl, sym, _∙_}
 use Prim.Native.Nat.{_-_, _≤_}
 use Rattle.math_bisection.specs.Solve.{halvingsFrom}
-use Rattle.fit_objective.specs.Objective.{objectiveOf}
+use Rattle.fit_objective.specs.Ahead.{objectiveOf}
 use Rattle.fit_solver.proofs.Turning.{turn-unmoved, count-refused, count-converged, count-moved, count-done}
 use borrow.Author.Needs.{needs}
 use Rattle.fit_solver.proofs.bisect.halvings.Statement.{statement}

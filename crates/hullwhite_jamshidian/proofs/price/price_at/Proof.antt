@@ -43,7 +43,7 @@ returns : tie.Need-returns
 returns c =
     let k = c .before .before in
     let v = k .before .before .before in
-    price-is _ _ _ _ _ _ _ _ _ (values-are work _ (v .before .before .before .before .before .before .pre .0) (as-of v) (v .a-list-at .kept .1 .1 .1 .1 .1 .0) ∙ v .a-list-at .ensures) (k .find-critical-rate-of .ensures) Critical.NotANumber (c .enum-told .given .1)
+    price-is _ _ _ _ _ _ (values-are work _ (v .before .before .before .before .before .before .pre .0) (as-of v) (v .a-list-at .kept .1 .1 .1 .1 .1 .0) ∙ v .a-list-at .ensures) (k .find-critical-rate-of .ensures) Critical.NotANumber (c .enum-told .given .1)
 
 enum-known-found : tie.Need-enum-known-found
 enum-known-found c = search needs
@@ -52,7 +52,7 @@ returns-2 : tie.Need-returns-2
 returns-2 c =
     let k = c .before .before in
     let v = k .before .before .before in
-    price-is _ _ _ _ _ _ _ _ _ (values-are work _ (v .before .before .before .before .before .before .pre .0) (as-of v) (v .a-list-at .kept .1 .1 .1 .1 .1 .0) ∙ v .a-list-at .ensures) (k .find-critical-rate-of .ensures) Critical.NoBracket (nothing-found (k .find-critical-rate-of .result) (c .before .match .keys2) (c .match2 .keys2))
+    price-is _ _ _ _ _ _ (values-are work _ (v .before .before .before .before .before .before .pre .0) (as-of v) (v .a-list-at .kept .1 .1 .1 .1 .1 .0) ∙ v .a-list-at .ensures) (k .find-critical-rate-of .ensures) Critical.NoBracket (nothing-found (k .find-critical-rate-of .result) (c .before .match .keys2) (c .match2 .keys2))
 
 array-share-prefix-a-2 : tie.Need-array-share-prefix-a-2
 array-share-prefix-a-2 c = let v = c .before .before .before .before .before .before .before in back-fits work _ (v .before .before .before .before .before .before .pre .0) (as-of v) (v .a-list-at .kept .1 .1 .1 .1 .1 .0)
@@ -70,7 +70,7 @@ returns-3 : tie.Need-returns-3
 returns-3 c =
     let k = c .before .before .before .before .before .before in
     let v = k .before .before .before in
-    rw (c .puts .ensures) (price-is _ _ _ _ _ _ _ _ _ (values-are work _ (v .before .before .before .before .before .before .pre .0) (as-of v) (v .a-list-at .kept .1 .1 .1 .1 .1 .0) ∙ v .a-list-at .ensures) (k .find-critical-rate-of .ensures) _ (c .before .before .before .found .given .1))
+    rw (c .puts .ensures) (price-is _ _ _ _ _ _ (values-are work _ (v .before .before .before .before .before .before .pre .0) (as-of v) (v .a-list-at .kept .1 .1 .1 .1 .1 .0) ∙ v .a-list-at .ensures) (k .find-critical-rate-of .ensures) _ (c .before .before .before .found .given .1))
 
 pub price-at-spec : {M : Type 1} → statement M
 price-at-spec =

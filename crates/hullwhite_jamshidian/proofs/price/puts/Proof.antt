@@ -9,10 +9,10 @@ use Rattle.hullwhite_jamshidian.proofs.price.puts.Statement.{statement}
 use Rattle.hullwhite_jamshidian.proofs.price.puts.Tie as tie
 
 abbrev Inv-loop : tie.InvT-loop
-Inv-loop sigma deviation p-t rate c a b p total₀ i₀ total i = (i ≤ length c) × (putsAheadOnto total sigma deviation p-t rate (drop i c) (drop i a) (drop i b) (drop i p) ≡ putsAhead sigma deviation p-t rate c a b p)
+Inv-loop ahead sigma rate c a b p total₀ i₀ total i = (i ≤ length c) × (putsAheadOnto total ahead sigma rate (drop i c) (drop i a) (drop i b) (drop i p) ≡ putsAhead ahead sigma rate c a b p)
 
 abbrev μ-loop : tie.MeasureT-loop
-μ-loop sigma deviation p-t rate c a b p total₀ i₀ total i = length c - i
+μ-loop ahead sigma rate c a b p total₀ i₀ total i = length c - i
 
 loop-holds : tie.Need-loop-holds Inv-loop μ-loop
 loop-holds c = (search needs, unfold putsAhead in refl)
@@ -54,10 +54,10 @@ loop-less : tie.Need-loop-less Inv-loop μ-loop
 loop-less c = search needs
 
 loop-again : tie.Need-loop-again Inv-loop μ-loop
-loop-again c = (search needs, puts-on _ _ _ _ _ _ _ _ _ _ _ _ (c .before .before .before .before .before .before .loop-test .taken) (search needs) (search needs) (search needs) (c .before .before .coupon-put .ensures) (c .fused .ensures) ∙ c .before .before .before .before .before .before .before .loop .inv .1)
+loop-again c = (search needs, puts-on _ _ _ _ _ _ _ _ _ _ _ (c .before .before .before .before .before .before .loop-test .taken) (search needs) (search needs) (search needs) (c .before .before .coupon-put .ensures) (c .fused .ensures) ∙ c .before .before .before .before .before .before .before .loop .inv .1)
 
 returns : tie.Need-returns Inv-loop μ-loop
-returns c = puts-done _ _ _ _ _ _ _ _ _ _ (c .loop-test .left) ∙ c .before .loop .inv .1
+returns c = puts-done _ _ _ _ _ _ _ _ _ (c .loop-test .left) ∙ c .before .loop .inv .1
 
 pub puts-spec : {M : Type 1} → statement M
 puts-spec =

@@ -60,23 +60,23 @@ enum-known-worked-2 c = search needs
 array-share-prefix-c : tie.Need-array-share-prefix-c
 array-share-prefix-c c = let g = worked-out c in back-fits work _ (called (g .before .before .before .before) .pre .0) (cs-of g) (g .swaption-terms .kept .1 .1 .1 .1 .1 .1 .1 .0)
 
-slice-aggregate-terms-priced : tie.Need-slice-aggregate-terms-priced
-slice-aggregate-terms-priced c = let g = worked-out (c .before) in back-is work _ (called (g .before .before .before .before) .pre .0) (cs-of g) (g .swaption-terms .kept .1 .1 .1 .1 .1 .1 .1 .0)
+slice-aggregate-model-price-on-terms : tie.Need-slice-aggregate-model-price-on-terms
+slice-aggregate-model-price-on-terms c = let g = worked-out (c .before) in back-is work _ (called (g .before .before .before .before) .pre .0) (cs-of g) (g .swaption-terms .kept .1 .1 .1 .1 .1 .1 .1 .0)
 
 array-share-prefix-b : tie.Need-array-share-prefix-b
 array-share-prefix-b c = let g = worked-out (c .before) in back-fits work _ (called (g .before .before .before .before) .pre .0) (bs-of g) (g .swaption-terms .kept .1 .1 .1 .1 .1 .1 .1 .1 .0)
 
-slice-aggregate-terms-priced-2 : tie.Need-slice-aggregate-terms-priced-2
-slice-aggregate-terms-priced-2 c = let g = worked-out (c .before .before) in back-is work _ (called (g .before .before .before .before) .pre .0) (bs-of g) (g .swaption-terms .kept .1 .1 .1 .1 .1 .1 .1 .1 .0)
+slice-aggregate-model-price-on-terms-2 : tie.Need-slice-aggregate-model-price-on-terms-2
+slice-aggregate-model-price-on-terms-2 c = let g = worked-out (c .before .before) in back-is work _ (called (g .before .before .before .before) .pre .0) (bs-of g) (g .swaption-terms .kept .1 .1 .1 .1 .1 .1 .1 .1 .0)
 
 array-share-prefix-p : tie.Need-array-share-prefix-p
 array-share-prefix-p c = let g = worked-out (c .before .before) in back-fits work _ (called (g .before .before .before .before) .pre .0) (ps-of g) (g .swaption-terms .kept .1 .1 .1 .1 .1 .1 .1 .1 .1 .0)
 
-slice-aggregate-terms-priced-3 : tie.Need-slice-aggregate-terms-priced-3
-slice-aggregate-terms-priced-3 c = let g = worked-out (c .before .before .before) in back-is work _ (called (g .before .before .before .before) .pre .0) (ps-of g) (g .swaption-terms .kept .1 .1 .1 .1 .1 .1 .1 .1 .1 .0)
+slice-aggregate-model-price-on-terms-3 : tie.Need-slice-aggregate-model-price-on-terms-3
+slice-aggregate-model-price-on-terms-3 c = let g = worked-out (c .before .before .before) in back-is work _ (called (g .before .before .before .before) .pre .0) (ps-of g) (g .swaption-terms .kept .1 .1 .1 .1 .1 .1 .1 .1 .1 .0)
 
-terms-priced-requires : tie.Need-terms-priced-requires
-terms-priced-requires c κs =
+model-price-on-terms-requires : tie.Need-model-price-on-terms-requires
+model-price-on-terms-requires c κs =
     let g = worked-out (c .before .before .before) in
     let s = called (g .before .before .before .before) .pre .0 in
     let n = back-is work _ s (cs-of g) (g .swaption-terms .kept .1 .1 .1 .1 .1 .1 .1 .0) in
@@ -90,7 +90,7 @@ returns-2 c =
     let w = c .before .before .before .before .before in
     let g = w .before .before .before .before .before in
     let s = called (g .before .before .before .before) .pre .0 in
-    on-curve _ _ _ _ _ _ _ _ _ _ _ _ (g .swaption-terms .ensures) (w .worked2 .given .1) (values-are work _ s (cs-of g) (g .swaption-terms .kept .1 .1 .1 .1 .1 .1 .1 .0)) (values-are work _ s (bs-of g) (g .swaption-terms .kept .1 .1 .1 .1 .1 .1 .1 .1 .0)) (values-are work _ s (ps-of g) (g .swaption-terms .kept .1 .1 .1 .1 .1 .1 .1 .1 .1 .0)) (c .terms-priced .ensures)
+    on-curve _ _ _ _ _ _ _ _ _ _ _ _ (g .swaption-terms .ensures) (w .worked2 .given .1) (values-are work _ s (cs-of g) (g .swaption-terms .kept .1 .1 .1 .1 .1 .1 .1 .0)) (values-are work _ s (bs-of g) (g .swaption-terms .kept .1 .1 .1 .1 .1 .1 .1 .1 .0)) (values-are work _ s (ps-of g) (g .swaption-terms .kept .1 .1 .1 .1 .1 .1 .1 .1 .1 .0)) (c .model-price-on-terms .ensures)
 
 pub model-priced-spec : {M : Type 1} → statement M
 model-priced-spec =
@@ -106,11 +106,11 @@ model-priced-spec =
     enum-known-worked
     enum-known-worked-2
     array-share-prefix-c
-    slice-aggregate-terms-priced
+    slice-aggregate-model-price-on-terms
     array-share-prefix-b
-    slice-aggregate-terms-priced-2
+    slice-aggregate-model-price-on-terms-2
     array-share-prefix-p
-    slice-aggregate-terms-priced-3
-    terms-priced-requires
+    slice-aggregate-model-price-on-terms-3
+    model-price-on-terms-requires
     returns
     returns-2)

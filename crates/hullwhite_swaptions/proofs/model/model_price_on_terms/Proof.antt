@@ -1,12 +1,12 @@
--- `hullwhite_swaptions::model::terms_priced` meets its contract: the curve's parts are those of specs/, and the price on them is looked at by rule 13. Assumes nothing.
+-- `hullwhite_swaptions::model::model_price_on_terms` meets its contract: the curve's parts are those of specs/, and the price on them is looked at by rule 13. Assumes nothing.
 use mathlib.Core.Path.{sym, _∙_}
 use mathlib.Core.List.{List}
 use lib.Ieee.{Float}
 use Rattle.refusals.proofs.Lending.{work, lent-is, back-fits, back-is, values-are}
 use Rattle.hullwhite_swaptions.proofs.Outcomes.{terms-are}
 use borrow.Author.Needs.{needs}
-use Rattle.hullwhite_swaptions.proofs.model.terms_priced.Statement.{statement}
-use Rattle.hullwhite_swaptions.proofs.model.terms_priced.Tie as tie
+use Rattle.hullwhite_swaptions.proofs.model.model_price_on_terms.Statement.{statement}
+use Rattle.hullwhite_swaptions.proofs.model.model_price_on_terms.Tie as tie
 
 -- ---- what was written into the lent list
 abbrev ds-of : tie.After-curve-parts → List Float
@@ -23,21 +23,18 @@ slice-aggregate-curve-parts c = lent-is work _ (c .before .before .before .befor
 curve-parts-requires : tie.Need-curve-parts-requires
 curve-parts-requires c κs = let s = c .before .before .before .before .pre in (sym (lent-is work _ (s .0)) ∙ sym (s .1), s .2 ∙ sym (s .1))
 
-stationary-share-of-requires : tie.Need-stationary-share-of-requires
-stationary-share-of-requires c κs = search needs
-
-state-deviation-of-requires : tie.Need-state-deviation-of-requires
-state-deviation-of-requires c κs = search needs
+ahead-of-requires : tie.Need-ahead-of-requires
+ahead-of-requires c κs = search needs
 
 array-share-prefix-curve-part : tie.Need-array-share-prefix-curve-part
-array-share-prefix-curve-part c = let d = c .before .before .before in back-fits work _ (d .before .before .before .before .before .pre .0) (ds-of d) (d .curve-parts .kept .1 .1 .1 .1 .0)
+array-share-prefix-curve-part c = let d = c .before .before in back-fits work _ (d .before .before .before .before .before .pre .0) (ds-of d) (d .curve-parts .kept .1 .1 .1 .1 .0)
 
 slice-aggregate-price-at : tie.Need-slice-aggregate-price-at
-slice-aggregate-price-at c = let d = c .before .before .before .before in back-is work _ (d .before .before .before .before .before .pre .0) (ds-of d) (d .curve-parts .kept .1 .1 .1 .1 .0)
+slice-aggregate-price-at c = let d = c .before .before .before in back-is work _ (d .before .before .before .before .before .pre .0) (ds-of d) (d .curve-parts .kept .1 .1 .1 .1 .0)
 
 price-at-requires : tie.Need-price-at-requires
 price-at-requires c κs =
-    let d = c .before .before .before .before in
+    let d = c .before .before .before in
     let s = d .before .before .before .before .before .pre in
     (s .0, s .1, sym (back-is work _ (s .0) (ds-of d) (d .curve-parts .kept .1 .1 .1 .1 .0)), s .2)
 
@@ -46,18 +43,17 @@ finished-requires c κs = search needs
 
 returns : tie.Need-returns
 returns c =
-    let d = c .before .before .before .before .before .before in
-    terms-are _ _ _ _ _ _ _ _ (values-are work _ (d .before .before .before .before .before .pre .0) (ds-of d) (d .curve-parts .kept .1 .1 .1 .1 .0) ∙ d .curve-parts .ensures) (c .before .before .before .before .stationary-share-of .ensures) (c .before .before .before .state-deviation-of .ensures) (c .before .price-at .ensures) (c .finished .ensures)
+    let d = c .before .before .before .before .before in
+    terms-are _ _ _ _ _ _ _ _ (values-are work _ (d .before .before .before .before .before .pre .0) (ds-of d) (d .curve-parts .kept .1 .1 .1 .1 .0) ∙ d .curve-parts .ensures) (c .before .before .before .ahead-of .ensures) (c .before .price-at .ensures) (c .finished .ensures)
 
-pub terms-priced-spec : {M : Type 1} → statement M
-terms-priced-spec =
+pub model-price-on-terms-spec : {M : Type 1} → statement M
+model-price-on-terms-spec =
     tie.close
     (tie.spec
     array-borrow-prefix-curve-part
     slice-aggregate-curve-parts
     curve-parts-requires
-    stationary-share-of-requires
-    state-deviation-of-requires
+    ahead-of-requires
     array-share-prefix-curve-part
     slice-aggregate-price-at
     price-at-requires
