@@ -114,9 +114,9 @@ model-rules curve coupons later alpha strike t sigma = tt
 pub search-rules : (cs affs bs : List Float) → InOrder (searchRules cs affs bs)
 search-rules cs affs bs = tt
 
-pub pricer-rules : (curve schedule coupons : Faults) (unpaired ownFinite ownFit later empty : Bool) (alpha strike t notional side : Float)
-    → InOrder (pricerRules curve schedule coupons unpaired ownFinite ownFit later empty alpha strike t notional side)
-pricer-rules curve schedule coupons unpaired ownFinite ownFit later empty alpha strike t notional side = tt
+pub pricer-rules : (curve schedule coupons own : Faults) (later empty : Bool) (alpha strike t notional side : Float)
+    → InOrder (pricerRules curve schedule coupons own later empty alpha strike t notional side)
+pricer-rules curve schedule coupons own later empty alpha strike t notional side = tt
 
 pub caplet-rules : (curve : Faults) (quote : Quote) (alpha strike t S vol : Float) → InOrder (capletRules curve quote alpha strike t S vol)
 caplet-rules curve quote alpha strike t S vol = tt

@@ -15,6 +15,7 @@ use hullwhite_options::BondOption;
 use hullwhite_options::OptionType;
 use hullwhite_options::Optionlet;
 use pricer::SwaptionType;
+use pricer::Trade;
 use refusals::Faults;
 
 // Kinds 1 to 4: caplet, floorlet, bond put, bond call. What is told is all that their calls return.
@@ -108,9 +109,16 @@ fn swaption_work(
         ));
     }
     if j.kind == 6 {
+        let payer = Trade {
+            option: SwaptionType::Payer,
+            strike: j.a,
+            t: j.b,
+            notional: j.c,
+            side: j.d,
+        };
         return Worked::Valuation(pricer::swaption_value_on(
-            SwaptionType::Payer,
             curve,
+            payer,
             alpha,
             pillars,
             sigmas,
@@ -119,15 +127,18 @@ fn swaption_work(
             payments,
             accruals,
             owns,
-            j.a,
-            j.b,
-            j.c,
-            j.d,
         ));
     }
+    let receiver = Trade {
+        option: SwaptionType::Receiver,
+        strike: j.a,
+        t: j.b,
+        notional: j.c,
+        side: j.d,
+    };
     Worked::Valuation(pricer::swaption_value_on(
-        SwaptionType::Receiver,
         curve,
+        receiver,
         alpha,
         pillars,
         sigmas,
@@ -136,10 +147,6 @@ fn swaption_work(
         payments,
         accruals,
         owns,
-        j.a,
-        j.b,
-        j.c,
-        j.d,
     ))
 }
 

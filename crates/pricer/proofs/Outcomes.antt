@@ -22,11 +22,11 @@ use Rattle.pricer_value.specs.Value.{swaptionPriced}
 use Rattle.pricer.specs.Pricer.{pricerRules, pricerRulesOn, pricerOutcome}
 
 -- ---- the rules do not ask where the faults and tests come from
-pub same-rules : {curve curve' schedule schedule' coupons coupons' : Faults} {finite finite' fit fit' later later' : Bool} (unpaired empty : Bool) (alpha strike t notional side : Float) {answer : Answer}
-    → curve ≡ curve' → schedule ≡ schedule' → coupons ≡ coupons' → finite ≡ finite' → fit ≡ fit' → later ≡ later'
-    → answer ≡ firstOf (pricerRules curve schedule coupons unpaired finite fit later empty alpha strike t notional side)
-    → answer ≡ firstOf (pricerRules curve' schedule' coupons' unpaired finite' fit' later' empty alpha strike t notional side)
-same-rules unpaired empty alpha strike t notional side c s k f g a r = rw (← c, ← s, ← k, ← f, ← g, ← a) r
+pub same-rules : {curve curve' schedule schedule' coupons coupons' own own' : Faults} {later later' : Bool} (empty : Bool) (alpha strike t notional side : Float) {answer : Answer}
+    → curve ≡ curve' → schedule ≡ schedule' → coupons ≡ coupons' → own ≡ own' → later ≡ later'
+    → answer ≡ firstOf (pricerRules curve schedule coupons own later empty alpha strike t notional side)
+    → answer ≡ firstOf (pricerRules curve' schedule' coupons' own' later' empty alpha strike t notional side)
+same-rules empty alpha strike t notional side c s k o a r = rw (← c, ← s, ← k, ← o, ← a) r
 
 -- ---- they turn the call down, or let it through
 module _ (option : SwaptionType) (alpha : Float) (pls ss ts fs payments accruals owns : List Float) (strike t notional side : Float) {answer : Answer}

@@ -1,5 +1,5 @@
 -- Kinds 6 and 7: `swaption_value`, payer or receiver, on pillars (times pls, volatilities ss), a curve (times ts, factors fs) and coupons (payment times, accruals, own factors): strike, option time, notional, side.
-use mathlib.Core.Bool.{Bool, not, _&&_, _||_}
+use mathlib.Core.Bool.{Bool, false, not, _&&_, _||_}
 use mathlib.Core.List.{List, [], _∷_}
 use lib.Dec.{eqb}
 use lib.ListN.{length}
@@ -21,22 +21,31 @@ use Rattle.pricer_value.specs.Value.{PricerValued, swaptionPriced}
 abbrev pub ownFits : List Float → Bool
 ownFits owns = allOf Zero owns || allOf (Above zero) owns
 
--- `unpaired`: own factors and payments differ in number; `later`: every payment time is above the option time; `empty`: no coupons, or no pillars
-abbrev pub pricerRules : Faults → Faults → Faults → Bool → Bool → Bool → Bool → Bool → Float → Float → Float → Float → Float → List Rule
-pricerRules curve schedule coupons unpaired ownFinite ownFit later empty alpha strike t notional side =
-    rule R.Size (curve .size || schedule .size || coupons .size || unpaired)
-    ∷ rule R.NotFinite (curve .«not_finite» || schedule .«not_finite» || coupons .«not_finite» || not ownFinite || not (finite alpha && finite strike && finite t && finite notional && finite side))
+-- own factors beside the payments. 1: they differ in number. 2: one is NaN or infinite. 6: they do not fit
+abbrev pub ownFaults : List Float → List Float → Faults
+ownFaults payments owns = record {
+  size = not (eqb (length payments) (length owns));
+  «not_finite» = not (allOf Finite owns);
+  order = false;
+  domain = not (ownFits owns);
+}
+
+-- `later`: every payment time is above the option time; `empty`: no coupons, or no pillars
+abbrev pub pricerRules : Faults → Faults → Faults → Faults → Bool → Bool → Float → Float → Float → Float → Float → List Rule
+pricerRules curve schedule coupons own later empty alpha strike t notional side =
+    rule R.Size (curve .size || schedule .size || coupons .size || own .size)
+    ∷ rule R.NotFinite (curve .«not_finite» || schedule .«not_finite» || coupons .«not_finite» || own .«not_finite» || not (finite alpha && finite strike && finite t && finite notional && finite side))
     ∷ rule R.MeanReversion (le alpha zero)
     ∷ rule R.Order (curve .order || schedule .order)
     ∷ rule R.Times (lt t zero || not later)
-    ∷ rule R.Domain (schedule .domain || curve .domain || not ownFit || (ne side one && ne side (neg one)))
+    ∷ rule R.Domain (schedule .domain || curve .domain || own .domain || (ne side one && ne side (neg one)))
     ∷ rule R.Empty empty
     ∷ []
 
 -- the rules on a call's own lists and numbers
 abbrev pub pricerRulesOn : Float → List Float → List Float → List Float → List Float → List Float → List Float → List Float → Float → Float → Float → Float → List Rule
 pricerRulesOn alpha pls ss ts fs payments accruals owns strike t notional side =
-    pricerRules (curveFaults ts fs) (pillarFaults pls ss) (couponFaults payments accruals) (not (eqb (length payments) (length owns))) (allOf Finite owns) (ownFits owns) (allOf (Above t) payments)
+    pricerRules (curveFaults ts fs) (pillarFaults pls ss) (couponFaults payments accruals) (ownFaults payments owns) (allOf (Above t) payments)
     (eqb (length payments) 0 || eqb (length pls) 0) alpha strike t notional side
 
 -- ---- the rules, then the value

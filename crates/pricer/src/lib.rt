@@ -5,4 +5,5 @@ mod pricer;
 pub use pricer::swaption_value;
 pub use pricer::swaption_value_on;
 pub use pricer_formulas::SwaptionType;
+pub use pricer_formulas::Trade;
 pub use pricer_value::Valuation;

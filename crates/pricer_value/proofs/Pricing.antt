@@ -49,12 +49,12 @@ module _ (option : SwaptionType) (deviation pt : Float) (cs affs bs ps owns : Li
     unfolding pricedBy
     step-flat e f = rw (e, f)
 
-    pub valued : {s sum : Float} {none : Bool} {o : Outcome PricerValued} → criticalOf (couponSum cs affs bs) ≡ Critical.Found b i j rate → stepped rate (sumsOf rate cs affs bs) ≡ served s
-        → none ≡ allOf Zero owns → sum ≡ componentsOf option (not none) deviation pt s cs affs bs ps owns
+    pub valued : {s sum : Float} {o : Outcome PricerValued} → criticalOf (couponSum cs affs bs) ≡ Critical.Found b i j rate → stepped rate (sumsOf rate cs affs bs) ≡ served s
+        → sum ≡ componentsOf option (not (allOf Zero owns)) deviation pt s cs affs bs ps owns
         → o ≡ finishingValuation (record { value = sum ⊗ notional ⊗ side; after-step = s; root = record { rate = rate; bracket = b; low-rung = i; high-rung = j } })
         → o ≡ pricedBy option deviation pt cs affs bs ps owns notional side
     unfolding pricedBy
-    valued e f g k l = rw (e, f, ← g, ← k) l
+    valued e f k l = rw (e, f, ← k) l
 
 -- ---- the terms
 module _ (option : SwaptionType) (variance pt forward : Float) (cs bs ps owns : List Float) (notional side : Float) where

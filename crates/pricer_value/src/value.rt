@@ -7,10 +7,10 @@ ghost use Rattle.refusals.specs.Checks.{inOrder};
 ghost use Rattle.pricer_formulas.specs.Affine.{pricerDeviationOf, affineAListOf};
 ghost use Rattle.pricer_value.specs.Value.{valuationOutcome, pricedBy, swaptionPriced, finishingValuation};
 use hullwhite_terms::Terms;
+use pricer_formulas::Decomposition;
 use pricer_formulas::Step;
-use pricer_formulas::SwaptionType;
+use pricer_formulas::Trade;
 use refusals::Refusal;
-use refusals::Test;
 use search::Bracket;
 use search::Critical;
 
@@ -30,7 +30,7 @@ pub enum Valuation {
 // The factors and the terms, then the value. A caller that has asked the rules has the coupons' lists of one length
 // of at most 64, and a curve whose times strictly rise.
 pub fn swaption_priced(
-    option: SwaptionType,
+    trade: Trade,
     alpha: f64,
     pillars: &[f64],
     sigmas: &[f64],
@@ -39,13 +39,9 @@ pub fn swaption_priced(
     payments: &[f64],
     accruals: &[f64],
     own_dfs: &[f64],
-    strike: f64,
-    t: f64,
-    notional: f64,
-    side: f64,
 ) -> Valuation
     requires { ⌜ (length (now payments) ≤ 64) × (length (now accruals) ≡ length (now payments)) × (length (now «own_dfs») ≡ length (now payments)) × (inOrder true (now times) ≡ true) ⌝ }
-    ensures { λ r. ⌜ valuationOutcome r ≡ swaptionPriced option alpha (now (pillars .entry)) (now (sigmas .entry)) (now (times .entry)) (now (factors .entry)) (now (payments .entry)) (now (accruals .entry)) (now («own_dfs» .entry)) strike t notional side ⌝ }
+    ensures { λ r. ⌜ valuationOutcome r ≡ swaptionPriced (trade .option) alpha (now (pillars .entry)) (now (sigmas .entry)) (now (times .entry)) (now (factors .entry)) (now (payments .entry)) (now (accruals .entry)) (now («own_dfs» .entry)) (trade .strike) (trade .t) (trade .notional) (trade .side) ⌝ }
 {
     let n = payments.len();
     let mut c = [0.0; 64];
@@ -57,8 +53,8 @@ pub fn swaption_priced(
         factors,
         payments,
         accruals,
-        strike,
-        t,
+        trade.strike,
+        trade.t,
         &mut c[..n],
         &mut b[..n],
         &mut p[..n],
@@ -71,10 +67,10 @@ pub fn swaption_priced(
                 pillars,
                 sigmas,
                 0.0,
-                t,
+                trade.t,
             );
             terms_priced(
-                option,
+                trade,
                 state_variance,
                 p_t,
                 forward,
@@ -82,8 +78,6 @@ pub fn swaption_priced(
                 &b[..n],
                 &p[..n],
                 own_dfs,
-                notional,
-                side,
             )
         }
     }
@@ -91,7 +85,7 @@ pub fn swaption_priced(
 
 // A of each term, then the value; the lists are of one length of at most 64.
 fn terms_priced(
-    option: SwaptionType,
+    trade: Trade,
     state_variance: f64,
     p_t: f64,
     forward: f64,
@@ -99,34 +93,21 @@ fn terms_priced(
     b: &[f64],
     p: &[f64],
     own_dfs: &[f64],
-    notional: f64,
-    side: f64,
 ) -> Valuation
     requires { ⌜ (length (now c) ≤ 64) × (length (now b) ≡ length (now c)) × (length (now p) ≡ length (now c)) × (length (now «own_dfs») ≡ length (now c)) ⌝ }
-    ensures { λ r. ⌜ valuationOutcome r ≡ pricedBy option (pricerDeviationOf «state_variance») «p_t» (now (c .entry)) (affineAListOf «state_variance» forward «p_t» (now (b .entry)) (now (p .entry))) (now (b .entry)) (now (p .entry)) (now («own_dfs» .entry)) notional side ⌝ }
+    ensures { λ r. ⌜ valuationOutcome r ≡ pricedBy (trade .option) (pricerDeviationOf «state_variance») «p_t» (now (c .entry)) (affineAListOf «state_variance» forward «p_t» (now (b .entry)) (now (p .entry))) (now (b .entry)) (now (p .entry)) (now («own_dfs» .entry)) (trade .notional) (trade .side) ⌝ }
 {
     let n = c.len();
     let mut a = [0.0; 64];
     pricer_formulas::affine_a_list(state_variance, forward, p_t, b, p, &mut a[..n]);
     let deviation = pricer_formulas::pricer_deviation(state_variance);
-    priced_by(
-        option,
-        deviation,
-        p_t,
-        c,
-        &a[..n],
-        b,
-        p,
-        own_dfs,
-        notional,
-        side,
-    )
+    priced_by(trade, deviation, p_t, c, &a[..n], b, p, own_dfs)
 }
 
 // The search, the Newton step, the components. A caller that has worked the terms has the lists of one length
 // of at most 64.
 fn priced_by(
-    option: SwaptionType,
+    trade: Trade,
     deviation: f64,
     p_t: f64,
     c: &[f64],
@@ -134,11 +115,9 @@ fn priced_by(
     b: &[f64],
     p: &[f64],
     own_dfs: &[f64],
-    notional: f64,
-    side: f64,
 ) -> Valuation
     requires { ⌜ (length (now c) ≤ 64) × (length (now a) ≡ length (now c)) × (length (now b) ≡ length (now c)) × (length (now p) ≡ length (now c)) × (length (now «own_dfs») ≡ length (now c)) ⌝ }
-    ensures { λ r. ⌜ valuationOutcome r ≡ pricedBy option deviation «p_t» (now (c .entry)) (now (a .entry)) (now (b .entry)) (now (p .entry)) (now («own_dfs» .entry)) notional side ⌝ }
+    ensures { λ r. ⌜ valuationOutcome r ≡ pricedBy (trade .option) deviation «p_t» (now (c .entry)) (now (a .entry)) (now (b .entry)) (now (p .entry)) (now («own_dfs» .entry)) (trade .notional) (trade .side) ⌝ }
 {
     let found = hullwhite_terms::find_critical_rate_of(c, a, b);
     if let Critical::NotANumber = found {
@@ -156,20 +135,16 @@ fn priced_by(
     let Step::To(stepped) = pricer_formulas::implicit_critical_rate_of(rate, c, a, b) else {
         return Valuation::Refused(Refusal::FlatDerivative);
     };
-    let own = !refusals::all(own_dfs, Test::Zero);
-    let sum = pricer_formulas::components(
+    let option = trade.option;
+    let common = Decomposition {
         option,
-        own,
         deviation,
         p_t,
-        stepped,
-        c,
-        a,
-        b,
-        p,
-        own_dfs,
-    );
-    finished(sum * notional * side, stepped, rate, bracket, below, above)
+        rate: stepped,
+    };
+    let sum = pricer_formulas::components(common, c, a, b, p, own_dfs);
+    let value = sum * trade.notional * trade.side;
+    finished(value, stepped, rate, bracket, below, above)
 }
 
 // Rule 13 looks at every float of the answer.

@@ -42,10 +42,14 @@ and-rule-requires-7 c κs = search needs
 
 returns : tie.Need-returns
 returns c =
-    let second = c .before .before .before .before .before .before .before .before .before in
-    let numbers = second .before .before .before .before .before .before .before .before in
+    let fifth = c .before .before .before .before .before .before .before in
+    let fourth = fifth .before .before in
+    let third = fourth .before .before .before in
+    let second = third .before in
+    let first = second .before .before .before .before .before in
+    let numbers = first .before .before .before .before .before in
     let finite = rw (numbers .before .before .before .before .is-finite .ensures, numbers .before .before .before .is-finite2 .ensures, numbers .before .before .is-finite3 .ensures, numbers .before .is-finite4 .ensures, numbers .is-finite5 .ensures) at (second .and-rule2 .ensures) in
-    asked _ _ (ask (second .before .before .before .before .and-rule .ensures) (ask finite (ask (c .before .before .before .before .before .before .before .before .and-rule3 .ensures) (ask (c .before .before .before .before .before .and-rule4 .ensures) (ask (c .before .before .before .before .and-rule5 .ensures) (ask (c .before .and-rule6 .ensures) (ask (c .and-rule7 .ensures) end)))))))
+    asked _ _ (ask (first .and-rule .ensures) (ask finite (ask (third .and-rule3 .ensures) (ask (fourth .and-rule4 .ensures) (ask (fifth .and-rule5 .ensures) (ask (c .before .and-rule6 .ensures) (ask (c .and-rule7 .ensures) end)))))))
 
 pub pricer-rules-spec : {M : Type 1} → statement M
 pricer-rules-spec =

@@ -15,14 +15,14 @@ abbrev early : tie.After-pillar-faults → tie.Start
 early c = c .before .before .before .before .before .before .before .before
 
 abbrev start : tie.After-pricer-rules → tie.Start
-start c = early (c .before .before .before .before .before)
+start c = early (c .before .before .before .before)
 
 -- ---- the rules, on the call's own lists
 rules : (r : tie.After-pricer-rules) → let a = start r .args in
-    r .pricer-rules .result ≡ firstOf (pricerRulesOn (a .alpha) (now (a .pillars)) (now (a .sigmas)) (now (a .times)) (now (a .factors)) (now (a .payments)) (now (a .accruals)) (now (a .own-dfs)) (a .strike) (a .t) (a .notional) (a .side))
+    r .pricer-rules .result ≡ firstOf (pricerRulesOn (a .alpha) (now (a .pillars)) (now (a .sigmas)) (now (a .times)) (now (a .factors)) (now (a .payments)) (now (a .accruals)) (now (a .own-dfs)) (a .trade .strike) (a .trade .t) (a .trade .notional) (a .trade .side))
 rules r =
     let s = start r in
-    same-rules _ _ (s .args .alpha) (s .args .strike) (s .args .t) (s .args .notional) (s .args .side) (s .pre) (r .before .before .before .before .before .pillar-faults .ensures) (r .before .before .before .before .coupon-faults .ensures) (r .before .before .before .all .ensures) (r .before .before .own-fits .ensures) (r .before .all2 .ensures) (r .pricer-rules .ensures)
+    same-rules _ (s .args .alpha) (s .args .trade .strike) (s .args .trade .t) (s .args .trade .notional) (s .args .trade .side) (s .pre) (r .before .before .before .before .pillar-faults .ensures) (r .before .before .before .coupon-faults .ensures) (r .before .before .own-faults .ensures) (r .before .all .ensures) (r .pricer-rules .ensures)
 
 -- ---- the needs
 
@@ -32,14 +32,11 @@ pillar-faults-requires c κs = search needs
 coupon-faults-requires : tie.Need-coupon-faults-requires
 coupon-faults-requires c κs = search needs
 
+own-faults-requires : tie.Need-own-faults-requires
+own-faults-requires c κs = search needs
+
 all-requires : tie.Need-all-requires
 all-requires c κs = search needs
-
-own-fits-requires : tie.Need-own-fits-requires
-own-fits-requires c κs = search needs
-
-all-requires-2 : tie.Need-all-requires-2
-all-requires-2 c κs = search needs
 
 pricer-rules-requires : tie.Need-pricer-rules-requires
 pricer-rules-requires c κs = search needs
@@ -51,8 +48,8 @@ returns : tie.Need-returns
 returns c =
     let r = c .before .before .before in
     let a = start r .args in
-    let o = turned-down (a .option) (a .alpha) (now (a .pillars)) (now (a .sigmas)) (now (a .times)) (now (a .factors)) (now (a .payments)) (now (a .accruals)) (now (a .own-dfs)) (a .strike) (a .t) (a .notional) (a .side) (rules r) (c .before .answer .given .1) in
-    (o, (rooted (a .option) (a .alpha) (now (a .pillars)) (now (a .sigmas)) (now (a .times)) (now (a .factors)) (now (a .payments)) (now (a .accruals)) (now (a .own-dfs)) (a .strike) (a .t) (a .notional) (a .side) o, (refused-so (a .option) (a .alpha) (now (a .pillars)) (now (a .sigmas)) (now (a .times)) (now (a .factors)) (now (a .payments)) (now (a .accruals)) (now (a .own-dfs)) (a .strike) (a .t) (a .notional) (a .side) o, ap (reported noPricerValued) o)))
+    let o = turned-down (a .trade .option) (a .alpha) (now (a .pillars)) (now (a .sigmas)) (now (a .times)) (now (a .factors)) (now (a .payments)) (now (a .accruals)) (now (a .own-dfs)) (a .trade .strike) (a .trade .t) (a .trade .notional) (a .trade .side) (rules r) (c .before .answer .given .1) in
+    (o, (rooted (a .trade .option) (a .alpha) (now (a .pillars)) (now (a .sigmas)) (now (a .times)) (now (a .factors)) (now (a .payments)) (now (a .accruals)) (now (a .own-dfs)) (a .trade .strike) (a .trade .t) (a .trade .notional) (a .trade .side) o, (refused-so (a .trade .option) (a .alpha) (now (a .pillars)) (now (a .sigmas)) (now (a .times)) (now (a .factors)) (now (a .payments)) (now (a .accruals)) (now (a .own-dfs)) (a .trade .strike) (a .trade .t) (a .trade .notional) (a .trade .side) o, ap (reported noPricerValued) o)))
 
 enum-told : tie.Need-enum-told
 enum-told c = search needs
@@ -61,14 +58,14 @@ swaption-priced-requires : tie.Need-swaption-priced-requires
 swaption-priced-requires c κs =
     let r = c .before .before in
     let a = start r .args in
-    lists-fit (a .option) (a .alpha) (now (a .pillars)) (now (a .sigmas)) (now (a .times)) (now (a .factors)) (now (a .payments)) (now (a .accruals)) (now (a .own-dfs)) (a .strike) (a .t) (a .notional) (a .side) (rules r) (c .enum-told .given .1)
+    lists-fit (a .trade .option) (a .alpha) (now (a .pillars)) (now (a .sigmas)) (now (a .times)) (now (a .factors)) (now (a .payments)) (now (a .accruals)) (now (a .own-dfs)) (a .trade .strike) (a .trade .t) (a .trade .notional) (a .trade .side) (rules r) (c .enum-told .given .1)
 
 returns-2 : tie.Need-returns-2
 returns-2 c =
     let r = c .before .before .before in
     let a = start r .args in
-    let o = c .swaption-priced .ensures ∙ let-through (a .option) (a .alpha) (now (a .pillars)) (now (a .sigmas)) (now (a .times)) (now (a .factors)) (now (a .payments)) (now (a .accruals)) (now (a .own-dfs)) (a .strike) (a .t) (a .notional) (a .side) (rules r) (c .before .enum-told .given .1) in
-    (o, (rooted (a .option) (a .alpha) (now (a .pillars)) (now (a .sigmas)) (now (a .times)) (now (a .factors)) (now (a .payments)) (now (a .accruals)) (now (a .own-dfs)) (a .strike) (a .t) (a .notional) (a .side) o, (refused-so (a .option) (a .alpha) (now (a .pillars)) (now (a .sigmas)) (now (a .times)) (now (a .factors)) (now (a .payments)) (now (a .accruals)) (now (a .own-dfs)) (a .strike) (a .t) (a .notional) (a .side) o, ap (reported noPricerValued) o)))
+    let o = c .swaption-priced .ensures ∙ let-through (a .trade .option) (a .alpha) (now (a .pillars)) (now (a .sigmas)) (now (a .times)) (now (a .factors)) (now (a .payments)) (now (a .accruals)) (now (a .own-dfs)) (a .trade .strike) (a .trade .t) (a .trade .notional) (a .trade .side) (rules r) (c .before .enum-told .given .1) in
+    (o, (rooted (a .trade .option) (a .alpha) (now (a .pillars)) (now (a .sigmas)) (now (a .times)) (now (a .factors)) (now (a .payments)) (now (a .accruals)) (now (a .own-dfs)) (a .trade .strike) (a .trade .t) (a .trade .notional) (a .trade .side) o, (refused-so (a .trade .option) (a .alpha) (now (a .pillars)) (now (a .sigmas)) (now (a .times)) (now (a .factors)) (now (a .payments)) (now (a .accruals)) (now (a .own-dfs)) (a .trade .strike) (a .trade .t) (a .trade .notional) (a .trade .side) o, ap (reported noPricerValued) o)))
 
 pub swaption-value-on-spec : {M : Type 1} → statement M
 swaption-value-on-spec =
@@ -76,9 +73,8 @@ swaption-value-on-spec =
     (tie.spec
     pillar-faults-requires
     coupon-faults-requires
+    own-faults-requires
     all-requires
-    own-fits-requires
-    all-requires-2
     pricer-rules-requires
     enum-known-answer
     returns

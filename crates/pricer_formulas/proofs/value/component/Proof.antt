@@ -12,7 +12,7 @@ bond-option-requires c κs = search needs
 
 returns : tie.Need-returns
 unfolding componentOf
-returns c = rw (c .bond-option .ensures, c .before .bond-at .ensures)
+returns c = rw (c .bond-option .ensures, c .before .before .bond-at .ensures)
 
 pub component-spec : {M : Type 1} → statement M
 component-spec = tie.close (tie.spec bond-at-requires bond-option-requires returns)

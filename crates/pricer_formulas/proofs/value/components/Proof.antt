@@ -9,11 +9,14 @@ use Rattle.pricer_formulas.proofs.value.components.Statement.{statement
 use Rattle.pricer_formulas.proofs.value.components.Tie as tie
 
 abbrev Inv-loop : tie.InvT-loop
-Inv-loop option own deviation p-t rate c a b p own-dfs value₀ i₀ value i =
-    (i ≤ length c) × (componentsOnto value option own deviation p-t rate (drop i c) (drop i a) (drop i b) (drop i p) (drop i own-dfs) ≡ componentsOf option own deviation p-t rate c a b p own-dfs)
+Inv-loop common c a b p own-dfs own value₀ i₀ value i =
+    (i ≤ length c) × (componentsOnto value (common .option) own (common .deviation) (common .«p_t») (common .rate) (drop i c) (drop i a) (drop i b) (drop i p) (drop i own-dfs) ≡ componentsOf (common .option) own (common .deviation) (common .«p_t») (common .rate) c a b p own-dfs)
 
 abbrev μ-loop : tie.MeasureT-loop
-μ-loop option own deviation p-t rate c a b p own-dfs value₀ i₀ value i = length c - i
+μ-loop common c a b p own-dfs own value₀ i₀ value i = length c - i
+
+all-requires : tie.Need-all-requires Inv-loop μ-loop
+all-requires c κs = search needs
 
 loop-holds : tie.Need-loop-holds Inv-loop μ-loop
 unfolding componentsOf
@@ -70,11 +73,11 @@ loop-less c = search needs
 loop-again : tie.Need-loop-again Inv-loop μ-loop
 loop-again c =
     let l = c .before .before .before .before .before .before .before .before in
-    let s = l .before .before .before .before .before .before .before .pre in
+    let s = l .before .before .before .before .before .before .before .before .pre in
     (search needs, components-turn _ _ _ _ _ _ _ _ _ _ _ _ _ _ (l .loop-test .taken) (s .0) (s .1) (s .2) (s .3) (c .before .before .before .before .component .ensures) (c .before .discounted .ensures) ∙ l .before .loop .inv .1)
 
 returns : tie.Need-returns Inv-loop μ-loop
-returns c = components-end _ _ _ _ _ _ _ _ _ _ _ _ (c .loop-test .left) ∙ c .before .loop .inv .1
+returns c = rw (← c .before .before .all .ensures) (components-end _ _ _ _ _ _ _ _ _ _ _ _ (c .loop-test .left) ∙ c .before .loop .inv .1)
 
 pub components-spec : {M : Type 1} → statement M
 components-spec =
@@ -82,6 +85,7 @@ components-spec =
     (tie.spec
     Inv-loop
     μ-loop
+    all-requires
     loop-holds
     mul-component
     shared-slice-read-component

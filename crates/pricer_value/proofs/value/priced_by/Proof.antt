@@ -46,21 +46,19 @@ returns-3 c =
     let g = c .before .before .before .before .before .before .before in
     step-flat _ _ _ _ _ _ _ _ _ _ (sym (g .find-critical-rate-of .ensures .is) ∙ c .before .before .before .before .found .given .1) (sym (c .before .before .implicit-critical-rate-of .ensures) ∙ ap stepOutcome (c .enum-told2 .given .1))
 
-all-requires : tie.Need-all-requires
-all-requires c κs = search needs
-
 components-requires : tie.Need-components-requires
-components-requires c κs = let s = called (searched (found (c .before .before))) .pre in (s .1, s .2, s .3, s .4)
+components-requires c κs = let s = called (searched (found (c .before))) .pre in (s .1, s .2, s .3, s .4)
 
 finished-requires : tie.Need-finished-requires
 finished-requires c κs = search needs
 
 returns-4 : tie.Need-returns-4
 returns-4 c =
-    let stepped = c .before .before .before .before in
+    let summed = c .before .before .before in
+    let stepped = summed .before .before in
     let f = stepped .before .before .before .before in
     let g = f .before .before .before in
-    valued _ _ _ _ _ _ _ _ _ _ (sym (g .find-critical-rate-of .ensures .is) ∙ f .found .given .1) (sym (stepped .before .before .implicit-critical-rate-of .ensures) ∙ ap stepOutcome (stepped .stepped .given .1)) (c .before .before .all .ensures) (c .before .components .ensures) (c .finished .ensures)
+    valued _ _ _ _ _ _ _ _ _ _ (sym (g .find-critical-rate-of .ensures .is) ∙ f .found .given .1) (sym (stepped .before .before .implicit-critical-rate-of .ensures) ∙ ap stepOutcome (stepped .stepped .given .1)) (summed .components .ensures) (c .finished .ensures)
 
 pub priced-by-spec : {M : Type 1} → statement M
 priced-by-spec =
@@ -75,7 +73,6 @@ priced-by-spec =
     enum-known-stepped
     enum-told-2
     returns-3
-    all-requires
     components-requires
     finished-requires
     returns-4)
