@@ -6,8 +6,8 @@ use Rattle.refusals.specs.declared.refusals.Refusal.{Refusal}
 use Rattle.refusals.specs.Refusals.{Outcome, refused, following}
 use Rattle.hullwhite_formulas.specs.declared.instruments.Optionlet.{Optionlet}
 use Rattle.hullwhite_formulas.specs.HullWhite.{bOf, stateDeviationOf, optionletStrikeOf}
-use Rattle.hullwhite_terms.specs.declared.swaption.Terms.{Terms}
-use Rattle.hullwhite_terms.specs.declared.swaption.Terms.the-variants as T
+use Rattle.hullwhite_terms.specs.declared.swaption.WorkedTerms.{WorkedTerms}
+use Rattle.hullwhite_terms.specs.declared.swaption.WorkedTerms.the-variants as T
 use Rattle.hullwhite_terms.specs.Terms.{curvePartsOf}
 use Rattle.hullwhite_terms.specs.Swaption.{SwaptionTerms, termsOn, termsOf, termsOutcome}
 use Rattle.hullwhite_terms.proofs.OnTerms.{terms-refused, terms-served}
@@ -43,7 +43,7 @@ pub swaption-fit : (alpha t pt forward market : Float) (cs bs ps : List Float) {
 swaption-fit alpha t pt forward market cs bs ps d h = finished (swaption-same alpha t pt forward market cs bs ps d h)
 
 -- the call, by what its terms came to, `r` with the lists beside it
-module _ (quote : QuoteType) (alpha : Float) (ts fs payments accruals : List Float) (strike t vol : Float) (r : Terms) (cs bs ps : List Float) (is : termsOutcome r cs bs ps ≡ termsOf alpha ts fs payments accruals strike t) where
+module _ (quote : QuoteType) (alpha : Float) (ts fs payments accruals : List Float) (strike t vol : Float) (r : WorkedTerms) (cs bs ps : List Float) (is : termsOutcome r cs bs ps ≡ termsOf alpha ts fs payments accruals strike t) where
   abbrev on : SwaptionTerms → Outcome Fit
   on w = following (solveOf (objectiveOn alpha t w (swaptionMarketPriceOf quote strike t vol accruals (w .pt) (w .factors)))) finishingFit
 

@@ -13,7 +13,7 @@ use Rattle.refusals.specs.Refusals.{Outcome, Rule, rule, unless, following}
 use Rattle.refusals.specs.Checks.{allOf}
 use Rattle.curve.specs.Lookups.{factorAt, needing}
 use Rattle.refusals.specs.Faults.{curveFaults, couponFaults}
-use Rattle.hullwhite_terms.specs.Swaption.{lookingUp}
+use Rattle.hullwhite_terms.specs.Swaption.{withFactors}
 use Rattle.math_bisection.specs.declared.result.Fit.{Fit}
 use Rattle.math_bisection.specs.Result.{finishingFit}
 use Rattle.math_bisection.specs.Solve.{solveOf}
@@ -69,7 +69,7 @@ capletFitOutcome quote alpha ts fs strike t S vol = unless (capletRules (curveFa
 -- a swaption that the rules let through: the factors at t, t + h and the payment times, and the bisection
 unfoldable pub swaptionFitted : QuoteType → Float → List Float → List Float → List Float → List Float → Float → Float → Float → Outcome Fit
 swaptionFitted quote alpha ts fs payments accruals strike t vol =
-    lookingUp ts fs payments t (λ pt pPlus ps.
+    withFactors ts fs payments t (λ pt pPlus ps.
     following (solveOf (swaptionObjective quote alpha payments accruals strike t vol pt pPlus ps)) finishingFit)
 
 unfoldable pub swaptionFitOutcome : QuoteType → Float → List Float → List Float → List Float → List Float → Float → Float → Float → Outcome Fit

@@ -18,7 +18,7 @@ use fit_objective::Instrument;
 use fit_objective::Quote;
 use fit_objective::QuoteType;
 use hullwhite_formulas::Optionlet;
-use hullwhite_terms::Terms;
+use hullwhite_terms::WorkedTerms;
 use math_bisection::Fitted;
 use refusals::Answer;
 use refusals::Faults;
@@ -258,8 +258,8 @@ fn swaption_fitted(
         &mut p[..n],
     );
     match worked {
-        Terms::Refused(refusal) => Fitted::Refused(refusal),
-        Terms::Served { p_t, forward } => {
+        WorkedTerms::Refused(refusal) => Fitted::Refused(refusal),
+        WorkedTerms::Served { p_t, forward } => {
             let fetched = &p[..n];
             let price = fit_objective::swaption_market_price(
                 quote,

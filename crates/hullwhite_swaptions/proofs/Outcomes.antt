@@ -22,8 +22,8 @@ use Rattle.refusals.proofs.CurveLaws.{curve-rises}
 use Rattle.hullwhite_terms.specs.Terms.{curvePartsOf}
 use Rattle.search.specs.Values.{rootFinite}
 use Rattle.search.proofs.Answers.{and-root}
-use Rattle.hullwhite_terms.specs.declared.swaption.Terms.{Terms}
-use Rattle.hullwhite_terms.specs.declared.swaption.Terms.the-variants as T
+use Rattle.hullwhite_terms.specs.declared.swaption.WorkedTerms.{WorkedTerms}
+use Rattle.hullwhite_terms.specs.declared.swaption.WorkedTerms.the-variants as T
 use Rattle.hullwhite_terms.specs.Swaption.{SwaptionTerms, termsOn, termsOf, termsOutcome}
 use Rattle.hullwhite_terms.proofs.OnTerms.{terms-refused, terms-served}
 use Rattle.hullwhite_jamshidian.specs.declared.price.Swaption.{Swaption}
@@ -77,7 +77,7 @@ unfolding termsPriced
 terms-priced alpha payments accruals strike t sigma pt pPlus ps = ap (λ (o : Outcome ModelValued). following o finishingSwaption) (price-ahead alpha payments accruals strike t pt pPlus ps sigma)
 
 -- the call, by what its terms came to, `r` with the lists beside it
-module _ (alpha : Float) (ts fs payments accruals : List Float) (strike t sigma : Float) (r : Terms) (cs bs ps : List Float) (is : termsOutcome r cs bs ps ≡ termsOf alpha ts fs payments accruals strike t) where
+module _ (alpha : Float) (ts fs payments accruals : List Float) (strike t sigma : Float) (r : WorkedTerms) (cs bs ps : List Float) (is : termsOutcome r cs bs ps ≡ termsOf alpha ts fs payments accruals strike t) where
   abbrev on : SwaptionTerms → Outcome ModelValued
   on w = following (priceOn alpha t w sigma) finishingSwaption
 

@@ -12,7 +12,7 @@ use Rattle.refusals.specs.declared.refusals.Refusal.the-variants as R
 use Rattle.refusals.specs.Refusals.{Outcome, served, Rule, rule, unless, following}
 use Rattle.refusals.specs.Checks.{allOf}
 use Rattle.refusals.specs.Faults.{curveFaults, couponFaults}
-use Rattle.hullwhite_terms.specs.Swaption.{lookingUp}
+use Rattle.hullwhite_terms.specs.Swaption.{withFactors}
 use Rattle.hullwhite_jamshidian.specs.Price.{ModelValued, noModelValued, priceAt, finishingSwaption}
 
 -- rules 1 to 7, a line a rule; `later`: every payment time is above the option time. Rule 7 lets kind 5 have no coupons
@@ -37,7 +37,7 @@ termsPriced alpha payments accruals strike t sigma pt pPlus ps = following (pric
 -- the factors at t, t + h and the payment times, then the terms and the price
 unfoldable pub modelPriced : Float → List Float → List Float → List Float → List Float → Float → Float → Float → Outcome ModelValued
 modelPriced alpha ts fs payments accruals strike t sigma =
-    lookingUp ts fs payments t (λ pt pPlus ps. termsPriced alpha payments accruals strike t sigma pt pPlus ps)
+    withFactors ts fs payments t (λ pt pPlus ps. termsPriced alpha payments accruals strike t sigma pt pPlus ps)
 
 -- "Kind 5 with no coupons is 0 and needs no time; its rungs, rates and sums are 0."
 unfoldable pub modelOutcome : Float → List Float → List Float → List Float → List Float → Float → Float → Float → Outcome ModelValued

@@ -12,7 +12,7 @@ ghost use Rattle.hullwhite_swaptions.specs.Model.{modelRules, modelPrice
 ghost use Rattle.hullwhite_swaptions.specs.Demand3.{ModelRootLocated, ModelNoBracketExactly};
 use hullwhite_jamshidian::Root;
 use hullwhite_jamshidian::Swaption;
-use hullwhite_terms::Terms;
+use hullwhite_terms::WorkedTerms;
 use refusals::Answer;
 use refusals::Faults;
 use refusals::Refusal;
@@ -159,8 +159,8 @@ fn model_priced(
         &mut p[..n],
     );
     match worked {
-        Terms::Refused(refusal) => Swaption::Refused(refusal),
-        Terms::Served { p_t, forward } => {
+        WorkedTerms::Refused(refusal) => Swaption::Refused(refusal),
+        WorkedTerms::Served { p_t, forward } => {
             model_price_on_terms(alpha, t, sigma, p_t, forward, &c[..n], &b[..n], &p[..n])
         }
     }

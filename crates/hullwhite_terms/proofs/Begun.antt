@@ -11,7 +11,7 @@ use Rattle.curve.specs.Lookups.{factorAt}
 use Rattle.hullwhite_formulas.specs.HullWhite.{h}
 use Rattle.hullwhite_terms.proofs.Callers.{early, allEarly, Late, past-rules, past-lookups, through-lookups}
 use Rattle.hullwhite_terms.specs.Terms.{factorsAt}
-use Rattle.hullwhite_terms.specs.Swaption.{lookingUp}
+use Rattle.hullwhite_terms.specs.Swaption.{withFactors}
 use Rattle.hullwhite_terms.specs.Begun.{Begun}
 use Rattle.hullwhite_terms.proofs.Fetched.{off-curve}
 
@@ -21,7 +21,7 @@ module _ {B : Type 0} (rules : List Rule) (ts fs payments : List Float) (t : Flo
   fetch-early q e = rw (off-curve ts fs payments q e) tt
 
   abbrev lookedUp : Outcome B
-  lookedUp = lookingUp ts fs payments t on
+  lookedUp = withFactors ts fs payments t on
 
   pub record Searches (o : Outcome B) : Type 0 where
     pub begun : Begun rules ts fs payments t

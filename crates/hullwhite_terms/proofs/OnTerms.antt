@@ -7,10 +7,10 @@ use Rattle.refusals.specs.declared.refusals.Refusal.{Refusal}
 use Rattle.refusals.specs.Refusals.{Outcome, served, refused, following}
 use Rattle.curve.specs.Lookups.{Maybe, just, nothing, factorAt}
 use Rattle.hullwhite_formulas.specs.HullWhite.{h}
-use Rattle.hullwhite_terms.specs.declared.swaption.Terms.{Terms}
-use Rattle.hullwhite_terms.specs.declared.swaption.Terms.the-variants as T
+use Rattle.hullwhite_terms.specs.declared.swaption.WorkedTerms.{WorkedTerms}
+use Rattle.hullwhite_terms.specs.declared.swaption.WorkedTerms.the-variants as T
 use Rattle.hullwhite_terms.specs.Terms.{factorsAt}
-use Rattle.hullwhite_terms.specs.Swaption.{SwaptionTerms, termsOn, termsOf, termsOutcome, lookingUp}
+use Rattle.hullwhite_terms.specs.Swaption.{SwaptionTerms, termsOn, termsOf, termsOutcome, withFactors}
 use Rattle.hullwhite_terms.proofs.Callers.{looking}
 
 -- `rest` is what the call comes to on its factors, `on` what it comes to on its terms
@@ -22,15 +22,15 @@ module _ {B : Type 0} (alpha : Float) (ts fs payments accruals : List Float) (st
   looked (just pt) nothing f = refl
   looked nothing n f = refl
 
-  on-terms : following (termsOf alpha ts fs payments accruals strike t) on ≡ lookingUp ts fs payments t rest
+  on-terms : following (termsOf alpha ts fs payments accruals strike t) on ≡ withFactors ts fs payments t rest
   unfolding termsOf
   on-terms = looked (factorAt ts fs t) (factorAt ts fs (t ⊕ h)) (factorsAt ts fs payments)
 
   -- `r` is the answer, and beside it are the lists that were lent
-  module _ (r : Terms) (cs bs ps : List Float) (is : termsOutcome r cs bs ps ≡ termsOf alpha ts fs payments accruals strike t) where
-    pub terms-refused : {q : Refusal} → r ≡ T.Refused q → refused q ≡ lookingUp ts fs payments t rest
-    terms-refused e = ap (λ (x : Terms). following (termsOutcome x cs bs ps) on) (sym e) ∙ ap (λ (o : Outcome SwaptionTerms). following o on) is ∙ on-terms
+  module _ (r : WorkedTerms) (cs bs ps : List Float) (is : termsOutcome r cs bs ps ≡ termsOf alpha ts fs payments accruals strike t) where
+    pub terms-refused : {q : Refusal} → r ≡ T.Refused q → refused q ≡ withFactors ts fs payments t rest
+    terms-refused e = ap (λ (x : WorkedTerms). following (termsOutcome x cs bs ps) on) (sym e) ∙ ap (λ (o : Outcome SwaptionTerms). following o on) is ∙ on-terms
 
     pub terms-served : {pt forward : Float} {cs' bs' ps' : List Float} → r ≡ T.Served pt forward → cs' ≡ cs → bs' ≡ bs → ps' ≡ ps
-        → on (record { pt = pt; forward = forward; coefficients = cs'; bs = bs'; factors = ps' }) ≡ lookingUp ts fs payments t rest
-    terms-served e c b p = rw (c, b, p) (ap (λ (x : Terms). following (termsOutcome x cs bs ps) on) (sym e) ∙ ap (λ (o : Outcome SwaptionTerms). following o on) is ∙ on-terms)
+        → on (record { pt = pt; forward = forward; coefficients = cs'; bs = bs'; factors = ps' }) ≡ withFactors ts fs payments t rest
+    terms-served e c b p = rw (c, b, p) (ap (λ (x : WorkedTerms). following (termsOutcome x cs bs ps) on) (sym e) ∙ ap (λ (o : Outcome SwaptionTerms). following o on) is ∙ on-terms)

@@ -8,5 +8,5 @@ mod swaption;
 pub use columns::a_list_at;
 pub use columns::curve_parts;
 pub use rate::find_critical_rate_of;
-pub use swaption::Terms;
+pub use swaption::WorkedTerms;
 pub use swaption::swaption_terms;

@@ -11,7 +11,7 @@ use refusals::Answer;
 use refusals::Refusal;
 
 // The factor at the option time and the forward rate there; the lists stand in those that were lent.
-pub enum Terms {
+pub enum WorkedTerms {
     Served { p_t: f64, forward: f64 },
     Refused(Refusal),
 }
@@ -31,23 +31,23 @@ pub fn swaption_terms(
     c: &mut [f64],
     b: &mut [f64],
     p: &mut [f64],
-) -> Terms
+) -> WorkedTerms
     requires { ⌜ (inOrder true (now times) ≡ true) × (length (now accruals) ≡ length (now payments)) × (length (now c) ≡ length (now payments)) × (length (now b) ≡ length (now payments)) × (length (now p) ≡ length (now payments)) ⌝ }
     ensures { λ r. ⌜ termsOutcome r (now (c .exit)) (now (b .exit)) (now (p .exit)) ≡ termsOf alpha (now (times .entry)) (now (factors .entry)) (now (payments .entry)) (now (accruals .entry)) strike t ⌝ }
 {
     let Found::At(p_t) = curve::factor(times, factors, t) else {
-        return Terms::Refused(Refusal::OffCurve);
+        return WorkedTerms::Refused(Refusal::OffCurve);
     };
     let Found::At(p_plus) = curve::factor(times, factors, t + hullwhite_formulas::day()) else {
-        return Terms::Refused(Refusal::OffCurve);
+        return WorkedTerms::Refused(Refusal::OffCurve);
     };
     let fetched = factors::fetch(times, factors, payments, p);
     if let Answer::Refused(refusal) = fetched {
-        return Terms::Refused(refusal);
+        return WorkedTerms::Refused(refusal);
     }
     columns::coefficients(strike, accruals, c);
     columns::bs(alpha, t, payments, b);
-    Terms::Served {
+    WorkedTerms::Served {
         p_t,
         forward: hullwhite_formulas::forward_of(p_t, p_plus),
     }

@@ -19,8 +19,8 @@ use Rattle.search_sum.specs.Sum.{couponSum}
 use Rattle.search.specs.Rate.{criticalOf}
 use Rattle.search.specs.Values.{rootFinite}
 use Rattle.search.proofs.Answers.{and-root}
-use Rattle.hullwhite_terms.specs.declared.swaption.Terms.{Terms}
-use Rattle.hullwhite_terms.specs.declared.swaption.Terms.the-variants as T
+use Rattle.hullwhite_terms.specs.declared.swaption.WorkedTerms.{WorkedTerms}
+use Rattle.hullwhite_terms.specs.declared.swaption.WorkedTerms.the-variants as T
 use Rattle.hullwhite_terms.specs.Swaption.{SwaptionTerms, termsOf, termsOutcome}
 use Rattle.hullwhite_terms.proofs.OnTerms.{terms-refused, terms-served}
 use Rattle.pricer_formulas.specs.declared.bond_option.SwaptionType.{SwaptionType}
@@ -63,7 +63,7 @@ module _ (option : SwaptionType) (variance pt forward : Float) (cs bs ps owns : 
   terms-are a d h = rw (← a, ← d) h
 
 -- ---- the call, by what its terms came to, `r` with the lists beside it
-module _ (option : SwaptionType) (alpha : Float) (pls ss ts fs payments accruals owns : List Float) (strike t notional side : Float) (r : Terms) (cs bs ps : List Float) (is : termsOutcome r cs bs ps ≡ termsOf alpha ts fs payments accruals strike t) where
+module _ (option : SwaptionType) (alpha : Float) (pls ss ts fs payments accruals owns : List Float) (strike t notional side : Float) (r : WorkedTerms) (cs bs ps : List Float) (is : termsOutcome r cs bs ps ≡ termsOf alpha ts fs payments accruals strike t) where
   abbrev on : Float → SwaptionTerms → Outcome PricerValued
   on variance w = pricedBy option (pricerDeviationOf variance) (w .pt) (w .coefficients) (affineAListOf variance (w .forward) (w .pt) (w .bs) (w .factors)) (w .bs) (w .factors) owns notional side
 

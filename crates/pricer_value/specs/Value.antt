@@ -15,7 +15,7 @@ use Rattle.search_sum.specs.Sum.{couponSum}
 use Rattle.search.specs.Rate.{criticalOf}
 use Rattle.search.specs.Values.{Values, noValues, criticalOutcome}
 use Rattle.hullwhite_terms.specs.Terms.{coefficientsOf, bsOf}
-use Rattle.hullwhite_terms.specs.Swaption.{lookingUp}
+use Rattle.hullwhite_terms.specs.Swaption.{withFactors}
 use Rattle.pricer_formulas.specs.declared.bond_option.SwaptionType.{SwaptionType}
 use Rattle.pricer_formulas.specs.Affine.{pricerDeviationOf, affineAListOf}
 use Rattle.pricer_formulas.specs.Newton.{sumsOf, stepped}
@@ -53,7 +53,7 @@ pricedBy option deviation pt cs affs bs ps owns notional side =
 -- the factors at t, t + h and the payment times; the variance of the state from 0 to t; the terms
 unfoldable pub swaptionPriced : SwaptionType → Float → List Float → List Float → List Float → List Float → List Float → List Float → List Float → Float → Float → Float → Float → Outcome PricerValued
 swaptionPriced option alpha pls ss ts fs payments accruals owns strike t notional side =
-    lookingUp ts fs payments t (λ pt pPlus ps.
+    withFactors ts fs payments t (λ pt pPlus ps.
     let variance = piecewiseVarianceOf alpha pls ss zero t in
     let bs = bsOf alpha t payments in
     pricedBy option (pricerDeviationOf variance) pt (coefficientsOf strike accruals) (affineAListOf variance (forwardOf pt pPlus) pt bs ps) bs ps owns notional side)

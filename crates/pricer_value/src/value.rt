@@ -6,7 +6,7 @@ ghost use lib.ListN.{length};
 ghost use Rattle.refusals.specs.Checks.{inOrder};
 ghost use Rattle.pricer_formulas.specs.Affine.{pricerDeviationOf, affineAListOf};
 ghost use Rattle.pricer_value.specs.Value.{valuationOutcome, pricedBy, swaptionPriced, finishingValuation};
-use hullwhite_terms::Terms;
+use hullwhite_terms::WorkedTerms;
 use pricer_formulas::Decomposition;
 use pricer_formulas::Step;
 use pricer_formulas::Trade;
@@ -60,8 +60,8 @@ pub fn swaption_priced(
         &mut p[..n],
     );
     match worked {
-        Terms::Refused(refusal) => Valuation::Refused(refusal),
-        Terms::Served { p_t, forward } => {
+        WorkedTerms::Refused(refusal) => Valuation::Refused(refusal),
+        WorkedTerms::Served { p_t, forward } => {
             let state_variance = hullwhite_parameters::hull_white_piecewise_variance_of(
                 alpha,
                 pillars,
