@@ -19,7 +19,7 @@ use Rattle.hullwhite_formulas.specs.HullWhite.{h, forwardOf}
 use Rattle.hullwhite_parameters.specs.Variance.{piecewiseVarianceOf}
 use Rattle.search_sum.specs.Sum.{couponSum}
 use Rattle.search.specs.Rate.{criticalOf}
-use Rattle.search.specs.Values.{Values, criticalOutcome}
+use Rattle.search.specs.Values.{Values, criticalOutcome, rootFinite}
 use Rattle.hullwhite_terms.specs.Terms.{coefficientsOf, bsOf, factorsAt}
 use Rattle.hullwhite_jamshidian.specs.Price as Model
 use Rattle.hullwhite_jamshidian.specs.Price.{priceAt, finishingSwaption}
@@ -29,7 +29,7 @@ use Rattle.pricer_formulas.specs.declared.newton.Sums.{Sums}
 use Rattle.pricer_formulas.specs.Affine.{pricerDeviationOf, affineAListOf}
 use Rattle.pricer_formulas.specs.Newton.{flatLimit, sumsOf, stepped}
 use Rattle.pricer_formulas.specs.Components.{componentsOf}
-use Rattle.search_critical_rate.specs.Find.{searchRules, finiteRoot, finishingRate, findOutcome}
+use Rattle.search_critical_rate.specs.Find.{searchRules, finishingRate, findOutcome}
 use Rattle.search_critical_rate.specs.Implicit.{Implicit, finishingImplicit, steppedFrom, implicitOutcome}
 use Rattle.pricer_value.specs.Value.{PricerValued, finishingValuation, pricedBy, swaptionPriced}
 use Rattle.pricer.specs.Pricer as Pricer
@@ -146,7 +146,7 @@ module _ (option : SwaptionType) (alpha : Float) (pls ss ts fs payments accruals
 
 -- ---- the critical rate as calls, on coefficients, A and B: they need no time
 rate-only : (v : Values) → Only finished (finishingRate v)
-rate-only v = finishing-only (finiteRoot v) v
+rate-only v = finishing-only (rootFinite (v .rate) (v .bracket)) v
 
 pub find-rate-met : (cs affs bs : List Float) → Met (searchRules cs affs bs) noTimes (λ ps. criticalOutcome (criticalOf (couponSum cs affs bs))) finishingRate (findOutcome cs affs bs)
 unfolding findOutcome
@@ -159,7 +159,7 @@ rateAndStep cs affs bs =
     following (stepped (root .rate) (sumsOf (root .rate) cs affs bs)) (λ s. served (record { after-step = s; root = root })))
 
 implicit-only : (v : Implicit) → Only finished (finishingImplicit v)
-implicit-only v = finishing-only (finiteRoot (v .root) && finite (v .after-step)) v
+implicit-only v = finishing-only (rootFinite (v .root .rate) (v .root .bracket) && finite (v .after-step)) v
 
 pub implicit-rate-met : (cs affs bs : List Float) → Met (searchRules cs affs bs) noTimes (λ ps. rateAndStep cs affs bs) finishingImplicit (implicitOutcome cs affs bs)
 unfolding implicitOutcome steppedFrom

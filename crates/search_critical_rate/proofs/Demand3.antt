@@ -12,11 +12,11 @@ use Rattle.refusals.specs.declared.refusals.Refusal.the-variants as R
 use Rattle.refusals.specs.Refusals.{Outcome, served, refused, answerNumber, answerOf, after, unless, following}
 use Rattle.refusals.proofs.Outcomes.{not-both}
 use Rattle.search_sum.specs.Sum.{couponSum}
-use Rattle.search.specs.Values.{Values}
+use Rattle.search.specs.Values.{Values, rootFinite}
 use Rattle.search.specs.Facts.{Located}
 use Rattle.hullwhite_terms.proofs.Callers.{past-rules, searching, root-located, wants-bracket, no-bracket, ends-so, ends-otherwise}
 use Rattle.pricer_formulas.specs.Newton.{flatLimit, sumsOf, stepped}
-use Rattle.search_critical_rate.specs.Find.{searchRules, finiteRoot, finishingRate, findOutcome}
+use Rattle.search_critical_rate.specs.Find.{searchRules, finishingRate, findOutcome}
 use Rattle.search_critical_rate.specs.Implicit.{Implicit, finishingImplicit, steppedFrom, implicitOutcome}
 use Rattle.search_critical_rate.specs.Demand3.{TermsRootFound, TermsWantBracket}
 
@@ -44,10 +44,10 @@ module _ {B : Type 0} (cs affs bs : List Float) (rest : Values → Outcome B) (r
 -- ---- `find_critical_rate`
 module _ (cs affs bs : List Float) {o : Outcome Values} (is : o ≡ findOutcome cs affs bs) where
   keeps-rate : (v w : Values) → finishingRate v ≡ served w → v ≡ w
-  keeps-rate v w e = ends-so (finiteRoot v) v e
+  keeps-rate v w e = ends-so (rootFinite (v .rate) (v .bracket)) v e
 
   rate-otherwise : (v : Values) → finishingRate v ≡ refused R.NoBracket → ⊥
-  rate-otherwise v e = ends-otherwise (finiteRoot v) v e
+  rate-otherwise v e = ends-otherwise (rootFinite (v .rate) (v .bracket)) v e
 
   pub rate-rooted : (v : Values) → o ≡ served v → TermsRootFound cs affs bs v
   unfolding findOutcome
@@ -74,13 +74,13 @@ module _ (cs affs bs : List Float) {o : Outcome Implicit} (is : o ≡ implicitOu
   unfolding steppedFrom
   keeps-root v w e =
       let s = step-served (stepped (v .rate) (sumsOf (v .rate) cs affs bs)) (λ s. finishingImplicit (from v s)) e in
-      ap (λ (u : Implicit). u .root) (ends-so (finiteRoot v && finite (s .0)) (from v (s .0)) (s .1))
+      ap (λ (u : Implicit). u .root) (ends-so (rootFinite (v .rate) (v .bracket) && finite (s .0)) (from v (s .0)) (s .1))
 
   implicit-otherwise : (v : Values) → steppedFrom cs affs bs v ≡ refused R.NoBracket → ⊥
   unfolding steppedFrom stepped
   implicit-otherwise v e =
       let sums = sumsOf (v .rate) cs affs bs in
-      step-otherwise (lt (absOf (sums .derivative)) flatLimit) (v .rate ⊖ sums .objective ⊘ sums .derivative) (λ s. finishingImplicit (from v s)) (λ s. ends-otherwise (finiteRoot v && finite s) (from v s)) e
+      step-otherwise (lt (absOf (sums .derivative)) flatLimit) (v .rate ⊖ sums .objective ⊘ sums .derivative) (λ s. finishingImplicit (from v s)) (λ s. ends-otherwise (rootFinite (v .rate) (v .bracket) && finite s) (from v s)) e
 
   pub implicit-rooted : (v : Implicit) → o ≡ served v → TermsRootFound cs affs bs (v .root)
   unfolding implicitOutcome

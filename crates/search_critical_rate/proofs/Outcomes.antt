@@ -17,11 +17,11 @@ use Rattle.refusals.proofs.Outcomes.{neither}
 use Rattle.search_sum.specs.Sum.{couponSum}
 use Rattle.search.specs.declared.Bracket.{Bracket}
 use Rattle.search.specs.declared.Critical.{Critical}
-use Rattle.search.specs.Values.{Values, criticalOutcome}
+use Rattle.search.specs.Values.{Values, criticalOutcome, rootFinite}
 use Rattle.search.specs.Facts.{Searched}
 use Rattle.pricer_formulas.specs.Newton.{sumsOf, stepped}
 use Rattle.search_critical_rate.specs.declared.find.CriticalRate.the-variants as C
-use Rattle.search_critical_rate.specs.Find.{rateOutcome, searchRules, finiteRoot, finishingRate, findOutcome}
+use Rattle.search_critical_rate.specs.Find.{rateOutcome, searchRules, finishingRate, findOutcome}
 use Rattle.search_critical_rate.specs.Implicit.{Implicit, finishingImplicit, steppedFrom, implicitOutcome}
 
 -- ---- the rules turn the call down, or let it through with lists that fit
@@ -57,10 +57,10 @@ module _ (r : Critical) {b : Bracket} {i j : ℕ} {rate : Float} (found : r ≡ 
   abbrev root : Values
   root = record { rate = rate; bracket = b; low-rung = i; high-rung = j }
 
-  pub finishes : finiteRoot root ≡ true → rateOutcome (C.Served rate b i j) ≡ following (criticalOutcome r) finishingRate
+  pub finishes : rootFinite rate b ≡ true → rateOutcome (C.Served rate b i j) ≡ following (criticalOutcome r) finishingRate
   finishes f = rw (found, f)
 
-  pub overflows : finiteRoot root ≡ false → refused R.Overflow ≡ following (criticalOutcome r) finishingRate
+  pub overflows : rootFinite rate b ≡ false → refused R.Overflow ≡ following (criticalOutcome r) finishingRate
   overflows f = rw (found, f)
 
   -- and the step from it

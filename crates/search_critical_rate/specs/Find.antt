@@ -32,12 +32,9 @@ searchRules cs affs bs =
     ∷ rule R.NotFinite (not (allOf Finite cs && allOf Finite affs && allOf Finite bs))
     ∷ []
 
--- rule 13 looks at the rate, the bracket's ends and their sums
-abbrev pub finiteRoot : Values → Bool
-finiteRoot v = rootFinite (v .rate) (v .bracket)
-
+-- rule 13
 abbrev pub finishingRate : Values → Outcome Values
-finishingRate v = cond (finiteRoot v) (served v) (refused R.Overflow)
+finishingRate v = cond (rootFinite (v .rate) (v .bracket)) (served v) (refused R.Overflow)
 
 -- 1 and 2, the search with 9 and 10 "in the order of its evaluations", then 13
 unfoldable pub findOutcome : List Float → List Float → List Float → Outcome Values
@@ -61,7 +58,7 @@ all-finite true w e = e
 all-finite false w e = absurd (not-served e)
 
 finished : (o : Outcome Values) {v : Values} → following o finishingRate ≡ served v → o ≡ served v
-finished (served w) e = all-finite (finiteRoot w) w e
+finished (served w) e = all-finite (rootFinite (w .rate) (w .bracket)) w e
 finished (refused r) e = absurd (not-served e)
 
 pub found : (cs affs bs : List Float) {v : Values} → findOutcome cs affs bs ≡ served v → criticalOutcome (criticalOf (couponSum cs affs bs)) ≡ served v

@@ -8,11 +8,11 @@ use Rattle.refusals.specs.declared.refusals.Refusal.the-variants as R
 use Rattle.refusals.specs.Refusals.{Outcome, served, refused, unless, following}
 use Rattle.search_sum.specs.Sum.{couponSum}
 use Rattle.search.specs.Rate.{criticalOf}
-use Rattle.search.specs.Values.{Values, noValues, criticalOutcome}
+use Rattle.search.specs.Values.{Values, noValues, criticalOutcome, rootFinite}
 use Rattle.pricer_formulas.specs.Newton.{sumsOf, stepped}
 use Rattle.search_critical_rate.specs.declared.implicit.ImplicitRate.{ImplicitRate}
 use Rattle.search_critical_rate.specs.declared.implicit.ImplicitRate.the-variants as I
-use Rattle.search_critical_rate.specs.Find.{searchRules, finiteRoot}
+use Rattle.search_critical_rate.specs.Find.{searchRules}
 
 -- the critical rate after the step, and where the root lies: the rate before the step, the final bracket, the rungs
 pub record Implicit : Type 0 where
@@ -29,7 +29,7 @@ noImplicit = record { after-step = zero; root = noValues }
 
 -- rule 13: "bracket sums, end residuals and the critical rate before and after the Newton step included"
 abbrev pub finishingImplicit : Implicit → Outcome Implicit
-finishingImplicit v = cond (finiteRoot (v .root) && finite (v .after-step)) (served v) (refused R.Overflow)
+finishingImplicit v = cond (rootFinite (v .root .rate) (v .root .bracket) && finite (v .after-step)) (served v) (refused R.Overflow)
 
 -- the step from the root, which may be refused by 11, then 13
 unfoldable pub steppedFrom : List Float → List Float → List Float → Values → Outcome Implicit
