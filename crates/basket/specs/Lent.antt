@@ -12,8 +12,8 @@ abbrev pub entryOf : Quote → Optionlet → Entry
 entryOf quote caplet = record { quote = quote .sort; strike = caplet .strike; start = caplet .start; end = caplet .end; vol = quote .volatility }
 
 -- at place i of the lent lists
-abbrev pub quoteAt : List Bool → List Float → ℕ → Quote
-quoteAt ns vs i = record { sort = quoteTypeOf (getD ns i false); volatility = getD vs i nan }
+abbrev pub lentQuote : List Bool → List Float → ℕ → Quote
+lentQuote ns vs i = record { sort = quoteTypeOf (getD ns i false); volatility = getD vs i nan }
 
-abbrev pub capletAt : List Float → List Float → List Float → ℕ → Optionlet
-capletAt ks ts ends i = record { strike = getD ks i nan; start = getD ts i nan; end = getD ends i nan }
+abbrev pub lentCaplet : List Float → List Float → List Float → ℕ → Optionlet
+lentCaplet ks ts ends i = record { strike = getD ks i nan; start = getD ts i nan; end = getD ends i nan }

@@ -7,7 +7,7 @@ ghost use Rattle.refusals.specs.Checks.{inOrder};
 ghost use Rattle.refusals.specs.Refusals.{served, after};
 ghost use Rattle.math_bisection.specs.Result.{fittedOutcome};
 ghost use Rattle.basket_entries.specs.Entries.{entriesOf};
-ghost use Rattle.basket.specs.Lent.{entryOf, quoteAt, capletAt};
+ghost use Rattle.basket.specs.Lent.{entryOf, lentQuote, lentCaplet};
 ghost use Rattle.basket.specs.Basket.{statusOf, diagonalOf, fitsOf, bumpOf, bumpsOf};
 use fit::Optionlet;
 use fit::Quote;
@@ -28,9 +28,9 @@ fn diagonal_of(bumped: f64, sigma: f64) -> f64
 }
 
 // The quote of the entry at place i: a caller that has asked the rules has lists that go so far.
-fn quote_at(normals: &[bool], vols: &[f64], i: usize) -> Quote
+fn lent_quote(normals: &[bool], vols: &[f64], i: usize) -> Quote
     requires { ⌜ (i < length (now normals)) × (i < length (now vols)) ⌝ }
-    ensures { λ r. ⌜ r ≡ quoteAt (now (normals .entry)) (now (vols .entry)) i ⌝ }
+    ensures { λ r. ⌜ r ≡ lentQuote (now (normals .entry)) (now (vols .entry)) i ⌝ }
 {
     Quote {
         sort: basket_entries::quote_type_of(normals[i]),
@@ -39,9 +39,9 @@ fn quote_at(normals: &[bool], vols: &[f64], i: usize) -> Quote
 }
 
 // The caplet of the entry at place i: a caller that has asked the rules has lists that go so far.
-fn caplet_at(strikes: &[f64], starts: &[f64], ends: &[f64], i: usize) -> Optionlet
+fn lent_caplet(strikes: &[f64], starts: &[f64], ends: &[f64], i: usize) -> Optionlet
     requires { ⌜ (i < length (now strikes)) × (i < length (now starts)) × (i < length (now ends)) ⌝ }
-    ensures { λ r. ⌜ r ≡ capletAt (now (strikes .entry)) (now (starts .entry)) (now (ends .entry)) i ⌝ }
+    ensures { λ r. ⌜ r ≡ lentCaplet (now (strikes .entry)) (now (starts .entry)) (now (ends .entry)) i ⌝ }
 {
     Optionlet {
         strike: strikes[i],
@@ -71,8 +71,8 @@ pub fn first_fits(
 {
     let mut i = 0;
     while i < normals.len() {
-        let quote = quote_at(normals, vols, i);
-        let caplet = caplet_at(strikes, starts, ends, i);
+        let quote = lent_quote(normals, vols, i);
+        let caplet = lent_caplet(strikes, starts, ends, i);
         let fitted = fit::caplet_fitted(quote, alpha, times, factors, caplet);
         match fitted {
             Fitted::Refused(refusal) => {
@@ -139,8 +139,8 @@ pub fn bumped_fits(
 {
     let mut i = 0;
     while i < normals.len() {
-        let quote = quote_at(normals, vols, i);
-        let caplet = caplet_at(strikes, starts, ends, i);
+        let quote = lent_quote(normals, vols, i);
+        let caplet = lent_caplet(strikes, starts, ends, i);
         let fitted = bumped(quote, alpha, times, factors, caplet, sigmas[i]);
         match fitted {
             Fitted::Refused(refusal) => {

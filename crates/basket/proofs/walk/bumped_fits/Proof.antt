@@ -33,11 +33,11 @@ place-fits t = omega arith
 loop-holds : tie.Need-loop-holds Inv-loop μ-loop
 loop-holds c = let p = called (c .before) .pre in start (p .0) (p .1) (p .2) (p .3) (p .4) (p .5) (p .6)
 
-quote-at-requires : tie.Need-quote-at-requires Inv-loop μ-loop
-quote-at-requires c κs = (search needs, search needs)
+lent-quote-requires : tie.Need-lent-quote-requires Inv-loop μ-loop
+lent-quote-requires c κs = (search needs, search needs)
 
-caplet-at-requires : tie.Need-caplet-at-requires Inv-loop μ-loop
-caplet-at-requires c κs = (search needs, search needs, search needs)
+lent-caplet-requires : tie.Need-lent-caplet-requires Inv-loop μ-loop
+lent-caplet-requires c κs = (search needs, search needs, search needs)
 
 mul-bumped : tie.Need-mul-bumped Inv-loop μ-loop
 mul-bumped c = search needs
@@ -60,7 +60,7 @@ same-length-2 c = search needs
 returns : tie.Need-returns Inv-loop μ-loop
 returns c =
     let f = c .before .before .before in
-    stop (turned f .loop-test .taken) (turned f .before .loop .inv) (bump-gave-none _ _ _ _ (f .before .before .before .quote-at .ensures) (f .before .before .caplet-at .ensures) _ (f .bumped .ensures) (c .before .fitted .given .1))
+    stop (turned f .loop-test .taken) (turned f .before .loop .inv) (bump-gave-none _ _ _ _ (f .before .before .before .lent-quote .ensures) (f .before .before .lent-caplet .ensures) _ (f .bumped .ensures) (c .before .fitted .given .1))
 
 enum-known-fitted-2 : tie.Need-enum-known-fitted-2 Inv-loop μ-loop
 enum-known-fitted-2 c = search needs
@@ -98,7 +98,7 @@ loop-less c = search needs
 loop-again : tie.Need-loop-again Inv-loop μ-loop
 loop-again c =
     let f = c .before .before .before .before .before .before in
-    turn (turned f .loop-test .taken) (turned f .before .loop .inv) (c .before .diagonal-of .ensures) (c .status-of .ensures) (bump-gave _ _ _ _ (f .before .before .before .quote-at .ensures) (f .before .before .caplet-at .ensures) _ (f .bumped .ensures) (c .before .before .before .before .fitted2 .given .1))
+    turn (turned f .loop-test .taken) (turned f .before .loop .inv) (c .before .diagonal-of .ensures) (c .status-of .ensures) (bump-gave _ _ _ _ (f .before .before .before .lent-quote .ensures) (f .before .before .lent-caplet .ensures) _ (f .bumped .ensures) (c .before .before .before .before .fitted2 .given .1))
 
 same-length-3 : tie.Need-same-length-3 Inv-loop μ-loop
 same-length-3 c = search needs
@@ -116,8 +116,8 @@ bumped-fits-spec =
     Inv-loop
     μ-loop
     loop-holds
-    quote-at-requires
-    caplet-at-requires
+    lent-quote-requires
+    lent-caplet-requires
     mul-bumped
     shared-slice-read-bumped
     bumped-requires

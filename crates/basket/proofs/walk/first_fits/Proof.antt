@@ -34,11 +34,11 @@ place-fits t = omega arith
 loop-holds : tie.Need-loop-holds Inv-loop μ-loop
 loop-holds c = let p = called (c .before .before) .pre in start (p .0) (p .1) (p .2) (p .3) (p .4) (p .5) (p .6) (p .7)
 
-quote-at-requires : tie.Need-quote-at-requires Inv-loop μ-loop
-quote-at-requires c κs = (search needs, search needs)
+lent-quote-requires : tie.Need-lent-quote-requires Inv-loop μ-loop
+lent-quote-requires c κs = (search needs, search needs)
 
-caplet-at-requires : tie.Need-caplet-at-requires Inv-loop μ-loop
-caplet-at-requires c κs = (search needs, search needs, search needs)
+lent-caplet-requires : tie.Need-lent-caplet-requires Inv-loop μ-loop
+lent-caplet-requires c κs = (search needs, search needs, search needs)
 
 caplet-fitted-requires : tie.Need-caplet-fitted-requires Inv-loop μ-loop
 caplet-fitted-requires c κs = search needs
@@ -61,7 +61,7 @@ same-length-4 c = search needs
 returns : tie.Need-returns Inv-loop μ-loop
 returns c =
     let f = c .before .before .before in
-    stop (turned f .loop-test .taken) (turned f .before .loop .inv) (fit-refused _ _ _ (f .before .before .quote-at .ensures) (f .before .caplet-at .ensures) _ (f .caplet-fitted .ensures) (c .before .fitted .given .1))
+    stop (turned f .loop-test .taken) (turned f .before .loop .inv) (fit-refused _ _ _ (f .before .before .lent-quote .ensures) (f .before .lent-caplet .ensures) _ (f .caplet-fitted .ensures) (c .before .fitted .given .1))
 
 enum-known-fitted-2 : tie.Need-enum-known-fitted-2 Inv-loop μ-loop
 enum-known-fitted-2 c = search needs
@@ -84,7 +84,7 @@ slice-write-statuses c = search needs
 int-to-float-halvings : tie.Need-int-to-float-halvings Inv-loop μ-loop
 int-to-float-halvings c =
     let f = c .before .before .before .before .before in
-    in-float _ (halvings-in _ _ _ _ _ _ _ _ _ (fit-served _ _ _ (f .before .before .quote-at .ensures) (f .before .caplet-at .ensures) _ (f .caplet-fitted .ensures) (c .before .before .before .fitted2 .given .1)))
+    in-float _ (halvings-in _ _ _ _ _ _ _ _ _ (fit-served _ _ _ (f .before .before .lent-quote .ensures) (f .before .lent-caplet .ensures) _ (f .caplet-fitted .ensures) (c .before .before .before .fitted2 .given .1)))
 
 mul-halvings : tie.Need-mul-halvings Inv-loop μ-loop
 mul-halvings c = place-fits (turned (c .before .before .before .before .before))
@@ -107,7 +107,7 @@ loop-less c = search needs
 loop-again : tie.Need-loop-again Inv-loop μ-loop
 loop-again c =
     let f = c .before .before .before .before .before in
-    turn (turned f .loop-test .taken) (turned f .before .loop .inv) (c .before .status-of .ensures) (fit-served _ _ _ (f .before .before .quote-at .ensures) (f .before .caplet-at .ensures) _ (f .caplet-fitted .ensures) (c .before .before .before .fitted2 .given .1))
+    turn (turned f .loop-test .taken) (turned f .before .loop .inv) (c .before .status-of .ensures) (fit-served _ _ _ (f .before .before .lent-quote .ensures) (f .before .lent-caplet .ensures) _ (f .caplet-fitted .ensures) (c .before .before .before .fitted2 .given .1))
 
 same-length-5 : tie.Need-same-length-5 Inv-loop μ-loop
 same-length-5 c = search needs
@@ -131,8 +131,8 @@ first-fits-spec =
     Inv-loop
     μ-loop
     loop-holds
-    quote-at-requires
-    caplet-at-requires
+    lent-quote-requires
+    lent-caplet-requires
     caplet-fitted-requires
     enum-known-fitted
     same-length

@@ -1,7 +1,7 @@
--- `basket::walk::quote_at` meets its contract. Assumes nothing.
+-- `basket::walk::lent_quote` meets its contract. Assumes nothing.
 use borrow.Author.Needs.{needs}
-use Rattle.basket.proofs.walk.quote_at.Statement.{statement}
-use Rattle.basket.proofs.walk.quote_at.Tie as tie
+use Rattle.basket.proofs.walk.lent_quote.Statement.{statement}
+use Rattle.basket.proofs.walk.lent_quote.Tie as tie
 
 shared-slice-read-quote-type-of : tie.Need-shared-slice-read-quote-type-of
 shared-slice-read-quote-type-of c = search needs
@@ -18,8 +18,8 @@ shared-slice-read-t9 c = search needs
 returns : tie.Need-returns
 returns c = rw (c .before .quote-type-of .ensures)
 
-pub quote-at-spec : {M : Type 1} → statement M
-quote-at-spec =
+pub lent-quote-spec : {M : Type 1} → statement M
+lent-quote-spec =
     tie.close
     (tie.spec
     shared-slice-read-quote-type-of
