@@ -21,7 +21,7 @@ use Rattle.hullwhite_model.specs.Rules.{thetaRules, forwardRules}
 use Rattle.hullwhite_paths.specs.Generate.{pathRules}
 use Rattle.hullwhite_transitions.specs.Transition.{transitionRules}
 use Rattle.hullwhite_swaptions.specs.Model.{modelRules}
-use Rattle.search_critical_rate.specs.Find.{searchRules}
+use Rattle.pricer_critical_rate.specs.Find.{searchRules}
 use Rattle.pricer.specs.Pricer.{pricerRules}
 use Rattle.fit_objective.specs.declared.market.QuoteType.{QuoteType}
 use Rattle.fit.specs.Fits.{capletRules, swaptionRules}

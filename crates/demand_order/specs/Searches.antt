@@ -29,8 +29,8 @@ use Rattle.pricer_formulas.specs.declared.newton.Sums.{Sums}
 use Rattle.pricer_formulas.specs.Affine.{pricerDeviationOf, affineAListOf}
 use Rattle.pricer_formulas.specs.Newton.{flatLimit, sumsOf, stepped}
 use Rattle.pricer_formulas.specs.Components.{componentsOf}
-use Rattle.search_critical_rate.specs.Find.{searchRules, finishingRate, findOutcome}
-use Rattle.search_critical_rate.specs.Implicit.{Implicit, finishingImplicit, steppedFrom, implicitOutcome}
+use Rattle.pricer_critical_rate.specs.Find.{searchRules, finishingRate, findOutcome}
+use Rattle.pricer_critical_rate.specs.Implicit.{Implicit, finishingImplicit, steppedFrom, implicitOutcome}
 use Rattle.pricer_value.specs.Value.{PricerValued, finishingValuation, pricedBy, swaptionPriced}
 use Rattle.pricer.specs.Pricer as Pricer
 use Rattle.math_bisection.specs.declared.result.Fit.{Fit}

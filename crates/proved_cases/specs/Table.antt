@@ -28,7 +28,7 @@ use Rattle.hullwhite_terms.specs.Terms.{coefficientsOf, bsOf, factorsAt}
 use Rattle.search_sum.specs.Sum.{couponsOnto, couponSum}
 use Rattle.search.specs.Rate.{rungOf, orRung, ladderOf, bracketMovedTo, halveOf, thenHalve, halvingsOf, finish, fromLadders, criticalOf}
 use Rattle.search.specs.Values.{Values, criticalOutcome}
-use Rattle.search_critical_rate.specs.Find.{findOutcome, found}
+use Rattle.pricer_critical_rate.specs.Find.{findOutcome, found}
 use Rattle.pricer_formulas.specs.declared.bond_option.SwaptionType.the-variants as Swaption
 use Rattle.pricer_formulas.specs.Affine.{pricerDeviationOf, affineAOf, affineAListOf}
 use Rattle.pricer_formulas.specs.Newton.{bondAt, sumsAfter, sumsFrom, sumsOf, stepped}
@@ -62,7 +62,7 @@ pub data Call : Type 0 where
   critical : List Float → List Float → List Float → Call
   newton : Float → List Float → List Float → List Float → Call
 
--- What the definitions answer; each public function is proved equal to its definition. A search is the call `find_critical_rate` of `search_critical_rate`. The Newton step is part of `swaption_value`.
+-- What the definitions answer; each public function is proved equal to its definition. A search is the call `find_critical_rate` of `pricer_critical_rate`. The Newton step is part of `swaption_value`.
 abbrev pub answer : Call → Outcome Float
 answer (N x) = served (normCdfOf x)
 answer (N-dual x) = served (normCdfDualOf x)

@@ -4,7 +4,7 @@ use mathlib.Core.Bool.{Bool, _&&_}
 use lib.Dec.{eqb}
 use Rattle.refusals.specs.Refusals.{Report}
 use Rattle.search.specs.Values.{Values}
-use Rattle.search_critical_rate.specs.Implicit.{Implicit}
+use Rattle.pricer_critical_rate.specs.Implicit.{Implicit}
 use Rattle.file_fields.specs.Fields.{bitsOf}
 use Rattle.test_critical_rate.specs.declared.report_words.ReportWords.{ReportWords}
 

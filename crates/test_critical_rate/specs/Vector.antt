@@ -9,8 +9,8 @@ use Rattle.refusals.specs.Refusals.{reported}
 use Rattle.file_layout.specs.Bytes.{fourBytes, eightBytes}
 use Rattle.file_layout.specs.Request.{floatsFrom}
 use Rattle.search.specs.Values.{noValues}
-use Rattle.search_critical_rate.specs.Find.{findOutcome}
-use Rattle.search_critical_rate.specs.Implicit.{noImplicit, implicitOutcome}
+use Rattle.pricer_critical_rate.specs.Find.{findOutcome}
+use Rattle.pricer_critical_rate.specs.Implicit.{noImplicit, implicitOutcome}
 use Rattle.test_critical_rate.specs.declared.report_words.ReportWords.{ReportWords}
 use Rattle.test_critical_rate.specs.declared.vector.Verdict.{Verdict}
 use Rattle.test_critical_rate.specs.ReportWords.{rateWords, implicitWords, sameAs}

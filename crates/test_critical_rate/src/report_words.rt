@@ -3,13 +3,13 @@
 ghost use mathlib.Core.Path.{_≡_};
 ghost use Rattle.refusals.specs.Refusals.{numberOf, reported};
 ghost use Rattle.search.specs.Values.{noValues};
-ghost use Rattle.search_critical_rate.specs.Find.{rateOutcome};
-ghost use Rattle.search_critical_rate.specs.Implicit.{noImplicit, implicitRateOutcome};
+ghost use Rattle.pricer_critical_rate.specs.Find.{rateOutcome};
+ghost use Rattle.pricer_critical_rate.specs.Implicit.{noImplicit, implicitRateOutcome};
 ghost use Rattle.test_critical_rate.specs.ReportWords.{wordsOf, rateWords, implicitWords, sameAs};
+use pricer_critical_rate::CriticalRate;
+use pricer_critical_rate::ImplicitRate;
 use refusals::Refusal;
 use search::Bracket;
-use search_critical_rate::CriticalRate;
-use search_critical_rate::ImplicitRate;
 
 pub struct ReportWords {
     pub number: u64,

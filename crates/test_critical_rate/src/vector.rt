@@ -36,8 +36,8 @@ pub fn compared(s: &[u8; 1720]) -> Verdict
 fn answered(c: &[f64], a: &[f64], b: &[f64], s: &[u8; 1720]) -> Verdict
     ensures { λ r. ⌜ r ≡ answeredOf (now (c .entry)) (now (a .entry)) (now (b .entry)) (now (s .entry)) ⌝ }
 {
-    let found = report_words::rate(search_critical_rate::find_critical_rate(c, a, b));
-    let stepped = report_words::implicit(search_critical_rate::implicit_critical_rate(c, a, b));
+    let found = report_words::rate(pricer_critical_rate::find_critical_rate(c, a, b));
+    let stepped = report_words::implicit(pricer_critical_rate::implicit_critical_rate(c, a, b));
     Verdict {
         found: found.number,
         stepped: stepped.number,

@@ -10,10 +10,10 @@ use Rattle.search_sum.specs.Sum.{couponSum}
 use Rattle.search.specs.Values.{Values}
 use Rattle.search.specs.Reached.{Unbracketed}
 use Rattle.search.specs.Facts.{Located}
-use Rattle.search_critical_rate.specs.declared.find.CriticalRate.{CriticalRate}
-use Rattle.search_critical_rate.specs.declared.implicit.ImplicitRate.{ImplicitRate}
-use Rattle.search_critical_rate.specs.Find.{rateOutcome, searchRules}
-use Rattle.search_critical_rate.specs.Implicit.{Implicit, implicitRateOutcome}
+use Rattle.pricer_critical_rate.specs.declared.find.CriticalRate.{CriticalRate}
+use Rattle.pricer_critical_rate.specs.declared.implicit.ImplicitRate.{ImplicitRate}
+use Rattle.pricer_critical_rate.specs.Find.{rateOutcome, searchRules}
+use Rattle.pricer_critical_rate.specs.Implicit.{Implicit, implicitRateOutcome}
 
 module _ (cs affs bs : List Float) where
   -- what is accepted: "on terms that rules 1 to 8 let through", of which rules 1 and 2 are this call's, the root is located among their sums

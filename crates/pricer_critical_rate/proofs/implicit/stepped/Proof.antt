@@ -1,11 +1,11 @@
--- `search_critical_rate::implicit::stepped` meets its contract: refused by the search or by the step, or the rate after it. Assumes nothing.
+-- `pricer_critical_rate::implicit::stepped` meets its contract: refused by the search or by the step, or the rate after it. Assumes nothing.
 use mathlib.Core.Path.{sym, ap, _∙_}
 use Rattle.hullwhite_terms.proofs.Callers.{nothing-found}
 use Rattle.pricer_formulas.specs.Newton.{stepOutcome}
-use Rattle.search_critical_rate.proofs.Outcomes.{step-flat, step-taken}
+use Rattle.pricer_critical_rate.proofs.Outcomes.{step-flat, step-taken}
 use borrow.Author.Needs.{needs}
-use Rattle.search_critical_rate.proofs.implicit.stepped.Statement.{statement}
-use Rattle.search_critical_rate.proofs.implicit.stepped.Tie as tie
+use Rattle.pricer_critical_rate.proofs.implicit.stepped.Statement.{statement}
+use Rattle.pricer_critical_rate.proofs.implicit.stepped.Tie as tie
 
 enum-told : tie.Need-enum-told
 enum-told c = search needs

@@ -17,8 +17,8 @@ use Rattle.refusals.specs.Checks.{allOf}
 use Rattle.search_sum.specs.Sum.{couponsOnto, couponSum}
 use Rattle.search.specs.Rate.{rungOf, orRung, ladderOf, fromLadders, criticalOf}
 use Rattle.search.specs.Values.{Values, criticalOutcome, rootFinite}
-use Rattle.search_critical_rate.specs.declared.find.CriticalRate.{CriticalRate}
-use Rattle.search_critical_rate.specs.declared.find.CriticalRate.the-variants as C
+use Rattle.pricer_critical_rate.specs.declared.find.CriticalRate.{CriticalRate}
+use Rattle.pricer_critical_rate.specs.declared.find.CriticalRate.the-variants as C
 
 -- document 01's outcome for each case of the answer: the rate, the final bracket with its sums, the two rungs
 abbrev pub rateOutcome : CriticalRate → Outcome Values

@@ -2,8 +2,8 @@
 ghost use mathlib.Core.Path.{_≡_};
 ghost use Rattle.refusals.specs.Refusals.{reported, following};
 ghost use Rattle.search.specs.Values.{noValues, criticalOutcome};
-ghost use Rattle.search_critical_rate.specs.Find.{rateOutcome, finishingRate, findOutcome};
-ghost use Rattle.search_critical_rate.specs.Demand3.{RateRootLocated, RateNoBracketExactly};
+ghost use Rattle.pricer_critical_rate.specs.Find.{rateOutcome, finishingRate, findOutcome};
+ghost use Rattle.pricer_critical_rate.specs.Demand3.{RateRootLocated, RateNoBracketExactly};
 use super::rules;
 use refusals::Answer;
 use refusals::Refusal;

@@ -10,9 +10,9 @@ use Rattle.search_sum.specs.Sum.{couponSum}
 use Rattle.search.specs.Rate.{criticalOf}
 use Rattle.search.specs.Values.{Values, noValues, criticalOutcome, rootFinite}
 use Rattle.pricer_formulas.specs.Newton.{sumsOf, stepped}
-use Rattle.search_critical_rate.specs.declared.implicit.ImplicitRate.{ImplicitRate}
-use Rattle.search_critical_rate.specs.declared.implicit.ImplicitRate.the-variants as I
-use Rattle.search_critical_rate.specs.Find.{searchRules}
+use Rattle.pricer_critical_rate.specs.declared.implicit.ImplicitRate.{ImplicitRate}
+use Rattle.pricer_critical_rate.specs.declared.implicit.ImplicitRate.the-variants as I
+use Rattle.pricer_critical_rate.specs.Find.{searchRules}
 
 -- the critical rate after the step, and where the root lies: the rate before the step, the final bracket, the rungs
 pub record Implicit : Type 0 where

@@ -1,7 +1,7 @@
 // Rules 1 and 2 on the terms.
 ghost use mathlib.Core.Path.{_≡_};
 ghost use Rattle.refusals.specs.Refusals.{firstOf};
-ghost use Rattle.search_critical_rate.specs.Find.{searchRules};
+ghost use Rattle.pricer_critical_rate.specs.Find.{searchRules};
 use refusals::Answer;
 use refusals::Refusal;
 use refusals::Test;

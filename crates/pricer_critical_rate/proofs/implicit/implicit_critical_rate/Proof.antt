@@ -1,14 +1,14 @@
--- `search_critical_rate::implicit::implicit_critical_rate` meets its contract: turned down by its rules, or what its search comes to; the root is where the outcome defined has it, and it wants a bracket where that one does. Assumes nothing.
+-- `pricer_critical_rate::implicit::implicit_critical_rate` meets its contract: turned down by its rules, or what its search comes to; the root is where the outcome defined has it, and it wants a bracket where that one does. Assumes nothing.
 use mathlib.Core.Path.{ap}
 use native.Mathlib.Omega.{arith}
 use denote.Ref.{now}
 use Rattle.refusals.specs.Refusals.{reported}
-use Rattle.search_critical_rate.specs.Implicit.{noImplicit}
-use Rattle.search_critical_rate.proofs.Outcomes.{lists-fit, implicit-refused, implicit-searched}
-use Rattle.search_critical_rate.proofs.Demand3.{implicit-rooted, implicit-refused-so}
+use Rattle.pricer_critical_rate.specs.Implicit.{noImplicit}
+use Rattle.pricer_critical_rate.proofs.Outcomes.{lists-fit, implicit-refused, implicit-searched}
+use Rattle.pricer_critical_rate.proofs.Demand3.{implicit-rooted, implicit-refused-so}
 use borrow.Author.Needs.{needs}
-use Rattle.search_critical_rate.proofs.implicit.implicit_critical_rate.Statement.{statement}
-use Rattle.search_critical_rate.proofs.implicit.implicit_critical_rate.Tie as tie
+use Rattle.pricer_critical_rate.proofs.implicit.implicit_critical_rate.Statement.{statement}
+use Rattle.pricer_critical_rate.proofs.implicit.implicit_critical_rate.Tie as tie
 
 search-rules-requires : tie.Need-search-rules-requires
 search-rules-requires c κs = search needs

@@ -1,8 +1,8 @@
--- `search_critical_rate::rules::search_rules` meets its contract: whether each rule applies is what specs/ says, line by line. Assumes nothing.
+-- `pricer_critical_rate::rules::search_rules` meets its contract: whether each rule applies is what specs/ says, line by line. Assumes nothing.
 use Rattle.refusals.specs.Order.{end, ask, asked}
 use borrow.Author.Needs.{needs}
-use Rattle.search_critical_rate.proofs.rules.search_rules.Statement.{statement}
-use Rattle.search_critical_rate.proofs.rules.search_rules.Tie as tie
+use Rattle.pricer_critical_rate.proofs.rules.search_rules.Statement.{statement}
+use Rattle.pricer_critical_rate.proofs.rules.search_rules.Tie as tie
 
 all-requires : tie.Need-all-requires
 all-requires c κs = search needs

@@ -16,9 +16,9 @@ use Rattle.search.specs.Values.{Values, rootFinite}
 use Rattle.search.specs.Facts.{Located}
 use Rattle.hullwhite_terms.proofs.Callers.{past-rules, searching, root-located, wants-bracket, no-bracket, ends-so, ends-otherwise}
 use Rattle.pricer_formulas.specs.Newton.{flatLimit, sumsOf, stepped}
-use Rattle.search_critical_rate.specs.Find.{searchRules, finishingRate, findOutcome}
-use Rattle.search_critical_rate.specs.Implicit.{Implicit, finishingImplicit, steppedFrom, implicitOutcome}
-use Rattle.search_critical_rate.specs.Demand3.{TermsRootFound, TermsWantBracket}
+use Rattle.pricer_critical_rate.specs.Find.{searchRules, finishingRate, findOutcome}
+use Rattle.pricer_critical_rate.specs.Implicit.{Implicit, finishingImplicit, steppedFrom, implicitOutcome}
+use Rattle.pricer_critical_rate.specs.Demand3.{TermsRootFound, TermsWantBracket}
 
 -- ---- `rest` follows the search; what it serves has the search's own root, and it refuses nothing for want of a bracket
 module _ {B : Type 0} (cs affs bs : List Float) (rest : Values → Outcome B) (rootOf : B → Values) (keeps : (v : Values) (w : B) → rest v ≡ served w → v ≡ rootOf w) (otherwise : (v : Values) → rest v ≡ refused R.NoBracket → ⊥) where

@@ -1,7 +1,7 @@
--- `search_critical_rate::implicit::finished` meets its contract: rule 13 asks whether every float of the answer is finite. Assumes nothing.
+-- `pricer_critical_rate::implicit::finished` meets its contract: rule 13 asks whether every float of the answer is finite. Assumes nothing.
 use borrow.Author.Needs.{needs}
-use Rattle.search_critical_rate.proofs.implicit.finished.Statement.{statement}
-use Rattle.search_critical_rate.proofs.implicit.finished.Tie as tie
+use Rattle.pricer_critical_rate.proofs.implicit.finished.Statement.{statement}
+use Rattle.pricer_critical_rate.proofs.implicit.finished.Tie as tie
 
 root-finite-requires : tie.Need-root-finite-requires
 root-finite-requires c κs = search needs

@@ -20,9 +20,9 @@ use Rattle.search.specs.declared.Critical.{Critical}
 use Rattle.search.specs.Values.{Values, criticalOutcome, rootFinite}
 use Rattle.search.specs.Facts.{Searched}
 use Rattle.pricer_formulas.specs.Newton.{sumsOf, stepped}
-use Rattle.search_critical_rate.specs.declared.find.CriticalRate.the-variants as C
-use Rattle.search_critical_rate.specs.Find.{rateOutcome, searchRules, finishingRate, findOutcome}
-use Rattle.search_critical_rate.specs.Implicit.{Implicit, finishingImplicit, steppedFrom, implicitOutcome}
+use Rattle.pricer_critical_rate.specs.declared.find.CriticalRate.the-variants as C
+use Rattle.pricer_critical_rate.specs.Find.{rateOutcome, searchRules, finishingRate, findOutcome}
+use Rattle.pricer_critical_rate.specs.Implicit.{Implicit, finishingImplicit, steppedFrom, implicitOutcome}
 
 -- ---- the rules turn the call down, or let it through with lists that fit
 module _ (cs affs bs : List Float) {answer : Answer} (h : answer ≡ firstOf (searchRules cs affs bs)) where

@@ -1,10 +1,10 @@
--- `search_critical_rate::find::finished` meets its contract: what the search came to, and rule 13. Assumes nothing.
+-- `pricer_critical_rate::find::finished` meets its contract: what the search came to, and rule 13. Assumes nothing.
 use mathlib.Core.Path.{sym, _∙_}
 use Rattle.hullwhite_terms.proofs.Callers.{nothing-found}
-use Rattle.search_critical_rate.proofs.Outcomes.{finishes, overflows}
+use Rattle.pricer_critical_rate.proofs.Outcomes.{finishes, overflows}
 use borrow.Author.Needs.{needs}
-use Rattle.search_critical_rate.proofs.find.finished.Statement.{statement}
-use Rattle.search_critical_rate.proofs.find.finished.Tie as tie
+use Rattle.pricer_critical_rate.proofs.find.finished.Statement.{statement}
+use Rattle.pricer_critical_rate.proofs.find.finished.Tie as tie
 
 enum-told : tie.Need-enum-told
 enum-told c = search needs
