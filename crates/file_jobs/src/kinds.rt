@@ -13,7 +13,6 @@ use fit::QuoteType;
 use hullwhite_formulas::Optionlet;
 use hullwhite_options::BondOption;
 use hullwhite_options::OptionType;
-use hullwhite_options::Optionlet;
 use pricer::SwaptionType;
 use pricer::Trade;
 use refusals::Faults;
