@@ -2,6 +2,7 @@
 // promises all that the call below it promises, and requires nothing.
 mod baskets;
 mod critical_rate;
+mod file;
 mod fits;
 mod model;
 mod numbers;
