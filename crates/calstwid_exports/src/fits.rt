@@ -1,4 +1,9 @@
 // Kinds 8 to 11: the volatility of a caplet or a swaption, fitted to a quote.
+ghost use mathlib.Core.Path.{_≡_};
+ghost use Rattle.fit_objective.specs.declared.market.Quote.the-variants as Quote;
+ghost use Rattle.fit.specs.Fits.{capletFitOutcome, swaptionFitOutcome};
+ghost use Rattle.fit.specs.Demand3.{CapletFitHolds, CapletFitNeverNoBracket, SwaptionFitHolds, SwaptionFitNoBracketExactly};
+ghost use Rattle.calstwid_exports.specs.Reports.{Told, fitReportOf, fitTold};
 use super::reports;
 use super::reports::FitReport;
 use fit::Quote;
@@ -13,7 +18,11 @@ pub extern "C" fn calstwid_fit_caplet_black(
     start: f64,
     end: f64,
     vol: f64,
-) -> FitReport {
+) -> FitReport
+    ensures answer { λ r. ⌜ r ≡ fitReportOf (capletFitOutcome Quote.Black alpha (now (times .entry)) (now (factors .entry)) strike start end vol) ⌝ }
+    ensures held { λ r. ⌜ Told fitTold r (CapletFitHolds Quote.Black alpha (now (times .entry)) (now (factors .entry)) strike start end vol) ⌝ }
+    ensures bracket { λ r. ⌜ Told fitTold r (CapletFitNeverNoBracket Quote.Black alpha (now (times .entry)) (now (factors .entry)) strike start end vol) ⌝ }
+{
     reports::fit_report(fit::fit_caplet(
         Quote::Black,
         alpha,
@@ -36,7 +45,11 @@ pub extern "C" fn calstwid_fit_caplet_normal(
     start: f64,
     end: f64,
     vol: f64,
-) -> FitReport {
+) -> FitReport
+    ensures answer { λ r. ⌜ r ≡ fitReportOf (capletFitOutcome Quote.Normal alpha (now (times .entry)) (now (factors .entry)) strike start end vol) ⌝ }
+    ensures held { λ r. ⌜ Told fitTold r (CapletFitHolds Quote.Normal alpha (now (times .entry)) (now (factors .entry)) strike start end vol) ⌝ }
+    ensures bracket { λ r. ⌜ Told fitTold r (CapletFitNeverNoBracket Quote.Normal alpha (now (times .entry)) (now (factors .entry)) strike start end vol) ⌝ }
+{
     reports::fit_report(fit::fit_caplet(
         Quote::Normal,
         alpha,
@@ -60,7 +73,11 @@ pub extern "C" fn calstwid_fit_swaption_black(
     strike: f64,
     t: f64,
     vol: f64,
-) -> FitReport {
+) -> FitReport
+    ensures answer { λ r. ⌜ r ≡ fitReportOf (swaptionFitOutcome Quote.Black alpha (now (times .entry)) (now (factors .entry)) (now (payments .entry)) (now (accruals .entry)) strike t vol) ⌝ }
+    ensures held { λ r. ⌜ Told fitTold r (SwaptionFitHolds Quote.Black alpha (now (times .entry)) (now (factors .entry)) (now (payments .entry)) (now (accruals .entry)) strike t vol) ⌝ }
+    ensures bracket { λ r. ⌜ Told fitTold r (SwaptionFitNoBracketExactly Quote.Black alpha (now (times .entry)) (now (factors .entry)) (now (payments .entry)) (now (accruals .entry)) strike t vol) ⌝ }
+{
     reports::fit_report(fit::fit_swaption(
         Quote::Black,
         alpha,
@@ -85,7 +102,11 @@ pub extern "C" fn calstwid_fit_swaption_normal(
     strike: f64,
     t: f64,
     vol: f64,
-) -> FitReport {
+) -> FitReport
+    ensures answer { λ r. ⌜ r ≡ fitReportOf (swaptionFitOutcome Quote.Normal alpha (now (times .entry)) (now (factors .entry)) (now (payments .entry)) (now (accruals .entry)) strike t vol) ⌝ }
+    ensures held { λ r. ⌜ Told fitTold r (SwaptionFitHolds Quote.Normal alpha (now (times .entry)) (now (factors .entry)) (now (payments .entry)) (now (accruals .entry)) strike t vol) ⌝ }
+    ensures bracket { λ r. ⌜ Told fitTold r (SwaptionFitNoBracketExactly Quote.Normal alpha (now (times .entry)) (now (factors .entry)) (now (payments .entry)) (now (accruals .entry)) strike t vol) ⌝ }
+{
     reports::fit_report(fit::fit_swaption(
         Quote::Normal,
         alpha,

@@ -9,6 +9,7 @@ ghost use Rattle.math_exponential.specs.Density.{densityOf};
 ghost use Rattle.math_exponential.specs.ExactCases.{exactCases};
 ghost use Rattle.math_exponential.specs.Exp.{expOf, expM1Of};
 ghost use Rattle.math_elementary.specs.Ln.{significandOf, exponentOf, ExactSplit, lnOf};
+ghost use Rattle.math_elementary.specs.Simple.{midpointOf, signumOf, maxOf, minOf};
 ghost use Rattle.math_normal.specs.AsWritten.{normCdfDualAsWritten};
 ghost use Rattle.math_normal.specs.Between.{Probability};
 ghost use Rattle.math_normal.specs.NormCdf.{normCdfOf, normCdfDualOf};
@@ -82,24 +83,32 @@ pub extern "C" fn calstwid_norm_cdf_dual(x: f64) -> f64
 
 // (a + b) / 2.
 #[no_mangle]
-pub extern "C" fn calstwid_midpoint(a: f64, b: f64) -> f64 {
+pub extern "C" fn calstwid_midpoint(a: f64, b: f64) -> f64
+    ensures { λ r. ⌜ r ≡ midpointOf a b ⌝ }
+{
     math_elementary::midpoint(a, b)
 }
 
 // 1 for +0, -1 for -0, a NaN for a NaN.
 #[no_mangle]
-pub extern "C" fn calstwid_signum(x: f64) -> f64 {
+pub extern "C" fn calstwid_signum(x: f64) -> f64
+    ensures { λ r. ⌜ r ≡ signumOf x ⌝ }
+{
     math_elementary::signum(x)
 }
 
 // The larger; a NaN is passed over.
 #[no_mangle]
-pub extern "C" fn calstwid_max(a: f64, b: f64) -> f64 {
+pub extern "C" fn calstwid_max(a: f64, b: f64) -> f64
+    ensures { λ r. ⌜ r ≡ maxOf a b ⌝ }
+{
     math_elementary::max(a, b)
 }
 
 // The smaller; a NaN is passed over.
 #[no_mangle]
-pub extern "C" fn calstwid_min(a: f64, b: f64) -> f64 {
+pub extern "C" fn calstwid_min(a: f64, b: f64) -> f64
+    ensures { λ r. ⌜ r ≡ minOf a b ⌝ }
+{
     math_elementary::min(a, b)
 }

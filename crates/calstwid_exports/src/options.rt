@@ -1,6 +1,9 @@
 // Kinds 1 to 4: caplets, floorlets, bond puts and bond calls.
-use super::reports;
-use super::reports::PriceReport;
+ghost use mathlib.Core.Path.{_≡_};
+ghost use Rattle.refusals.specs.Refusals.{reportedPrice};
+ghost use Rattle.hullwhite_options.specs.Options.{optionletOutcome, bondOptionOutcome};
+ghost use Rattle.hullwhite_options.specs.declared.options.BondOption.the-variants as Option;
+use refusals::PriceReport;
 
 // Kind 1.
 #[no_mangle]
@@ -12,8 +15,10 @@ pub extern "C" fn calstwid_caplet_price(
     start: f64,
     end: f64,
     sigma: f64,
-) -> PriceReport {
-    reports::price_report(hullwhite_options::caplet_price(
+) -> PriceReport
+    ensures { λ r. ⌜ r ≡ reportedPrice (optionletOutcome Option.Put alpha (now (times .entry)) (now (factors .entry)) strike start end sigma) ⌝ }
+{
+    refusals::report_price(hullwhite_options::caplet_price(
         alpha,
         times,
         factors,
@@ -34,8 +39,10 @@ pub extern "C" fn calstwid_floorlet_price(
     start: f64,
     end: f64,
     sigma: f64,
-) -> PriceReport {
-    reports::price_report(hullwhite_options::floorlet_price(
+) -> PriceReport
+    ensures { λ r. ⌜ r ≡ reportedPrice (optionletOutcome Option.Call alpha (now (times .entry)) (now (factors .entry)) strike start end sigma) ⌝ }
+{
+    refusals::report_price(hullwhite_options::floorlet_price(
         alpha,
         times,
         factors,
@@ -56,8 +63,10 @@ pub extern "C" fn calstwid_bond_put_price(
     bond: f64,
     strike: f64,
     sigma: f64,
-) -> PriceReport {
-    reports::price_report(hullwhite_options::bond_put_price(
+) -> PriceReport
+    ensures { λ r. ⌜ r ≡ reportedPrice (bondOptionOutcome Option.Put alpha (now (times .entry)) (now (factors .entry)) t bond strike sigma) ⌝ }
+{
+    refusals::report_price(hullwhite_options::bond_put_price(
         alpha,
         times,
         factors,
@@ -78,8 +87,10 @@ pub extern "C" fn calstwid_bond_call_price(
     bond: f64,
     strike: f64,
     sigma: f64,
-) -> PriceReport {
-    reports::price_report(hullwhite_options::bond_call_price(
+) -> PriceReport
+    ensures { λ r. ⌜ r ≡ reportedPrice (bondOptionOutcome Option.Call alpha (now (times .entry)) (now (factors .entry)) t bond strike sigma) ⌝ }
+{
+    refusals::report_price(hullwhite_options::bond_call_price(
         alpha,
         times,
         factors,

@@ -1,4 +1,10 @@
 // Lists that are written: the variances of equal steps, and a short-rate path.
+ghost use mathlib.Core.Path.{_≡_};
+ghost use lib.ListN.{length};
+ghost use Rattle.hullwhite_transitions.specs.Written.{storedOf};
+ghost use Rattle.hullwhite_transitions.specs.Transition.{transitionOutcome};
+ghost use Rattle.hullwhite_paths.specs.Generate.{generateOutcome};
+ghost use Rattle.calstwid_exports.specs.Reports.{countReportOf};
 use super::reports;
 use super::reports::CountReport;
 
@@ -11,7 +17,10 @@ pub extern "C" fn calstwid_transition_variances(
     steps: usize,
     time_step: f64,
     out: &mut [f64],
-) -> CountReport {
+) -> CountReport
+    ensures answer { λ r. ⌜ r ≡ countReportOf (transitionOutcome alpha (now (times .entry)) (now (sigmas .entry)) steps «time_step» (length (now (out .entry)))) ⌝ }
+    ensures output { λ r. ⌜ now (out .exit) ≡ storedOf (transitionOutcome alpha (now (times .entry)) (now (sigmas .entry)) steps «time_step» (length (now (out .entry)))) (now (out .entry)) ⌝ }
+{
     let answer = hullwhite_transitions::transition_variances(
         alpha,
         times,
@@ -34,7 +43,10 @@ pub extern "C" fn calstwid_generate(
     grid: &[f64],
     draws: &[f64],
     out: &mut [f64],
-) -> CountReport {
+) -> CountReport
+    ensures answer { λ r. ⌜ r ≡ countReportOf (generateOutcome alpha (now (pillars .entry)) (now (sigmas .entry)) (now (times .entry)) (now (factors .entry)) (now (grid .entry)) (now (draws .entry)) (length (now (out .entry)))) ⌝ }
+    ensures output { λ r. ⌜ now (out .exit) ≡ storedOf (generateOutcome alpha (now (pillars .entry)) (now (sigmas .entry)) (now (times .entry)) (now (factors .entry)) (now (grid .entry)) (now (draws .entry)) (length (now (out .entry)))) (now (out .entry)) ⌝ }
+{
     let answer = hullwhite_paths::generate(
         alpha,
         pillars,

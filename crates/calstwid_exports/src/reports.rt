@@ -1,20 +1,16 @@
 // What a call hands back to a program in another language: document 01's number first, 0 where the call is served, and the
 // values, all 0 beside a refusal.
+ghost use mathlib.Core.Path.{_≡_};
+ghost use Rattle.refusals.specs.Refusals.{answerNumber};
+ghost use Rattle.calstwid_exports.specs.Reports.{d1D2Told, countTold, criticalRateTold, implicitRateTold, swaptionTold, valuationTold, fitTold, basketTold};
 use basket::BasketFit;
 use hullwhite_swaptions::Swaption;
 use math_bisection::Fitted;
 use pricer::Valuation;
 use quotes::D1D2;
 use refusals::Answer;
-use refusals::Price;
 use search_critical_rate::CriticalRate;
 use search_critical_rate::ImplicitRate;
-
-#[repr(C)]
-pub struct PriceReport {
-    pub answer: u64,
-    pub value: f64,
-}
 
 #[repr(C)]
 pub struct D1D2Report {
@@ -109,17 +105,9 @@ pub struct BasketReport {
     pub bumped_statuses: [f64; 64],
 }
 
-pub fn price_report(price: Price) -> PriceReport {
-    match price {
-        Price::Served(value) => PriceReport { answer: 0, value },
-        Price::Refused(refusal) => PriceReport {
-            answer: refusals::number(refusal),
-            value: 0.0,
-        },
-    }
-}
-
-pub fn d1_d2_report(worked: D1D2) -> D1D2Report {
+pub fn d1_d2_report(worked: D1D2) -> D1D2Report
+    ensures { λ r. ⌜ r ≡ d1D2Told worked ⌝ }
+{
     match worked {
         D1D2::Served(d1, d2) => D1D2Report { answer: 0, d1, d2 },
         D1D2::Refused(refusal) => D1D2Report {
@@ -130,7 +118,9 @@ pub fn d1_d2_report(worked: D1D2) -> D1D2Report {
     }
 }
 
-pub fn count_report(answer: Answer, count: u64) -> CountReport {
+pub fn count_report(answer: Answer, count: u64) -> CountReport
+    ensures { λ r. ⌜ r ≡ countTold answer count ⌝ }
+{
     match answer {
         Answer::Served => CountReport { answer: 0, count },
         Answer::Refused(refusal) => CountReport {
@@ -140,7 +130,9 @@ pub fn count_report(answer: Answer, count: u64) -> CountReport {
     }
 }
 
-pub fn critical_rate_report(found: CriticalRate) -> CriticalRateReport {
+pub fn critical_rate_report(found: CriticalRate) -> CriticalRateReport
+    ensures { λ r. ⌜ r ≡ criticalRateTold found ⌝ }
+{
     match found {
         CriticalRate::Served {
             rate,
@@ -170,7 +162,9 @@ pub fn critical_rate_report(found: CriticalRate) -> CriticalRateReport {
     }
 }
 
-pub fn implicit_rate_report(found: ImplicitRate) -> ImplicitRateReport {
+pub fn implicit_rate_report(found: ImplicitRate) -> ImplicitRateReport
+    ensures { λ r. ⌜ r ≡ implicitRateTold found ⌝ }
+{
     match found {
         ImplicitRate::Served {
             stepped,
@@ -203,7 +197,9 @@ pub fn implicit_rate_report(found: ImplicitRate) -> ImplicitRateReport {
     }
 }
 
-pub fn swaption_report(priced: Swaption) -> SwaptionReport {
+pub fn swaption_report(priced: Swaption) -> SwaptionReport
+    ensures { λ r. ⌜ r ≡ swaptionTold priced ⌝ }
+{
     match priced {
         Swaption::Served(value, root) => {
             let bracket = root.bracket;
@@ -233,7 +229,9 @@ pub fn swaption_report(priced: Swaption) -> SwaptionReport {
     }
 }
 
-pub fn valuation_report(valued: Valuation) -> ValuationReport {
+pub fn valuation_report(valued: Valuation) -> ValuationReport
+    ensures { λ r. ⌜ r ≡ valuationTold valued ⌝ }
+{
     match valued {
         Valuation::Served {
             value,
@@ -269,7 +267,9 @@ pub fn valuation_report(valued: Valuation) -> ValuationReport {
     }
 }
 
-pub fn fit_report(fitted: Fitted) -> FitReport {
+pub fn fit_report(fitted: Fitted) -> FitReport
+    ensures { λ r. ⌜ r ≡ fitTold fitted ⌝ }
+{
     match fitted {
         Fitted::Served(fit) => {
             let ends = fit.ends;
@@ -300,7 +300,9 @@ pub fn fit_report(fitted: Fitted) -> FitReport {
 }
 
 // A basket's values are 0 beside a refusal as they come.
-pub fn basket_report(fitted: BasketFit) -> BasketReport {
+pub fn basket_report(fitted: BasketFit) -> BasketReport
+    ensures { λ r. ⌜ r ≡ basketTold fitted ⌝ }
+{
     let answer = fitted.answer;
     let number = answer_number(answer);
     let basket = fitted.basket;
@@ -322,7 +324,9 @@ pub fn basket_report(fitted: BasketFit) -> BasketReport {
     }
 }
 
-fn answer_number(answer: Answer) -> u64 {
+fn answer_number(answer: Answer) -> u64
+    ensures { λ r. ⌜ r ≡ answerNumber answer ⌝ }
+{
     match answer {
         Answer::Served => 0,
         Answer::Refused(refusal) => refusals::number(refusal),
