@@ -14,15 +14,17 @@ pub struct Line {
     pub note: u64,
 }
 
-// Puts the header at the front of the buffer, and answers how many bytes it has.
-pub fn write_header(out: &mut [u8; 128]) -> usize
+// Puts the header at the front of the buffer, and answers how many bytes it has. A caller has room for 128 bytes.
+pub fn write_header(out: &mut [u8]) -> usize
+    requires { ⌜ 128 ≤ length (now out) ⌝ }
     ensures { λ r. ⌜ Begins r header (now (out .entry)) (now (out .exit)) ⌝ }
 {
     file_fields::put(b"job kind answer value note", b'\n', out, 0)
 }
 
-// The same with the line that stands for a whole file.
-pub fn write_refused(out: &mut [u8; 128]) -> usize
+// The same with the line that stands for a whole file. A caller has room for 128 bytes.
+pub fn write_refused(out: &mut [u8]) -> usize
+    requires { ⌜ 128 ≤ length (now out) ⌝ }
     ensures { λ r. ⌜ Begins r refusedLine (now (out .entry)) (now (out .exit)) ⌝ }
 {
     file_fields::put(b"refused 1", b'\n', out, 0)

@@ -7,5 +7,7 @@ mod variance;
 pub use parameters::Reached;
 pub use parameters::hull_white_piecewise_variance;
 pub use parameters::pillars_reached;
+pub use parameters::reached_answer;
+pub use parameters::reached_part;
 pub use parameters::volatility;
 pub use variance::hull_white_piecewise_variance_of;

@@ -51,14 +51,16 @@ pub fn pillars_reached<'a>(times: &'a [f64], sigmas: &[f64], t: f64) -> Reached<
     }
 }
 
-fn reached_answer(times: &[f64], sigmas: &[f64], t: f64) -> Answer
+// The answer by itself.
+pub fn reached_answer(times: &[f64], sigmas: &[f64], t: f64) -> Answer
     ensures { λ r. ⌜ r ≡ firstOf (rulesAt (now (times .entry)) (now (sigmas .entry)) t) ⌝ }
 {
     let pillars = refusals::pillar_faults(times, sigmas);
     rules::volatility_rules(pillars, times.len() == 0, t)
 }
 
-fn reached_part(times: &[f64], answer: Answer, t: f64) -> &[f64]
+// The part by itself, beside the answer that `reached_answer` gave.
+pub fn reached_part(times: &[f64], answer: Answer, t: f64) -> &[f64]
     ensures { λ r. ⌜ now r ≡ valueOr [] (after answer (served (upTo t (now (times .entry))))) ⌝ }
 {
     match answer {

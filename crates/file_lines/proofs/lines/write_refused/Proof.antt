@@ -13,10 +13,14 @@ slice-aggregate-put c = search needs
 put-requires : tie.Need-put-requires
 put-requires c κs = search needs
 
+same-length : tie.Need-same-length
+same-length c = search needs
+
 returns : tie.Need-returns
 returns c =
-    let d = now (c .before .before .before .args .out) in
-    begins _ refusedLine d _ (next 0 _ d d (start d) _ refusedLine _ (omega (arith, c .before .put-arg2 .given)) (c .put .ensures .0) (c .put .ensures .1))
+    let s = c .before .before .before .before .before .before in
+    let d = now (s .args .out) in
+    begins _ refusedLine d _ (next 0 _ d d (start d) _ refusedLine _ (omega (arith, s .pre)) (c .before .before .put .ensures .0) (c .before .before .put .ensures .1))
 
 pub write-refused-spec : {M : Type 1} → statement M
-write-refused-spec = tie.close (tie.spec slice-aggregate-put put-requires returns)
+write-refused-spec = tie.close (tie.spec slice-aggregate-put put-requires same-length returns)
