@@ -7,10 +7,10 @@ use Rattle.refusals.specs.declared.refusals.Answer.{Answer}
 use Rattle.refusals.specs.declared.refusals.Answer.the-variants as A
 use Rattle.refusals.specs.Refusals.{Outcome, answerNumber, answerOf, numberOf, valueOr}
 use Rattle.search.specs.Values.{Values, noValues}
-use Rattle.search_critical_rate.specs.declared.find.CriticalRate.{CriticalRate}
-use Rattle.search_critical_rate.specs.declared.implicit.ImplicitRate.{ImplicitRate}
-use Rattle.search_critical_rate.specs.Find.{rateOutcome}
-use Rattle.search_critical_rate.specs.Implicit.{Implicit, noImplicit, implicitRateOutcome}
+use Rattle.pricer_critical_rate.specs.declared.find.CriticalRate.{CriticalRate}
+use Rattle.pricer_critical_rate.specs.declared.implicit.ImplicitRate.{ImplicitRate}
+use Rattle.pricer_critical_rate.specs.Find.{rateOutcome}
+use Rattle.pricer_critical_rate.specs.Implicit.{Implicit, noImplicit, implicitRateOutcome}
 use Rattle.hullwhite_jamshidian.specs.declared.price.Swaption.{Swaption}
 use Rattle.hullwhite_jamshidian.specs.Price.{ModelValued, noModelValued, swaptionOutcome}
 use Rattle.pricer_value.specs.declared.value.Valuation.{Valuation}

@@ -1,12 +1,14 @@
 // Kinds 8 to 11: the volatility of a caplet or a swaption, fitted to a quote.
 ghost use mathlib.Core.Path.{_≡_};
-ghost use Rattle.fit_objective.specs.declared.market.Quote.the-variants as Quote;
+ghost use Rattle.fit_objective.specs.declared.market.QuoteType.the-variants as QuoteType;
 ghost use Rattle.fit.specs.Fits.{capletFitOutcome, swaptionFitOutcome};
 ghost use Rattle.fit.specs.Demand3.{CapletFitHolds, CapletFitNeverNoBracket, SwaptionFitHolds, SwaptionFitNoBracketExactly};
 ghost use Rattle.calstwid_exports.specs.Reports.{Told, fitReportOf, fitTold};
 use super::reports;
 use super::reports::FitReport;
 use fit::Quote;
+use fit::QuoteType;
+use hullwhite_formulas::Optionlet;
 
 // Kind 8.
 #[no_mangle]
@@ -19,20 +21,16 @@ pub extern "C" fn calstwid_fit_caplet_black(
     end: f64,
     vol: f64,
 ) -> FitReport
-    ensures answer { λ r. ⌜ r ≡ fitReportOf (capletFitOutcome Quote.Black alpha (now (times .entry)) (now (factors .entry)) strike start end vol) ⌝ }
-    ensures held { λ r. ⌜ Told fitTold r (CapletFitHolds Quote.Black alpha (now (times .entry)) (now (factors .entry)) strike start end vol) ⌝ }
-    ensures bracket { λ r. ⌜ Told fitTold r (CapletFitNeverNoBracket Quote.Black alpha (now (times .entry)) (now (factors .entry)) strike start end vol) ⌝ }
+    ensures answer { λ r. ⌜ r ≡ fitReportOf (capletFitOutcome QuoteType.Black alpha (now (times .entry)) (now (factors .entry)) strike start end vol) ⌝ }
+    ensures held { λ r. ⌜ Told fitTold r (CapletFitHolds QuoteType.Black alpha (now (times .entry)) (now (factors .entry)) strike start end vol) ⌝ }
+    ensures bracket { λ r. ⌜ Told fitTold r (CapletFitNeverNoBracket QuoteType.Black alpha (now (times .entry)) (now (factors .entry)) strike start end vol) ⌝ }
 {
-    reports::fit_report(fit::fit_caplet(
-        Quote::Black,
-        alpha,
-        times,
-        factors,
-        strike,
-        start,
-        end,
-        vol,
-    ))
+    let quote = Quote {
+        sort: QuoteType::Black,
+        volatility: vol,
+    };
+    let caplet = Optionlet { strike, start, end };
+    reports::fit_report(fit::fit_caplet(quote, alpha, times, factors, caplet))
 }
 
 // Kind 9.
@@ -46,20 +44,16 @@ pub extern "C" fn calstwid_fit_caplet_normal(
     end: f64,
     vol: f64,
 ) -> FitReport
-    ensures answer { λ r. ⌜ r ≡ fitReportOf (capletFitOutcome Quote.Normal alpha (now (times .entry)) (now (factors .entry)) strike start end vol) ⌝ }
-    ensures held { λ r. ⌜ Told fitTold r (CapletFitHolds Quote.Normal alpha (now (times .entry)) (now (factors .entry)) strike start end vol) ⌝ }
-    ensures bracket { λ r. ⌜ Told fitTold r (CapletFitNeverNoBracket Quote.Normal alpha (now (times .entry)) (now (factors .entry)) strike start end vol) ⌝ }
+    ensures answer { λ r. ⌜ r ≡ fitReportOf (capletFitOutcome QuoteType.Normal alpha (now (times .entry)) (now (factors .entry)) strike start end vol) ⌝ }
+    ensures held { λ r. ⌜ Told fitTold r (CapletFitHolds QuoteType.Normal alpha (now (times .entry)) (now (factors .entry)) strike start end vol) ⌝ }
+    ensures bracket { λ r. ⌜ Told fitTold r (CapletFitNeverNoBracket QuoteType.Normal alpha (now (times .entry)) (now (factors .entry)) strike start end vol) ⌝ }
 {
-    reports::fit_report(fit::fit_caplet(
-        Quote::Normal,
-        alpha,
-        times,
-        factors,
-        strike,
-        start,
-        end,
-        vol,
-    ))
+    let quote = Quote {
+        sort: QuoteType::Normal,
+        volatility: vol,
+    };
+    let caplet = Optionlet { strike, start, end };
+    reports::fit_report(fit::fit_caplet(quote, alpha, times, factors, caplet))
 }
 
 // Kind 10.
@@ -74,12 +68,16 @@ pub extern "C" fn calstwid_fit_swaption_black(
     t: f64,
     vol: f64,
 ) -> FitReport
-    ensures answer { λ r. ⌜ r ≡ fitReportOf (swaptionFitOutcome Quote.Black alpha (now (times .entry)) (now (factors .entry)) (now (payments .entry)) (now (accruals .entry)) strike t vol) ⌝ }
-    ensures held { λ r. ⌜ Told fitTold r (SwaptionFitHolds Quote.Black alpha (now (times .entry)) (now (factors .entry)) (now (payments .entry)) (now (accruals .entry)) strike t vol) ⌝ }
-    ensures bracket { λ r. ⌜ Told fitTold r (SwaptionFitNoBracketExactly Quote.Black alpha (now (times .entry)) (now (factors .entry)) (now (payments .entry)) (now (accruals .entry)) strike t vol) ⌝ }
+    ensures answer { λ r. ⌜ r ≡ fitReportOf (swaptionFitOutcome QuoteType.Black alpha (now (times .entry)) (now (factors .entry)) (now (payments .entry)) (now (accruals .entry)) strike t vol) ⌝ }
+    ensures held { λ r. ⌜ Told fitTold r (SwaptionFitHolds QuoteType.Black alpha (now (times .entry)) (now (factors .entry)) (now (payments .entry)) (now (accruals .entry)) strike t vol) ⌝ }
+    ensures bracket { λ r. ⌜ Told fitTold r (SwaptionFitNoBracketExactly QuoteType.Black alpha (now (times .entry)) (now (factors .entry)) (now (payments .entry)) (now (accruals .entry)) strike t vol) ⌝ }
 {
+    let quote = Quote {
+        sort: QuoteType::Black,
+        volatility: vol,
+    };
     reports::fit_report(fit::fit_swaption(
-        Quote::Black,
+        quote,
         alpha,
         times,
         factors,
@@ -87,7 +85,6 @@ pub extern "C" fn calstwid_fit_swaption_black(
         accruals,
         strike,
         t,
-        vol,
     ))
 }
 
@@ -103,12 +100,16 @@ pub extern "C" fn calstwid_fit_swaption_normal(
     t: f64,
     vol: f64,
 ) -> FitReport
-    ensures answer { λ r. ⌜ r ≡ fitReportOf (swaptionFitOutcome Quote.Normal alpha (now (times .entry)) (now (factors .entry)) (now (payments .entry)) (now (accruals .entry)) strike t vol) ⌝ }
-    ensures held { λ r. ⌜ Told fitTold r (SwaptionFitHolds Quote.Normal alpha (now (times .entry)) (now (factors .entry)) (now (payments .entry)) (now (accruals .entry)) strike t vol) ⌝ }
-    ensures bracket { λ r. ⌜ Told fitTold r (SwaptionFitNoBracketExactly Quote.Normal alpha (now (times .entry)) (now (factors .entry)) (now (payments .entry)) (now (accruals .entry)) strike t vol) ⌝ }
+    ensures answer { λ r. ⌜ r ≡ fitReportOf (swaptionFitOutcome QuoteType.Normal alpha (now (times .entry)) (now (factors .entry)) (now (payments .entry)) (now (accruals .entry)) strike t vol) ⌝ }
+    ensures held { λ r. ⌜ Told fitTold r (SwaptionFitHolds QuoteType.Normal alpha (now (times .entry)) (now (factors .entry)) (now (payments .entry)) (now (accruals .entry)) strike t vol) ⌝ }
+    ensures bracket { λ r. ⌜ Told fitTold r (SwaptionFitNoBracketExactly QuoteType.Normal alpha (now (times .entry)) (now (factors .entry)) (now (payments .entry)) (now (accruals .entry)) strike t vol) ⌝ }
 {
+    let quote = Quote {
+        sort: QuoteType::Normal,
+        volatility: vol,
+    };
     reports::fit_report(fit::fit_swaption(
-        Quote::Normal,
+        quote,
         alpha,
         times,
         factors,
@@ -116,6 +117,5 @@ pub extern "C" fn calstwid_fit_swaption_normal(
         accruals,
         strike,
         t,
-        vol,
     ))
 }

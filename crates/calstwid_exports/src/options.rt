@@ -2,7 +2,9 @@
 ghost use mathlib.Core.Path.{_≡_};
 ghost use Rattle.refusals.specs.Refusals.{reportedPrice};
 ghost use Rattle.hullwhite_options.specs.Options.{optionletOutcome, bondOptionOutcome};
-ghost use Rattle.hullwhite_options.specs.declared.options.BondOption.the-variants as Option;
+ghost use Rattle.hullwhite_options.specs.declared.options.OptionType.the-variants as Option;
+use hullwhite_formulas::Optionlet;
+use hullwhite_options::BondOption;
 use refusals::PriceReport;
 
 // Kind 1.
@@ -18,15 +20,8 @@ pub extern "C" fn calstwid_caplet_price(
 ) -> PriceReport
     ensures { λ r. ⌜ r ≡ reportedPrice (optionletOutcome Option.Put alpha (now (times .entry)) (now (factors .entry)) strike start end sigma) ⌝ }
 {
-    refusals::report_price(hullwhite_options::caplet_price(
-        alpha,
-        times,
-        factors,
-        strike,
-        start,
-        end,
-        sigma,
-    ))
+    let caplet = Optionlet { strike, start, end };
+    refusals::report_price(hullwhite_options::caplet_price(alpha, times, factors, caplet, sigma))
 }
 
 // Kind 2.
@@ -42,13 +37,12 @@ pub extern "C" fn calstwid_floorlet_price(
 ) -> PriceReport
     ensures { λ r. ⌜ r ≡ reportedPrice (optionletOutcome Option.Call alpha (now (times .entry)) (now (factors .entry)) strike start end sigma) ⌝ }
 {
+    let floorlet = Optionlet { strike, start, end };
     refusals::report_price(hullwhite_options::floorlet_price(
         alpha,
         times,
         factors,
-        strike,
-        start,
-        end,
+        floorlet,
         sigma,
     ))
 }
@@ -66,15 +60,8 @@ pub extern "C" fn calstwid_bond_put_price(
 ) -> PriceReport
     ensures { λ r. ⌜ r ≡ reportedPrice (bondOptionOutcome Option.Put alpha (now (times .entry)) (now (factors .entry)) t bond strike sigma) ⌝ }
 {
-    refusals::report_price(hullwhite_options::bond_put_price(
-        alpha,
-        times,
-        factors,
-        t,
-        bond,
-        strike,
-        sigma,
-    ))
+    let put = BondOption { t, bond, strike };
+    refusals::report_price(hullwhite_options::bond_put_price(alpha, times, factors, put, sigma))
 }
 
 // Kind 4.
@@ -90,13 +77,6 @@ pub extern "C" fn calstwid_bond_call_price(
 ) -> PriceReport
     ensures { λ r. ⌜ r ≡ reportedPrice (bondOptionOutcome Option.Call alpha (now (times .entry)) (now (factors .entry)) t bond strike sigma) ⌝ }
 {
-    refusals::report_price(hullwhite_options::bond_call_price(
-        alpha,
-        times,
-        factors,
-        t,
-        bond,
-        strike,
-        sigma,
-    ))
+    let call = BondOption { t, bond, strike };
+    refusals::report_price(hullwhite_options::bond_call_price(alpha, times, factors, call, sigma))
 }

@@ -7,10 +7,10 @@ use basket::BasketFit;
 use hullwhite_swaptions::Swaption;
 use math_bisection::Fitted;
 use pricer::Valuation;
+use pricer_critical_rate::CriticalRate;
+use pricer_critical_rate::ImplicitRate;
 use quotes::D1D2;
 use refusals::Answer;
-use search_critical_rate::CriticalRate;
-use search_critical_rate::ImplicitRate;
 
 #[repr(C)]
 pub struct D1D2Report {

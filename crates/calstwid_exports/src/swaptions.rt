@@ -10,6 +10,7 @@ use super::reports;
 use super::reports::SwaptionReport;
 use super::reports::ValuationReport;
 use pricer::SwaptionType;
+use pricer::Trade;
 
 // Kind 5.
 #[no_mangle]
@@ -59,8 +60,15 @@ pub extern "C" fn calstwid_payer_swaption_value(
     ensures rooted { λ r. ⌜ Told valuationTold r (PricerRootLocated alpha (now (pillars .entry)) (now (sigmas .entry)) (now (times .entry)) (now (factors .entry)) (now (payments .entry)) (now (accruals .entry)) (now («own_dfs» .entry)) strike t notional side) ⌝ }
     ensures bracket { λ r. ⌜ Told valuationTold r (PricerNoBracketExactly alpha (now (pillars .entry)) (now (sigmas .entry)) (now (times .entry)) (now (factors .entry)) (now (payments .entry)) (now (accruals .entry)) (now («own_dfs» .entry)) strike t notional side) ⌝ }
 {
+    let trade = Trade {
+        option: SwaptionType::Payer,
+        strike,
+        t,
+        notional,
+        side,
+    };
     reports::valuation_report(pricer::swaption_value(
-        SwaptionType::Payer,
+        trade,
         alpha,
         pillars,
         sigmas,
@@ -69,10 +77,6 @@ pub extern "C" fn calstwid_payer_swaption_value(
         payments,
         accruals,
         own_dfs,
-        strike,
-        t,
-        notional,
-        side,
     ))
 }
 
@@ -96,8 +100,15 @@ pub extern "C" fn calstwid_receiver_swaption_value(
     ensures rooted { λ r. ⌜ Told valuationTold r (PricerRootLocated alpha (now (pillars .entry)) (now (sigmas .entry)) (now (times .entry)) (now (factors .entry)) (now (payments .entry)) (now (accruals .entry)) (now («own_dfs» .entry)) strike t notional side) ⌝ }
     ensures bracket { λ r. ⌜ Told valuationTold r (PricerNoBracketExactly alpha (now (pillars .entry)) (now (sigmas .entry)) (now (times .entry)) (now (factors .entry)) (now (payments .entry)) (now (accruals .entry)) (now («own_dfs» .entry)) strike t notional side) ⌝ }
 {
+    let trade = Trade {
+        option: SwaptionType::Receiver,
+        strike,
+        t,
+        notional,
+        side,
+    };
     reports::valuation_report(pricer::swaption_value(
-        SwaptionType::Receiver,
+        trade,
         alpha,
         pillars,
         sigmas,
@@ -106,9 +117,5 @@ pub extern "C" fn calstwid_receiver_swaption_value(
         payments,
         accruals,
         own_dfs,
-        strike,
-        t,
-        notional,
-        side,
     ))
 }
