@@ -24,8 +24,8 @@
  *   - no pointer is NULL, not even where the length is 0 (any address of the type serves then);
  *   - a list has as many elements as its length says, aligned as C aligns them, each set to a value; a bool is 0 or 1;
  *   - a list that is written (`out`) overlaps no other argument;
- *   - the processor rounds to nearest and keeps subnormal numbers, as every C program starts. A program linked with -ffast-math
- *     may start otherwise.
+ *   - the processor rounds to nearest and keeps subnormal numbers, as a C program starts. One linked with -ffast-math starts
+ *     otherwise (seen with gcc and clang), and gets other bits.
  *
  * Reports. The first field of a report is the answer: 0 where the call was served, else the number of the refusal. Beside a refusal
  * every other field is 0 (false, +0.0), and a list to be written is as it was. Each function lists the answers that it can give.
