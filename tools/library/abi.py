@@ -23,7 +23,7 @@ LIMITS = {
     "CALSTWID_MAX_STEPS": ("crates/hullwhite_transitions/specs/Transition.antt", r"rule R\.Size \([^\n]*ltb (\d+) steps"),
     "CALSTWID_MAX_FILE_BYTES": ("crates/file_layout/specs/Layout.antt", r"bounded size = leb size (\d+) "),
     "CALSTWID_MAX_JOBS": ("crates/file_layout/specs/Layout.antt", r"records 40 (\d+) \(l \.jobs\)"),
-    "CALSTWID_PIECE_BYTES": ("crates/file_output/src/jobs.rt", r"\((\d+) ≤ length \(now out\)\)"),
+    "CALSTWID_PIECE_BYTES": (EXPORTS + "/file.rt", r"if out\.len\(\) < (\d+) \{"),
 }
 
 
@@ -62,7 +62,7 @@ def rattle_texts(root):
     paths += sorted(glob.glob(os.path.join(root, "crates", "*", "src", "*.rt")))
     paths += [os.path.join(root, path) for path, _ in LIMITS.values()]
     texts = {}
-    for path in paths:
+    for path in filter(os.path.exists, paths):
         with open(path, encoding="utf-8") as file:
             texts[os.path.relpath(path, root)] = file.read()
     return texts
@@ -141,7 +141,7 @@ def read_rattle(texts):
                 if abi.structs.setdefault(returned, fields) != fields:
                     raise Fault(f"{where}: two structs have the C name `{returned}`")
             abi.functions[name] = (returned, arguments)
-    refusals = texts[REFUSALS]
+    refusals = texts.get(REFUSALS, "")
     variants = re.search(r"pub enum Refusal \{([^{}]*)\}", refusals)
     arms = re.search(r"pub fn number\(refusal: Refusal\).*?match refusal \{([^{}]*)\}", refusals, re.S)
     if variants is None or arms is None:
@@ -152,7 +152,7 @@ def read_rattle(texts):
     abi.answers = {"CALSTWID_SERVED": 0}
     abi.answers.update(("CALSTWID_" + snake(name).upper(), int(number)) for name, number in numbers.items())
     for name, (path, shape) in LIMITS.items():
-        values = set(re.findall(shape, texts[path]))
+        values = set(re.findall(shape, texts.get(path, "")))
         if len(values) != 1:
             raise Fault(f"{path}: {name} is not found once but as {sorted(values)}")
         abi.limits[name] = int(values.pop())
