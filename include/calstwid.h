@@ -3,8 +3,8 @@
  *
  * Every function here is proved to give a defined value or the first refusal that applies, whatever its numbers are: a NaN, an
  * infinity, a list that is too long. None keeps anything from call to call, takes memory from the heap or prints, so that calls may
- * be made from several threads at once. tools/library/build makes the libraries, for Linux on x86-64; tools/library/header holds
- * this text to their source.
+ * be made from several threads at once; 128 KB of stack are enough. tools/library/build makes the libraries, for Linux on x86-64;
+ * tools/library/header holds this text to their source.
  *
  * Units. A time is in years from today. A rate, a strike of a rate and a volatility (sigma, or a quoted one) are fractions a year:
  * 0.03 is three percent. A factor is a discount factor, today's price of 1 paid at its time. A bond's strike is a price for 1. An
