@@ -7,14 +7,15 @@
 Every function answers whatever numbers it is given, with a value or with the first refusal that applies, which is raised as `Refused`. Each is
 proved to meet its contract where it is written, in Rattle; this module hands numbers over and adds nothing to their meaning.
 
-Times are years from today; rates and volatilities are absolute (0.03 is 3 %). `times` and `factors` are a discount curve, and a time that a
-function needs is looked up among the curve's own times: nothing is interpolated. A forward rate at t wants t + 1/365 too.
+Times are years from today; rates, strikes of rates and volatilities are fractions a year (0.03 is 3 %); alpha is the mean reversion. A value is for
+a notional of 1 except where a notional is an argument. `times` and `factors` are a discount curve of at most 2,048 points, times strictly rising. A
+time that a function needs is looked up among them: nothing is interpolated. Where a function says that it needs t + 1/365, it is t + 1.0 / 365.0.
 
 A list of numbers is a list, a tuple, an array('d'), a numpy array of one dimension or anything else that iterates over numbers. An array('d') and
 a numpy array of float64 are read where they are; others are copied. A number may be an int. What is no number raises TypeError.
 
 The library is libcalstwid.so: in the folder that the environment variable CALSTWID_LIB names (or the file that it names), else in target/lib of the
-clone that this file stands in, else beside this file.
+clone that this file stands in, else beside this file. It counts on the processor as every process starts: rounding to nearest, subnormal numbers kept.
 """
 import ctypes
 import os
@@ -22,7 +23,19 @@ from array import array
 from collections.abc import Mapping, Set
 from ctypes import POINTER, Structure, c_bool, c_double, c_size_t, c_uint8, c_uint64
 from dataclasses import dataclass
+from numbers import Complex, Real
 from typing import Iterable, List, Optional, Sequence, Tuple, Union
+
+# all but max and min, which would hide Python's own
+__all__ = (
+    "A B Basket Bracket CriticalRate D1D2 Fit ImplicitRate PIECE_BYTES Refused SENTENCES Swaption Valuation"
+    " bachelier_call black_call black_put bond_call_price bond_put_price calibrate_to_instruments caplet_price d1_d2 exp"
+    " exp_m1 find_critical_rate fit_caplet_black fit_caplet_normal fit_swaption_black fit_swaption_normal floorlet_price"
+    " forward_rate_from_curve fused generate generate_into hull_white_piecewise_variance implicit_critical_rate ln"
+    " midpoint norm_cdf norm_cdf_dual norm_pdf payer_swaption_value piece pillars_reached receiver_swaption_value"
+    " run_file short_rate_variance signum sqrt swap_annuity_from_curve swaption_price theta transition_variances"
+    " transition_variances_into volatility zcb_price zcb_price_volatility"
+).split()
 
 Numbers = Union[Sequence[float], Iterable[float]]  # or a buffer of float64
 
@@ -433,7 +446,9 @@ _piece = _declare("calstwid_piece", _CountReport, file=_BYTES, k=_SIZE, out=_OUT
 
 
 def _number(name: str, x) -> float:
-    if isinstance(x, (str, bytes, bytearray)):
+    if type(x) is float:
+        return x
+    if isinstance(x, (str, bytes, bytearray)) or (isinstance(x, Complex) and not isinstance(x, Real)):
         raise TypeError(f"{name}: a number is wanted, not {type(x).__name__}")
     try:
         return float(x)
@@ -444,7 +459,7 @@ def _number(name: str, x) -> float:
 def _view(xs) -> Optional[memoryview]:
     try:
         return memoryview(xs)
-    except TypeError:
+    except (TypeError, ValueError):
         return None
 
 
@@ -620,7 +635,7 @@ def B(alpha: float, t: float, bond: float) -> float:
 
 
 def A(alpha: float, times: Numbers, factors: Numbers, t: float, bond: float, sigma: float) -> float:
-    """A of the model from the option time t to the bond time."""
+    """A of the model from the option time t to the bond time. Needs the curve at t, t + 1/365 and the bond time."""
     return _served(
         _A(
             _number("alpha", alpha),
@@ -634,7 +649,7 @@ def A(alpha: float, times: Numbers, factors: Numbers, t: float, bond: float, sig
 
 
 def zcb_price(alpha: float, times: Numbers, factors: Numbers, rate: float, t: float, bond: float, sigma: float) -> float:
-    """The bond's price at t, the short rate then being `rate`."""
+    """The bond's price at t, the short rate then being `rate`. Needs the curve at t, t + 1/365 and the bond time."""
     return _served(
         _zcb_price(
             _number("alpha", alpha),
@@ -663,14 +678,14 @@ def short_rate_variance(alpha: float, t: float, bond: float, sigma: float) -> fl
 
 
 def theta(alpha: float, times: Numbers, factors: Numbers, t: float, sigma: float) -> float:
-    """The drift of the model at t."""
+    """The drift of the model at t. Needs the curve at t, t + 1/365 and t - 1/365, or where t is not above 1/365 at fused(2, 1/365, t)."""
     return _served(
         _theta(_number("alpha", alpha), *_list("times", times), *_list("factors", factors), _number("t", t), _number("sigma", sigma))
     ).value
 
 
 def forward_rate_from_curve(times: Numbers, factors: Numbers, t: float) -> float:
-    """The forward rate from t to t + 1/365."""
+    """The forward rate from t to t + 1/365, both of which the curve has."""
     return _served(_forward_rate_from_curve(*_list("times", times), *_list("factors", factors), _number("t", t))).value
 
 
@@ -741,7 +756,7 @@ def bachelier_call(fwd: float, strike: float, vol: float, tau: float) -> float:
 
 
 def swap_annuity_from_curve(times: Numbers, factors: Numbers, payments: Numbers, accruals: Numbers) -> float:
-    """The sum of accrual * factor over the coupons."""
+    """The sum of accrual * factor over at most 64 coupons, each payment time being one of the curve's; 0 for none."""
     return _served(
         _swap_annuity_from_curve(
             *_list("times", times), *_list("factors", factors), *_list("payments", payments), *_list("accruals", accruals)
@@ -765,12 +780,12 @@ def _optionlet(function, alpha, times, factors, strike, start, end, last, name):
 
 
 def caplet_price(alpha: float, times: Numbers, factors: Numbers, strike: float, start: float, end: float, sigma: float) -> float:
-    """Kind 1: a caplet from start to end, for a notional of 1."""
+    """Kind 1: a caplet on the rate from start to end, both of which the curve has."""
     return _served(_optionlet(_caplet_price, alpha, times, factors, strike, start, end, sigma, "sigma")).value
 
 
 def floorlet_price(alpha: float, times: Numbers, factors: Numbers, strike: float, start: float, end: float, sigma: float) -> float:
-    """Kind 2: a floorlet from start to end, for a notional of 1."""
+    """Kind 2: a floorlet on the rate from start to end, both of which the curve has."""
     return _served(_optionlet(_floorlet_price, alpha, times, factors, strike, start, end, sigma, "sigma")).value
 
 
@@ -789,12 +804,12 @@ def _bond_option(function, alpha, times, factors, t, bond, strike, sigma):
 
 
 def bond_put_price(alpha: float, times: Numbers, factors: Numbers, t: float, bond: float, strike: float, sigma: float) -> float:
-    """Kind 3: a put at t on the bond that pays 1 at the bond time."""
+    """Kind 3: a put at t on the bond that pays 1 at the bond time; the curve has both."""
     return _bond_option(_bond_put_price, alpha, times, factors, t, bond, strike, sigma)
 
 
 def bond_call_price(alpha: float, times: Numbers, factors: Numbers, t: float, bond: float, strike: float, sigma: float) -> float:
-    """Kind 4: a call at t on the bond that pays 1 at the bond time."""
+    """Kind 4: a call at t on the bond that pays 1 at the bond time; the curve has both."""
     return _bond_option(_bond_call_price, alpha, times, factors, t, bond, strike, sigma)
 
 
@@ -814,7 +829,9 @@ def _on_swap(function, alpha, times, factors, payments, accruals, strike, t, las
 def swaption_price(
     alpha: float, times: Numbers, factors: Numbers, payments: Numbers, accruals: Numbers, strike: float, t: float, sigma: float
 ) -> Swaption:
-    """Kind 5: the payer swaption by the model, for a notional of 1; t is the option's time."""
+    """Kind 5: the payer swaption by the model; t is the option's time. Needs the curve at t, t + 1/365 and the payment times.
+
+    With no coupons it is 0 and needs no time."""
     report = _served(_on_swap(_swaption_price, alpha, times, factors, payments, accruals, strike, t, sigma, "sigma"))
     return Swaption(report.value, report.rate, _bracket(report))
 
@@ -857,7 +874,8 @@ def payer_swaption_value(
 ) -> Valuation:
     """Kind 6: the payer swaption by the pricer, the sigma being that of the pillars at t.
 
-    `own_dfs` has a discount factor of its own for each coupon; None, or 0 for each, means the curve's. `side` is 1 or -1."""
+    `own_dfs` has a discount factor of its own for each coupon; None, or 0 for each, means the curve's. `side` is 1 (bought) or -1 (sold).
+    Needs the curve at t, t + 1/365 and the payment times."""
     return _swaption_value(
         _payer_swaption_value, alpha, pillars, sigmas, times, factors, payments, accruals, own_dfs, strike, t, notional, side
     )
@@ -902,12 +920,12 @@ def implicit_critical_rate(coefficients: Numbers, affines: Numbers, b: Numbers) 
 
 
 def fit_caplet_black(alpha: float, times: Numbers, factors: Numbers, strike: float, start: float, end: float, vol: float) -> Fit:
-    """Kind 8: the sigma at which the model's caplet has the price that Black's volatility gives it."""
+    """Kind 8: the sigma, from 1e-8 to 2.0, at which the model's caplet has the price that Black's volatility gives it. Needs the curve at start and end."""
     return _fit(_optionlet(_fit_caplet_black, alpha, times, factors, strike, start, end, vol, "vol"))
 
 
 def fit_caplet_normal(alpha: float, times: Numbers, factors: Numbers, strike: float, start: float, end: float, vol: float) -> Fit:
-    """Kind 9: the sigma at which the model's caplet has the price that the normal volatility gives it."""
+    """Kind 9: the sigma at which the model's caplet has the price that the normal volatility gives it; as fit_caplet_black."""
     return _fit(_optionlet(_fit_caplet_normal, alpha, times, factors, strike, start, end, vol, "vol"))
 
 
@@ -916,14 +934,14 @@ def fit_swaption_black(
 ) -> Fit:
     """Kind 10: the sigma at which the model's swaption has the price that Black's volatility gives it.
 
-    The swap ends at its last listed payment."""
+    The swap ends at its last listed payment. Needs the curve at t, t + 1/365 and the payment times."""
     return _fit(_on_swap(_fit_swaption_black, alpha, times, factors, payments, accruals, strike, t, vol, "vol"))
 
 
 def fit_swaption_normal(
     alpha: float, times: Numbers, factors: Numbers, payments: Numbers, accruals: Numbers, strike: float, t: float, vol: float
 ) -> Fit:
-    """Kind 11: the sigma at which the model's swaption has the price that the normal volatility gives it."""
+    """Kind 11: the sigma at which the model's swaption has the price that the normal volatility gives it; as fit_swaption_black."""
     return _fit(_on_swap(_fit_swaption_normal, alpha, times, factors, payments, accruals, strike, t, vol, "vol"))
 
 
@@ -988,7 +1006,10 @@ def generate_into(
 def generate(
     alpha: float, pillars: Numbers, sigmas: Numbers, times: Numbers, factors: Numbers, grid: Numbers, draws: Numbers
 ) -> List[float]:
-    """Kind 12: the short rate at each of at most 1,024 grid times, driven by the draws, a normal number for each grid time."""
+    """Kind 12: the short rate at each of at most 1,024 grid times, `draws` having a standard normal number for each.
+
+    `pillars` and `sigmas` are the model's volatility: a sigma holds from its time to the next, the first from the start. Needs the curve at each grid
+    time and 1/365 after it."""
     grid = grid if hasattr(grid, "__len__") else list(grid)
     out = array("d", bytes(8 * len(grid)))
     return out[: generate_into(alpha, pillars, sigmas, times, factors, grid, draws, out)].tolist()

@@ -2,8 +2,9 @@
 //! [`Refusal`] that applies; each is proved to meet its contract where it is written, in Rattle. Nothing here adds to a call's meaning: lists
 //! are lent as they are, and a [`Refusal`] is the number that the library answers.
 //!
-//! Times are years from today, rates and volatilities are absolute (0.03 is 3 %). A time that a call needs is looked up among the curve's own
-//! times: nothing is interpolated. A forward rate at t wants t + 1/365 too.
+//! Times are years from today; rates, strikes of rates and volatilities are fractions a year (0.03 is 3 %); alpha is the mean reversion. A value is
+//! for a notional of 1 except where a notional is an argument. A time that a call needs is looked up among the curve's own times: nothing is
+//! interpolated. Where a call says that it needs t + 1/365, it is `t + 1.0 / 365.0`.
 //!
 //! ```
 //! use calstwid::{bond_call_price, Curve, Refusal};
@@ -187,10 +188,12 @@ pub fn fused(a: f64, b: f64, c: f64) -> f64 {
     call!(calstwid_fused, a, b, c)
 }
 
+/// The square root; NaN below 0.
 pub fn sqrt(x: f64) -> f64 {
     call!(calstwid_sqrt, x)
 }
 
+/// e to the power of x; infinity above 710.
 pub fn exp(x: f64) -> f64 {
     call!(calstwid_exp, x)
 }
@@ -200,6 +203,7 @@ pub fn exp_m1(y: f64) -> f64 {
     call!(calstwid_exp_m1, y)
 }
 
+/// The natural logarithm; NaN below 0, -infinity at 0.
 pub fn ln(x: f64) -> f64 {
     call!(calstwid_ln, x)
 }
@@ -229,12 +233,12 @@ pub fn signum(x: f64) -> f64 {
     call!(calstwid_signum, x)
 }
 
-/// Passes over a NaN.
+/// The larger of two numbers; passes over a NaN.
 pub fn max(a: f64, b: f64) -> f64 {
     call!(calstwid_max, a, b)
 }
 
-/// Passes over a NaN.
+/// The smaller of two numbers; passes over a NaN.
 pub fn min(a: f64, b: f64) -> f64 {
     call!(calstwid_min, a, b)
 }
@@ -247,30 +251,33 @@ pub fn B(alpha: f64, t: f64, bond: f64) -> Result<f64, Refusal> {
     price(call!(calstwid_B, alpha, t, bond))
 }
 
-/// A of the model.
+/// A of the model. Needs the curve at t, t + 1/365 and the bond time.
 #[allow(non_snake_case)]
 pub fn A(alpha: f64, curve: Curve, t: f64, bond: f64, sigma: f64) -> Result<f64, Refusal> {
     price(call!(calstwid_A, alpha, [curve.times], [curve.factors], t, bond, sigma))
 }
 
-/// The bond's price at t, the short rate then being `rate`.
+/// The bond's price at t, the short rate then being `rate`. Needs the curve at t, t + 1/365 and the bond time.
 pub fn zcb_price(alpha: f64, curve: Curve, rate: f64, t: f64, bond: f64, sigma: f64) -> Result<f64, Refusal> {
     price(call!(calstwid_zcb_price, alpha, [curve.times], [curve.factors], rate, t, bond, sigma))
 }
 
+/// The volatility of the bond's price over the option's life.
 pub fn zcb_price_volatility(alpha: f64, sigma: f64, t: f64, bond: f64) -> Result<f64, Refusal> {
     price(call!(calstwid_zcb_price_volatility, alpha, sigma, t, bond))
 }
 
+/// The variance of the short rate from t to the bond time.
 pub fn short_rate_variance(alpha: f64, t: f64, bond: f64, sigma: f64) -> Result<f64, Refusal> {
     price(call!(calstwid_short_rate_variance, alpha, t, bond, sigma))
 }
 
+/// The drift of the model at t. Needs the curve at t, t + 1/365 and t - 1/365, or where t is not above 1/365 at `fused(2.0, 1.0 / 365.0, t)`.
 pub fn theta(alpha: f64, curve: Curve, t: f64, sigma: f64) -> Result<f64, Refusal> {
     price(call!(calstwid_theta, alpha, [curve.times], [curve.factors], t, sigma))
 }
 
-/// The forward rate from t to t + 1/365.
+/// The forward rate from t to t + 1/365, both of which the curve has.
 pub fn forward_rate_from_curve(curve: Curve, t: f64) -> Result<f64, Refusal> {
     price(call!(calstwid_forward_rate_from_curve, [curve.times], [curve.factors], t))
 }
@@ -298,6 +305,7 @@ pub fn transition_variances(alpha: f64, pillars: Pillars, steps: usize, time_ste
 
 // ---- quotes
 
+/// Black's d1 and d2.
 pub fn d1_d2(fwd: f64, strike: f64, vol: f64, tau: f64) -> Result<D1D2, Refusal> {
     let report = call!(calstwid_d1_d2, fwd, strike, vol, tau);
     Refusal::unless_served(report.answer, D1D2 { d1: report.d1, d2: report.d2 })
@@ -318,41 +326,43 @@ pub fn bachelier_call(fwd: f64, strike: f64, vol: f64, tau: f64) -> Result<f64, 
     price(call!(calstwid_bachelier_call, fwd, strike, vol, tau))
 }
 
-/// The sum of accrual × factor over the coupons.
+/// The sum of accrual × factor over the coupons, each payment time being one of the curve's; 0 for none.
 pub fn swap_annuity_from_curve(curve: Curve, coupons: Coupons) -> Result<f64, Refusal> {
     price(call!(calstwid_swap_annuity_from_curve, [curve.times], [curve.factors], [coupons.payments], [coupons.accruals]))
 }
 
 // ---- options
 
-/// Kind 1.
+/// Kind 1: a caplet on the rate from start to end, both of which the curve has.
 pub fn caplet_price(alpha: f64, curve: Curve, strike: f64, start: f64, end: f64, sigma: f64) -> Result<f64, Refusal> {
     price(call!(calstwid_caplet_price, alpha, [curve.times], [curve.factors], strike, start, end, sigma))
 }
 
-/// Kind 2.
+/// Kind 2: a floorlet on the rate from start to end, both of which the curve has.
 pub fn floorlet_price(alpha: f64, curve: Curve, strike: f64, start: f64, end: f64, sigma: f64) -> Result<f64, Refusal> {
     price(call!(calstwid_floorlet_price, alpha, [curve.times], [curve.factors], strike, start, end, sigma))
 }
 
-/// Kind 3: t is the option's time, `bond` the bond's.
+/// Kind 3: a put at t on the bond that pays 1 at the bond time; the curve has both.
 pub fn bond_put_price(alpha: f64, curve: Curve, t: f64, bond: f64, strike: f64, sigma: f64) -> Result<f64, Refusal> {
     price(call!(calstwid_bond_put_price, alpha, [curve.times], [curve.factors], t, bond, strike, sigma))
 }
 
-/// Kind 4: t is the option's time, `bond` the bond's.
+/// Kind 4: a call at t on the bond that pays 1 at the bond time; the curve has both.
 pub fn bond_call_price(alpha: f64, curve: Curve, t: f64, bond: f64, strike: f64, sigma: f64) -> Result<f64, Refusal> {
     price(call!(calstwid_bond_call_price, alpha, [curve.times], [curve.factors], t, bond, strike, sigma))
 }
 
-/// Kind 5: the payer swaption by the model, for a notional of 1.
+/// Kind 5: the payer swaption by the model; t is the option's time. Needs the curve at t, t + 1/365 and the payment times. With no coupons it is 0 and
+/// needs no time.
 pub fn swaption_price(alpha: f64, curve: Curve, coupons: Coupons, strike: f64, t: f64, sigma: f64) -> Result<Swaption, Refusal> {
     let report =
         call!(calstwid_swaption_price, alpha, [curve.times], [curve.factors], [coupons.payments], [coupons.accruals], strike, t, sigma);
     Refusal::unless_served(report.answer, Swaption { value: report.value, rate: report.rate, bracket: bracket!(report) })
 }
 
-/// Kind 6. `own_dfs` has a discount factor of its own for each coupon; 0 for all means the curve's. `side` is 1 or -1.
+/// Kind 6: the payer swaption by the pricer, the sigma being that of the pillars at t. `own_dfs` has a discount factor of its own for each coupon; 0
+/// for all means the curve's. `side` is 1 (bought) or -1 (sold). Needs the curve at t, t + 1/365 and the payment times.
 #[allow(clippy::too_many_arguments)]
 pub fn payer_swaption_value(
     alpha: f64,
@@ -382,7 +392,7 @@ pub fn payer_swaption_value(
     ))
 }
 
-/// Kind 7: as [`payer_swaption_value`].
+/// Kind 7: the receiver swaption by the pricer; as [`payer_swaption_value`].
 #[allow(clippy::too_many_arguments)]
 pub fn receiver_swaption_value(
     alpha: f64,
@@ -429,7 +439,7 @@ pub fn implicit_critical_rate(terms: Terms) -> Result<ImplicitRate, Refusal> {
 
 // ---- fits
 
-/// Kind 8: the sigma at which the model's caplet has the price that Black's volatility gives it.
+/// Kind 8: the sigma, from 1e-8 to 2.0, at which the model's caplet has the price that Black's volatility gives it. Needs the curve at start and end.
 pub fn fit_caplet_black(alpha: f64, curve: Curve, strike: f64, start: f64, end: f64, vol: f64) -> Result<Fit, Refusal> {
     fit(call!(calstwid_fit_caplet_black, alpha, [curve.times], [curve.factors], strike, start, end, vol))
 }
@@ -439,7 +449,8 @@ pub fn fit_caplet_normal(alpha: f64, curve: Curve, strike: f64, start: f64, end:
     fit(call!(calstwid_fit_caplet_normal, alpha, [curve.times], [curve.factors], strike, start, end, vol))
 }
 
-/// Kind 10: the sigma at which the model's swaption has the price that Black's volatility gives it. The swap ends at its last listed payment.
+/// Kind 10: the sigma at which the model's swaption has the price that Black's volatility gives it. The swap ends at its last listed
+/// payment. Needs the curve at t, t + 1/365 and the payment times.
 pub fn fit_swaption_black(alpha: f64, curve: Curve, coupons: Coupons, strike: f64, t: f64, vol: f64) -> Result<Fit, Refusal> {
     fit(call!(calstwid_fit_swaption_black, alpha, [curve.times], [curve.factors], [coupons.payments], [coupons.accruals], strike, t, vol))
 }
@@ -476,8 +487,8 @@ pub fn calibrate_to_instruments(alpha: f64, curve: Curve, caplets: Caplets) -> R
 
 // ---- paths and run files
 
-/// Kind 12: writes the short rate at each grid time, driven by the draws, to the front of `out`, and says how many were written. At most 1,024
-/// grid times; `out` is untouched where the call is refused.
+/// Kind 12: writes the short rate at each of at most 1,024 grid times to the front of `out`, and says how many were written; `draws` has a standard
+/// normal number for each. Needs the curve at each grid time and 1/365 after it. `out` is untouched where the call is refused.
 pub fn generate(alpha: f64, pillars: Pillars, curve: Curve, grid: &[f64], draws: &[f64], out: &mut [f64]) -> Result<usize, Refusal> {
     count(call!(
         calstwid_generate,

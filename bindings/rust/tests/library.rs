@@ -339,6 +339,7 @@ fn refusals() {
         fit_caplet_black(0.5, small, 0.03, 1.0, 2.0, 1e-9).map(|it| it.sigma),
         bond_put_price(0.5, Curve { times: &[1.0, 2.0], factors: &[1e308, 1.0] }, 1.0, 2.0, 1e10, 0.01),
     ];
+    assert_eq!(Refusal::ALL.len(), all.len());
     for (place, outcome) in all.into_iter().enumerate() {
         let refusal = outcome.unwrap_err();
         assert_eq!((refusal, refusal.number()), (Refusal::ALL[place], place as u64 + 1));
