@@ -26,7 +26,8 @@ fn of_the_clone() -> PathBuf {
     // What it prints goes to standard error: cargo reads a build script's standard output.
     let ran = Command::new(&build).current_dir(&root).stdout(Stdio::from(std::io::stderr())).status();
     if !matches!(ran, Ok(status) if status.success()) || !archive.exists() {
-        stop(&format!("{} failed", build.display()));
+        eprintln!("calstwid: {} failed; CALSTWID_LIB may name a folder that has {ARCHIVE}", build.display());
+        exit(1);
     }
     archive
 }

@@ -236,6 +236,8 @@ class Numbers(unittest.TestCase):
         self.assertEqual(calstwid.sqrt(2), math.sqrt(2))
         self.assertEqual(calstwid.midpoint(1, 4), 2.5)
         self.assertEqual((calstwid.max(1, 2), calstwid.min(1, 2), calstwid.max(NAN, 2), calstwid.min(2, NAN)), (2.0, 1.0, 2.0, 2.0))
+        for either in (calstwid.max, calstwid.min):
+            self.assertEqual([bits(either(0.0, -0.0)), bits(either(-0.0, 0.0))], [bits(0.0), bits(-0.0)])
 
     def test_nan(self):
         for function in (calstwid.exp, calstwid.exp_m1, calstwid.ln, calstwid.sqrt, calstwid.norm_cdf, calstwid.norm_pdf, calstwid.signum):

@@ -244,6 +244,9 @@ fn numbers() {
     assert_eq!(sqrt(-0.0).to_bits(), (-0.0f64).to_bits());
     assert_eq!((signum(-0.0), signum(0.0)), (-1.0, 1.0));
     assert_eq!((midpoint(1.0, 4.0), max(1.0, 2.0), min(1.0, 2.0), max(f64::NAN, 2.0), min(2.0, f64::NAN)), (2.5, 2.0, 1.0, 2.0, 2.0));
+    for either in [max, min] {
+        assert_eq!([either(0.0, -0.0), either(-0.0, 0.0)].map(f64::to_bits), [0.0f64, -0.0].map(f64::to_bits));
+    }
     assert!(near(exp(1.7), 1.7f64.exp()) && near(exp_m1(0.3), 0.3f64.exp_m1()) && near(ln(7.5), 7.5f64.ln()));
     assert!(near(norm_pdf(0.7), (-0.245f64).exp() / (2.0 * std::f64::consts::PI).sqrt()));
     assert!(near(norm_cdf(1.96), 0.9750021048517795) && near(norm_cdf_dual(1.96), 0.9750021048517795));
