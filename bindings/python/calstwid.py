@@ -24,7 +24,7 @@ from collections.abc import Mapping, Set
 from ctypes import POINTER, Structure, c_bool, c_double, c_size_t, c_uint8, c_uint64
 from dataclasses import dataclass
 from numbers import Complex, Real
-from typing import Iterable, List, Optional, Sequence, Tuple, Union
+from typing import Iterable, List, Optional, Tuple
 
 # all but max and min, which would hide Python's own
 __all__ = (
@@ -37,7 +37,7 @@ __all__ = (
     " transition_variances_into volatility zcb_price zcb_price_volatility"
 ).split()
 
-Numbers = Union[Sequence[float], Iterable[float]]  # or a buffer of float64
+Numbers = Iterable[float]  # or a buffer of float64
 
 # The room that a piece of a run file's output wants.
 PIECE_BYTES = 131072
