@@ -1,0 +1,471 @@
+"""Holds the module to the examples, to the fixed run files and to document 01's cases. From the repository's root, with the library built:
+
+    python3 -m unittest discover bindings/python/tests
+"""
+import glob
+import math
+import os
+import pickle
+import struct
+import sys
+import unittest
+from array import array
+
+sys.dont_write_bytecode = True
+ROOT = os.path.realpath(os.path.join(os.path.dirname(os.path.realpath(__file__)), "..", "..", ".."))
+sys.path[:0] = [os.path.join(ROOT, "bindings", "python"), os.path.join(ROOT, "oracle")]
+import calstwid  # noqa: E402
+from fixed_list import entries  # noqa: E402
+from runfile import H, job, run  # noqa: E402
+
+NAN, INFINITY = float("nan"), float("inf")
+
+
+def bits(x):
+    return struct.pack(">d", x).hex()
+
+
+class RunFile:
+    """The lists of a run file, as a caller has them."""
+
+    def __init__(self, data):
+        parts = [data[at : at + size] for at, size in struct.iter_unpack("<2I", data[:48])]
+        (self.alpha,) = struct.unpack("<d", parts[0])
+        self.pillars, self.sigmas = self.columns(parts[1], 2)
+        self.times, self.factors = self.columns(parts[2], 2)
+        self.payments, self.accruals, self.own_dfs = self.columns(parts[3], 3)
+        self.grid, self.draws = self.columns(parts[4], 2)
+        self.jobs = list(struct.iter_unpack("<Q4d", parts[5]))
+
+    @staticmethod
+    def columns(part, width):
+        rows = list(struct.iter_unpack(f"<{width}d", part))
+        return tuple([row[column] for row in rows] for column in range(width))
+
+    def call(self, kind, a, b, c, d):
+        """The values and notes of a job, by the call of its kind."""
+        curve = self.alpha, self.times, self.factors
+        coupons = self.payments, self.accruals
+        if kind in (1, 2):
+            return [((calstwid.caplet_price, calstwid.floorlet_price)[kind - 1](*curve, a, b, c, d), 0)]
+        if kind in (3, 4):
+            return [((calstwid.bond_put_price, calstwid.bond_call_price)[kind - 3](*curve, a, b, c, d), 0)]
+        if kind == 5:
+            return [(calstwid.swaption_price(*curve, *coupons, a, b, c).value, 0)]
+        if kind in (6, 7):
+            value = (calstwid.payer_swaption_value, calstwid.receiver_swaption_value)[kind - 6]
+            pillars = self.pillars, self.sigmas
+            return [(value(self.alpha, *pillars, self.times, self.factors, *coupons, self.own_dfs, a, b, c, d).value, 0)]
+        if kind in (8, 9):
+            fit = (calstwid.fit_caplet_black, calstwid.fit_caplet_normal)[kind - 8](*curve, a, b, c, d)
+            return [(fit.sigma, fit.halvings if fit.converged else 0)]
+        if kind in (10, 11):
+            fit = (calstwid.fit_swaption_black, calstwid.fit_swaption_normal)[kind - 10](*curve, *coupons, a, b, c)
+            return [(fit.sigma, fit.halvings if fit.converged else 0)]
+        path = calstwid.generate(self.alpha, self.pillars, self.sigmas, self.times, self.factors, self.grid, self.draws)
+        return [(value, point) for point, value in enumerate(path)] or [(0.0, 0)]
+
+    def printed(self):
+        """What the program prints, each job by its call."""
+        lines = ["job kind answer value note"]
+        for place, (kind, *numbers) in enumerate(self.jobs):
+            try:
+                answer, results = 0, self.call(kind, *numbers)
+            except calstwid.Refused as refused:
+                answer, results = refused.number, [(0.0, 0)]
+            lines += [f"{place} {kind} {answer} {bits(value)} {note}" for value, note in results]
+        return "".join(line + "\n" for line in lines)
+
+
+def examples():
+    for path in sorted(glob.glob(os.path.join(ROOT, "examples", "*.run"))):
+        with open(path, "rb") as file, open(path[:-4] + ".out", "rb") as out:
+            yield os.path.basename(path), file.read(), out.read()
+
+
+def desk():
+    return next(RunFile(data) for name, data, _ in examples() if name == "desk.run")
+
+
+class Refusals(unittest.TestCase):
+    def refused(self, number, function, *arguments):
+        with self.assertRaises(calstwid.Refused) as caught:
+            function(*arguments)
+        self.assertEqual(caught.exception.number, number)
+        self.assertEqual(caught.exception.sentence, calstwid.SENTENCES[number])
+        self.assertEqual(str(caught.exception), f"refused {number}: {calstwid.SENTENCES[number]}")
+
+
+class Files(unittest.TestCase):
+    def test_whole_case(self):
+        data = run(alpha=0.5, curve=[(1, 1), (2, 1)], jobs=[job(3, 1, 2, 0.5, 0), job(4, 1, 2, 0.5, 0)])
+        printed = b"job kind answer value note\n0 3 0 0000000000000000 0\n1 4 0 3fe0000000000000 0\n"
+        self.assertEqual(calstwid.run_file(data), printed)
+        self.assertEqual([calstwid.piece(data, k) for k in range(4)], [*printed.splitlines(keepends=True), b""])
+        self.assertEqual(bits(calstwid.bond_put_price(0.5, [1, 2], [1, 1], 1, 2, 0.5, 0)), "0000000000000000")
+        self.assertEqual(calstwid.bond_call_price(0.5, [1, 2], [1, 1], 1, 2, 0.5, 0), 0.5)
+
+    def test_examples(self):
+        seen = 0
+        for name, data, expected in examples():
+            with self.subTest(name):
+                self.assertEqual(calstwid.run_file(data), expected)
+                if expected != b"refused 1\n":
+                    self.assertEqual(RunFile(data).printed(), expected.decode())
+                seen += 1
+        self.assertGreaterEqual(seen, 15)
+
+    def test_fixed_run_files(self):
+        seen = calls = 0
+        for data, expected in entries():
+            self.assertEqual(calstwid.run_file(data), expected, f"entry {seen}")
+            if expected != b"refused 1\n":
+                self.assertEqual(RunFile(data).printed(), expected.decode(), f"entry {seen}")
+                calls += 1
+            seen += 1
+        self.assertEqual(seen, 570)
+        self.assertGreater(calls, 300)
+
+    def test_files_that_break_their_layout(self):
+        for data in (b"", b"\0", bytes(48), bytes(65536), bytes(65537), bytearray(7), memoryview(b"1234")):
+            self.assertEqual(calstwid.run_file(data), b"refused 1\n")
+        for wrong in ("text", None, [1, 2], 5):
+            with self.assertRaises(TypeError):
+                calstwid.run_file(wrong)
+        with self.assertRaises(ValueError):
+            calstwid.piece(b"", -1)
+        with self.assertRaises(TypeError):
+            calstwid.piece(b"", 0.0)
+
+
+class Desk(Refusals):
+    """README's numbers."""
+
+    def setUp(self):
+        self.desk = d = desk()
+        self.curve = d.alpha, d.times, d.factors
+        self.swap = *self.curve, d.payments, d.accruals
+        self.pricer = d.alpha, d.pillars, d.sigmas, d.times, d.factors, d.payments, d.accruals
+
+    def test_values(self):
+        curve, swap = self.curve, self.swap
+        self.assertEqual(calstwid.caplet_price(*curve, strike=0.03, start=1.0, end=1.5, sigma=0.01), 0.0018520317606408843)
+        self.assertEqual(calstwid.floorlet_price(*curve, strike=0.03, start=1.0, end=1.5, sigma=0.01), 0.0017439422727289755)
+        self.assertEqual(calstwid.bond_put_price(*curve, t=1.0, bond=5.0, strike=0.88, sigma=0.01), 0.007709327124727912)
+        self.assertEqual(calstwid.bond_call_price(*curve, t=1.0, bond=5.0, strike=0.88, sigma=0.01), 0.014425234027098555)
+        self.assertEqual(calstwid.swaption_price(*swap, strike=0.031, t=1.0, sigma=0.01).value, 0.010713537784161791)
+        for own in (None, self.desk.own_dfs, [0.0] * 4):
+            payer = calstwid.payer_swaption_value(*self.pricer, own_dfs=own, strike=0.031, t=1.0, notional=1e6, side=1.0)
+            receiver = calstwid.receiver_swaption_value(*self.pricer, own_dfs=own, strike=0.031, t=1.0, notional=1e6, side=-1.0)
+            self.assertEqual((payer.value, receiver.value), (10713.537784161801, -12679.02875263987))
+        path = calstwid.generate(*self.pricer[:5], self.desk.grid, self.desk.draws)
+        self.assertEqual(path, [0.031512192643853264, 0.025986290645509974, 0.031659410562398474, 0.03215463750724506])
+
+    def test_fits(self):
+        fits = [
+            (calstwid.fit_caplet_black(*self.curve, strike=0.03, start=1.0, end=1.5, vol=0.25), 0.007965961463308302, 37),
+            (calstwid.fit_caplet_normal(*self.curve, strike=0.03, start=1.0, end=1.5, vol=0.0075), 0.00795676143695671, 36),
+            (calstwid.fit_swaption_black(*self.swap, strike=0.031, t=1.0, vol=0.22), 0.008309960890466608, 39),
+            (calstwid.fit_swaption_normal(*self.swap, strike=0.031, t=1.0, vol=0.007), 0.008622592662243852, 40),
+        ]
+        for fit, sigma, halvings in fits:
+            self.assertEqual((fit.sigma, fit.halvings, fit.converged), (sigma, halvings, True))
+            self.assertLess(abs(fit.residual), 1e-12)
+            self.assertTrue(fit.low < fit.sigma < fit.high)
+            self.assertTrue(fit.low_residual < 0 < fit.high_residual)
+
+    def test_searches(self):
+        model = calstwid.swaption_price(*self.swap, 0.031, 1.0, 0.01)
+        payer = calstwid.payer_swaption_value(*self.pricer, None, 0.031, 1.0, 1e6, 1.0)
+        for bracket, rate in ((model.bracket, model.rate), (payer.bracket, payer.rate)):
+            self.assertTrue(bracket.lower <= rate <= bracket.upper)
+            self.assertTrue(bracket.lower_sum >= 1 >= bracket.upper_sum)
+            self.assertEqual((bracket.lower_rung, bracket.upper_rung), (0, 0))
+        self.assertAlmostEqual(payer.stepped, payer.rate, places=12)
+        empty = calstwid.swaption_price(*self.curve, [], [], 0.031, 1.0, 0.01)
+        self.assertEqual(empty, calstwid.Swaption(0.0, 0.0, calstwid.Bracket(0.0, 0.0, 0.0, 0.0, 0, 0)))
+
+    def test_own_factors(self):
+        own = [0.9, 0.88, 0.85, 0.8]
+        value = calstwid.payer_swaption_value(*self.pricer, own, 0.031, 1.0, 1e6, 1.0).value
+        self.assertNotEqual(value, 10713.537784161801)
+        self.refused(6, calstwid.payer_swaption_value, *self.pricer, [0.9, 0.0, 0.85, 0.8], 0.031, 1.0, 1e6, 1.0)
+        self.refused(1, calstwid.payer_swaption_value, *self.pricer, own[:3], 0.031, 1.0, 1e6, 1.0)
+
+    def test_basket(self):
+        kinds, strikes, starts, ends = [False, True], [0.03, 0.03], [1.0, 1.0], [1.5, 1.5]
+        basket = calstwid.calibrate_to_instruments(*self.curve, kinds, strikes, starts, ends, [0.25, 0.0075])
+        alone = [calstwid.fit_caplet_black(*self.curve, 0.03, 1.0, 1.5, 0.25), calstwid.fit_caplet_normal(*self.curve, 0.03, 1.0, 1.5, 0.0075)]
+        bumped = calstwid.fit_caplet_black(*self.curve, 0.03, 1.0, 1.5, 0.25 + 1e-6)
+        self.assertEqual(basket.sigmas, tuple(fit.sigma for fit in alone))
+        self.assertEqual(basket.residuals, tuple(fit.residual for fit in alone))
+        self.assertEqual((basket.statuses, basket.halvings, basket.bumped_statuses), ((True, True), (37, 36), (True, True)))
+        self.assertEqual(basket.diagonal[0], (bumped.sigma - alone[0].sigma) / 1e-6)
+        empty = calstwid.calibrate_to_instruments(*self.curve, [], [], [], [], [])
+        self.assertEqual(empty, calstwid.Basket((), (), (), (), (), ()))
+        whole = calstwid.calibrate_to_instruments(*self.curve, [False] * 64, [0.03] * 64, [1.0] * 64, [1.5] * 64, [0.25] * 64)
+        self.assertEqual(whole.sigmas, (alone[0].sigma,) * 64)
+        self.refused(1, calstwid.calibrate_to_instruments, *self.curve, [False] * 65, [0.03] * 65, [1.0] * 65, [1.5] * 65, [0.25] * 65)
+        self.refused(1, calstwid.calibrate_to_instruments, *self.curve, [False], strikes, starts, ends, [0.25, 0.0075])
+        self.refused(6, calstwid.calibrate_to_instruments, *self.curve, kinds, strikes, starts, ends, [0.25, 0.0])
+        for wrong in ([0, 1], ["", "x"], [0.0, 1.0], None, b"\0\1", "ab"):
+            with self.assertRaises(TypeError):
+                calstwid.calibrate_to_instruments(*self.curve, wrong, strikes, starts, ends, [0.25, 0.0075])
+
+
+class Numbers(unittest.TestCase):
+    """Document 01's proved cases, and the rest of the functions that refuse nothing."""
+
+    def test_cases(self):
+        self.assertEqual(calstwid.norm_cdf(0), 0.5)
+        self.assertEqual((calstwid.norm_cdf(38), calstwid.norm_cdf(-38)), (1.0, 0.0))
+        self.assertEqual((calstwid.norm_cdf_dual(38), calstwid.norm_cdf_dual(-38)), (1.0, 0.0))
+        self.assertEqual((calstwid.exp(0), calstwid.ln(1), calstwid.sqrt(4)), (1.0, 0.0, 2.0))
+        self.assertEqual(bits(calstwid.sqrt(-0.0)), bits(-0.0))
+        self.assertEqual(calstwid.fused(2, 3, 1), 7.0)
+        self.assertEqual((calstwid.signum(-0.0), calstwid.signum(0.0)), (-1.0, 1.0))
+
+    def test_beside_pythons_own(self):
+        for x in (-2.5, -0.3, 0.0, 0.4, 1.7):
+            self.assertAlmostEqual(calstwid.exp(x), math.exp(x), places=13)
+            self.assertAlmostEqual(calstwid.exp_m1(x), math.expm1(x), places=13)
+            self.assertAlmostEqual(calstwid.norm_cdf(x), (1 + math.erf(x / math.sqrt(2))) / 2, places=13)
+            self.assertAlmostEqual(calstwid.norm_cdf_dual(x), (1 + math.erf(x / math.sqrt(2))) / 2, places=13)
+            self.assertAlmostEqual(calstwid.norm_pdf(x), math.exp(-x * x / 2) / math.sqrt(2 * math.pi), places=13)
+        self.assertAlmostEqual(calstwid.ln(7.5), math.log(7.5), places=13)
+        self.assertEqual(calstwid.sqrt(2), math.sqrt(2))
+        self.assertEqual(calstwid.midpoint(1, 4), 2.5)
+        self.assertEqual((calstwid.max(1, 2), calstwid.min(1, 2), calstwid.max(NAN, 2), calstwid.min(2, NAN)), (2.0, 1.0, 2.0, 2.0))
+        for either in (calstwid.max, calstwid.min):
+            self.assertEqual([bits(either(0.0, -0.0)), bits(either(-0.0, 0.0))], [bits(0.0), bits(-0.0)])
+
+    def test_nan(self):
+        for function in (calstwid.exp, calstwid.exp_m1, calstwid.ln, calstwid.sqrt, calstwid.norm_cdf, calstwid.norm_pdf, calstwid.signum):
+            self.assertTrue(math.isnan(function(NAN)))
+
+
+class Formulas(Refusals):
+    """The calls that are no kind, beside what they stand for: an argument out of place is seen here."""
+
+    def setUp(self):
+        self.desk = desk()
+        self.curve = self.desk.times, self.desk.factors
+        self.pillars = self.desk.pillars, self.desk.sigmas
+
+    def test_model(self):
+        alpha, t, bond, sigma = 0.1, 1.0, 4.0, 0.012
+        b = (1 - math.exp(-alpha * (bond - t))) / alpha
+        p = dict(zip(*self.curve))
+        self.assertAlmostEqual(calstwid.B(alpha, t, bond), b, places=13)
+        spread = sigma**2 * (1 - math.exp(-2 * alpha * (bond - t))) / (2 * alpha)
+        self.assertAlmostEqual(calstwid.short_rate_variance(alpha, t, bond, sigma), spread, places=13)
+        state = sigma**2 * (1 - math.exp(-2 * alpha * t)) / (2 * alpha)
+        self.assertAlmostEqual(calstwid.zcb_price_volatility(alpha, sigma, t, bond), b * math.sqrt(state), places=13)
+        forward = calstwid.forward_rate_from_curve(*self.curve, t)
+        self.assertAlmostEqual(forward, 0.03, places=10)
+        a = p[bond] / p[t] * math.exp(b * forward - state * b * b / 2)
+        self.assertAlmostEqual(calstwid.A(alpha, *self.curve, t, bond, sigma), a, places=12)
+        self.assertAlmostEqual(calstwid.zcb_price(alpha, *self.curve, 0.02, t, bond, sigma), a * math.exp(-b * 0.02), places=12)
+        days = [0.0, H, 2 * H]
+        drift = calstwid.theta(alpha, days, [math.exp(-0.03 * day) for day in days], 0.0, sigma)
+        self.assertAlmostEqual(drift, alpha * 0.03, places=6)
+
+    def test_pillars(self):
+        times, sigmas = self.pillars
+        self.assertEqual([calstwid.volatility(times, sigmas, t) for t in (0, 0.5, 0.75, 1, 9)], [0.010, 0.010, 0.010, 0.011, 0.012])
+        self.assertEqual([calstwid.pillars_reached(times, sigmas, t) for t in (0, 0.5, 0.75, 1, 9)], [0, 1, 1, 2, 3])
+        self.refused(7, calstwid.volatility, [], [], 1)
+        alpha = 0.1
+        step = lambda s, a, b: s * s * (math.exp(2 * alpha * b) - math.exp(2 * alpha * a)) / (2 * alpha)  # noqa: E731
+        whole = math.exp(-2 * alpha * 1.5) * (step(0.010, 0.25, 1) + step(0.011, 1, 1.5))
+        self.assertAlmostEqual(calstwid.hull_white_piecewise_variance(alpha, times, sigmas, 0.25, 1.5), whole, places=13)
+        variances = calstwid.transition_variances(alpha, times, sigmas, 4, 0.25)
+        self.assertEqual(len(variances), 4)
+        self.assertAlmostEqual(variances[0], calstwid.hull_white_piecewise_variance(alpha, times, sigmas, 0.0, 0.25), places=13)
+        self.assertEqual(calstwid.transition_variances(alpha, times, sigmas, 0, 0.25), [])
+        self.assertEqual(len(calstwid.transition_variances(alpha, times, sigmas, 1024, 0.25)), 1024)
+        for steps in (1025, 2**64 - 1):
+            self.refused(1, calstwid.transition_variances, alpha, times, sigmas, steps, 0.25)
+        for wrong, error in ((-1, ValueError), (2**64, ValueError), (1.0, TypeError), ("1", TypeError), (None, TypeError)):
+            with self.assertRaises(error):
+                calstwid.transition_variances(alpha, times, sigmas, wrong, 0.25)
+
+    def test_quotes(self):
+        fwd, strike, vol, tau = 0.031, 0.028, 0.22, 1.5
+        d1 = (math.log(fwd / strike) + vol * vol * tau / 2) / (vol * math.sqrt(tau))
+        d = calstwid.d1_d2(fwd, strike, vol, tau)
+        self.assertAlmostEqual(d.d1, d1, places=12)
+        self.assertAlmostEqual(d.d2, d1 - vol * math.sqrt(tau), places=12)
+        n = calstwid.norm_cdf
+        call, put = calstwid.black_call(fwd, strike, vol, tau), calstwid.black_put(fwd, strike, vol, tau)
+        self.assertAlmostEqual(call, fwd * n(d.d1) - strike * n(d.d2), places=14)
+        self.assertAlmostEqual(call - put, fwd - strike, places=14)
+        s = 0.007 * math.sqrt(tau)
+        x = (fwd - strike) / s
+        self.assertAlmostEqual(calstwid.bachelier_call(fwd, strike, 0.007, tau), (fwd - strike) * n(x) + s * calstwid.norm_pdf(x), places=14)
+        self.refused(6, calstwid.black_call, fwd, 0.0, vol, tau)
+        p = dict(zip(*self.curve))
+        annuity = calstwid.swap_annuity_from_curve(*self.curve, [2.0, 4.0], [0.5, 2.0])
+        self.assertAlmostEqual(annuity, 0.5 * p[2.0] + 2.0 * p[4.0], places=14)
+        self.assertEqual(calstwid.swap_annuity_from_curve(*self.curve, [], []), 0.0)
+
+    def test_critical_rate(self):
+        self.assertEqual(calstwid.find_critical_rate([1], [1], [0]).rate, -0.5)
+        self.refused(11, calstwid.implicit_critical_rate, [1], [1], [0])
+        for coefficient in (2, 0.5):
+            self.refused(10, calstwid.find_critical_rate, [coefficient], [1], [0])
+        self.refused(9, calstwid.find_critical_rate, [1, -1], [1, 1], [1, 1])
+        self.refused(10, calstwid.find_critical_rate, [], [], [])
+        found, stepped = (f([0.5, 0.6], [0.98, 0.95], [1.0, 2.0]) for f in (calstwid.find_critical_rate, calstwid.implicit_critical_rate))
+        total = sum(c * a * math.exp(-b * found.rate) for c, a, b in zip([0.5, 0.6], [0.98, 0.95], [1.0, 2.0]))
+        self.assertAlmostEqual(total, 1.0, places=12)
+        self.assertEqual((stepped.rate, stepped.bracket), (found.rate, found.bracket))
+        self.assertAlmostEqual(stepped.stepped, stepped.rate, places=12)
+
+
+class TurnedDown(Refusals):
+    SMALL = [0.0, H, 1.0, 1.0 + H, 2.0], [1.0, 1.0, 0.97, 0.9699, 0.94]
+
+    def test_each_number(self):
+        caplet, payer = calstwid.caplet_price, calstwid.payer_swaption_value
+        small, pillars, coupons = self.SMALL, ([1.0], [0.01]), ([2.0], [1.0])
+        self.refused(1, caplet, 0.5, [1.0, 2.0], [1.0], 0.03, 1.0, 2.0, 0.01)
+        self.refused(2, caplet, 0.5, *small, 0.03, 1.0, 2.0, NAN)
+        self.refused(2, caplet, 0.5, [1.0, NAN], [1.0, 0.9], 0.03, 1.0, 2.0, 0.01)
+        self.refused(2, caplet, INFINITY, *small, 0.03, 1.0, 2.0, 0.01)
+        self.refused(3, caplet, 0, *small, 0.03, 1.0, 2.0, 0.01)
+        self.refused(4, caplet, 0.5, [2.0, 1.0], [0.94, 0.97], 0.03, 1.0, 2.0, 0.01)
+        self.refused(5, caplet, 0.5, *small, 0.03, 2.0, 1.0, 0.01)
+        self.refused(6, payer, 0.5, *pillars, *small, *coupons, [0.0], 0.03, 1.0, 1.0, 2.0)
+        self.refused(7, payer, 0.5, [], [], *small, *coupons, [0.0], 0.03, 1.0, 1.0, 1.0)
+        self.refused(8, caplet, 0.5, *small, 0.03, 1.0, 1.5, 0.01)
+        self.refused(8, caplet, 0.5, [], [], 0.03, 1.0, 1.5, 0.01)
+        self.refused(9, calstwid.swaption_price, 0.5, *small, [2.0, 2.0], [1.0, 0.0], -1.0, 1.0, 0.01)
+        self.refused(10, calstwid.swaption_price, 0.5, *small, *coupons, -3.0, 1.0, 0.01)
+        tiny = [0.0, 1e-300, H], [1.0, 1.0, 1.0]
+        self.refused(11, payer, 1.0, [0.0], [0.01], *tiny, [1e-300], [0.0], [0.0], 0.0, 0.0, 1.0, 1.0)
+        self.refused(12, calstwid.fit_caplet_black, 0.5, *small, 0.03, 1.0, 2.0, 1e-9)
+        self.refused(13, calstwid.bond_put_price, 0.5, [1.0, 2.0], [1e308, 1.0], 1.0, 2.0, 1e10, 0.01)
+
+    def test_sentences(self):
+        self.assertEqual(sorted(calstwid.SENTENCES), list(range(1, 14)))
+        refused = calstwid.Refused(3)
+        self.assertEqual(str(refused), "refused 3: alpha is zero or negative")
+        again = pickle.loads(pickle.dumps(refused))
+        self.assertEqual((again.number, again.sentence), (3, "alpha is zero or negative"))
+
+    def test_long_lists(self):
+        long = [float(i) for i in range(2048)]
+        flat = [1.0] * 2048
+        self.assertEqual(calstwid.bond_call_price(0.5, long, flat, 1, 2, 0.5, 0), 0.5)
+        self.refused(1, calstwid.bond_call_price, 0.5, long + [2048.0], flat + [1.0], 1, 2, 0.5, 0)
+        self.refused(1, calstwid.bond_call_price, 0.5, long, flat[:-1], 1, 2, 0.5, 0)
+        self.assertEqual(calstwid.volatility(long[:64], flat[:64], 70), 1.0)
+        self.refused(1, calstwid.volatility, long[:65], flat[:65], 70)
+        self.refused(1, calstwid.find_critical_rate, flat[:65], flat[:65], flat[:65])
+        self.refused(1, calstwid.find_critical_rate, [1.0], [1.0, 1.0], [1.0])
+        self.refused(1, calstwid.swap_annuity_from_curve, long, flat, [1.0] * 65, [1.0] * 65)
+
+    def test_lent_list(self):
+        d = desk()
+        lists = d.alpha, d.pillars, d.sigmas, d.times, d.factors, d.grid
+        before = array("d", [7.0, 8.0, 9.0, 10.0, 11.0])
+        out = array("d", before)
+        self.refused(2, calstwid.generate_into, *lists, [0.3, -1.1, NAN, 0.05], out)
+        self.refused(1, calstwid.generate_into, *lists, d.draws[:3], out)
+        self.refused(3, calstwid.generate_into, 0.0, *lists[1:], d.draws, out)
+        self.refused(8, calstwid.generate_into, *lists[:-1], [0.25, 0.5, 1.0, 1.25], d.draws, out)
+        short = array("d", [7.0, 8.0, 9.0])
+        self.refused(1, calstwid.generate_into, *lists, d.draws, short)
+        self.refused(1, calstwid.generate_into, *lists, d.draws, array("d"))
+        self.assertEqual((out, short), (before, before[:3]))
+        self.assertEqual(calstwid.generate_into(*lists, d.draws, out), 4)
+        path = calstwid.generate(*lists, d.draws)
+        self.assertEqual(out.tolist(), [*path, 11.0])
+        self.assertEqual(calstwid.generate(*lists[:-1], iter(d.grid), iter(d.draws)), path)
+        self.assertEqual(calstwid.generate(*lists[:-1], [], []), [])
+        shared = array("d", d.draws)
+        self.assertEqual((calstwid.generate_into(*lists, shared, shared), shared.tolist()), (4, path))
+        out = array("d", before)
+        self.refused(5, calstwid.transition_variances_into, d.alpha, d.pillars, d.sigmas, 5, 0.0, out)
+        self.refused(1, calstwid.transition_variances_into, d.alpha, d.pillars, d.sigmas, 6, 0.25, out)
+        self.assertEqual(out, before)
+        self.assertEqual(calstwid.transition_variances_into(d.alpha, d.pillars, d.sigmas, 4, 0.25, out), 4)
+        self.assertEqual(out.tolist(), [*calstwid.transition_variances(d.alpha, d.pillars, d.sigmas, 4, 0.25), 11.0])
+        for wrong in ([0.0] * 4, (0.0,) * 4, bytes(32), bytearray(32), array("f", [0.0] * 4), memoryview(before).toreadonly(), None, "text"):
+            with self.assertRaises(TypeError):
+                calstwid.generate_into(*lists, d.draws, wrong)
+
+
+class Lists(unittest.TestCase):
+    def price(self, times, factors):
+        return calstwid.bond_call_price(0.5, times, factors, 1, 2, 0.5, 0)
+
+    def test_sorts_of_lists(self):
+        times, factors = array("d", [1.0, 2.0]), array("d", [1.0, 1.0])
+        askew = memoryview(bytearray(1) + bytearray(times.tobytes()))[1:].cast("d")
+        sorts = [
+            [1.0, 2.0],
+            (1, 2),
+            range(1, 3),
+            iter([1, 2.0]),
+            times,
+            array("f", [1, 2]),
+            array("i", [1, 2]),
+            memoryview(times),
+            memoryview(times).toreadonly(),
+            memoryview(array("d", [1.0, 7.0, 2.0]))[::2],
+            askew,
+        ]
+        for one in sorts:
+            self.assertEqual(self.price(one, factors), 0.5)
+        self.assertEqual((times, factors), (array("d", [1.0, 2.0]), array("d", [1.0, 1.0])))
+
+    def test_lent_for_the_call_alone(self):
+        times, factors = array("d", [1.0, 2.0]), array("d", [1.0, 1.0])
+        self.assertEqual(self.price(times, factors), 0.5)
+        times.append(3.0)
+        factors.append(1.0)
+        self.assertEqual(self.price(times, factors), 0.5)
+
+    def test_numpy(self):
+        try:
+            import numpy
+        except ImportError:
+            self.skipTest("numpy is not at hand")
+        for kind in ("f8", "f4", "i8", ">f8", "u1"):
+            self.assertEqual(self.price(numpy.array([1, 2], kind), numpy.ones(2, kind)), 0.5)
+        self.assertEqual(self.price(numpy.array([1.0, 9.0, 2.0])[::2], numpy.ones(2)), 0.5)
+        self.assertEqual(calstwid.B(numpy.float64(0.5), numpy.float32(1), numpy.int64(2)), calstwid.B(0.5, 1, 2))
+        for wrong in (numpy.ones((2, 2)), numpy.float64(1), numpy.ones(2, complex), numpy.array(["1", "2"]), numpy.array([1, "2"], object)):
+            with self.assertRaises(TypeError):
+                self.price([1, 2], wrong)
+        d = desk()
+        out = numpy.zeros(4)
+        curve = calstwid.generate_into(d.alpha, d.pillars, d.sigmas, d.times, d.factors, d.grid, d.draws, out)
+        self.assertEqual((curve, out.tolist()), (4, calstwid.generate(d.alpha, d.pillars, d.sigmas, d.times, d.factors, d.grid, d.draws)))
+        self.assertEqual(calstwid.calibrate_to_instruments(0.1, d.times, d.factors, numpy.array([True]), [0.03], [1], [1.5], [0.0075]).statuses, (True,))
+
+    def test_no_numbers(self):
+        wrongs = ("12", b"\0" * 16, bytearray(16), None, 5, {1.0: 2.0}, {1.0, 2.0}, ["1", "2"], [1, None], [1, [2]], [1j, 2], [b"1"], object())
+        for wrong in wrongs:
+            with self.assertRaises(TypeError):
+                self.price(wrong, [1, 1])
+        for wrong in ("1", b"1", None, [1.0], 1j, object()):
+            with self.assertRaises(TypeError):
+                calstwid.bond_call_price(wrong, [1, 2], [1, 1], 1, 2, 0.5, 0)
+            with self.assertRaises(TypeError):
+                calstwid.exp(wrong)
+        with self.assertRaises(OverflowError):
+            calstwid.exp(10**400)
+        with self.assertRaises(TypeError):
+            calstwid.exp()
+
+    def test_frozen(self):
+        d1d2 = calstwid.d1_d2(0.03, 0.03, 0.2, 1)
+        with self.assertRaises(AttributeError):
+            d1d2.d1 = 0.0
+
+
+if __name__ == "__main__":
+    unittest.main()

@@ -1,0 +1,396 @@
+//! Holds the crate to the examples, to the fixed run files and to document 01's cases.
+use calstwid::*;
+use std::path::{Path, PathBuf};
+
+fn root() -> PathBuf {
+    Path::new(env!("CARGO_MANIFEST_DIR")).join("../..")
+}
+
+/// The lists of a run file, as a caller has them.
+struct RunFile {
+    alpha: f64,
+    pillars: [Vec<f64>; 2],
+    curve: [Vec<f64>; 2],
+    coupons: [Vec<f64>; 3],
+    grid: [Vec<f64>; 2],
+    jobs: Vec<(u64, [f64; 4])>,
+}
+
+fn word(bytes: &[u8], at: usize) -> u64 {
+    u64::from_le_bytes(bytes[at..at + 8].try_into().unwrap())
+}
+
+fn float(bytes: &[u8], at: usize) -> f64 {
+    f64::from_bits(word(bytes, at))
+}
+
+fn columns<const N: usize>(part: &[u8]) -> [Vec<f64>; N] {
+    std::array::from_fn(|column| (0..part.len() / (8 * N)).map(|row| float(part, 8 * (row * N + column))).collect())
+}
+
+impl RunFile {
+    fn read(data: &[u8]) -> RunFile {
+        let half = |at: usize| u32::from_le_bytes(data[at..at + 4].try_into().unwrap()) as usize;
+        let part = |place: usize| &data[half(8 * place)..half(8 * place) + half(8 * place + 4)];
+        let job = |at: &[u8]| (word(at, 0), [float(at, 8), float(at, 16), float(at, 24), float(at, 32)]);
+        RunFile {
+            alpha: float(part(0), 0),
+            pillars: columns(part(1)),
+            curve: columns(part(2)),
+            coupons: columns(part(3)),
+            grid: columns(part(4)),
+            jobs: part(5).chunks(40).map(job).collect(),
+        }
+    }
+
+    fn desk() -> RunFile {
+        RunFile::read(&std::fs::read(root().join("examples/desk.run")).unwrap())
+    }
+
+    fn curve(&self) -> Curve<'_> {
+        Curve { times: &self.curve[0], factors: &self.curve[1] }
+    }
+
+    fn pillars(&self) -> Pillars<'_> {
+        Pillars { times: &self.pillars[0], sigmas: &self.pillars[1] }
+    }
+
+    fn coupons(&self) -> Coupons<'_> {
+        Coupons { payments: &self.coupons[0], accruals: &self.coupons[1] }
+    }
+
+    fn path(&self) -> Result<Vec<f64>, Refusal> {
+        let mut out = vec![0.0; self.grid[0].len()];
+        let written = generate(self.alpha, self.pillars(), self.curve(), &self.grid[0], &self.grid[1], &mut out)?;
+        assert_eq!(written, out.len());
+        Ok(out)
+    }
+
+    /// The values and notes of a job, by the call of its kind.
+    fn call(&self, kind: u64, [a, b, c, d]: [f64; 4]) -> Result<Vec<(f64, u64)>, Refusal> {
+        let (alpha, curve, coupons, pillars, own) = (self.alpha, self.curve(), self.coupons(), self.pillars(), &self.coupons[2]);
+        let fitted = |fit: Fit| (fit.sigma, if fit.converged { fit.halvings } else { 0 });
+        let one = match kind {
+            1 => (caplet_price(alpha, curve, a, b, c, d)?, 0),
+            2 => (floorlet_price(alpha, curve, a, b, c, d)?, 0),
+            3 => (bond_put_price(alpha, curve, a, b, c, d)?, 0),
+            4 => (bond_call_price(alpha, curve, a, b, c, d)?, 0),
+            5 => (swaption_price(alpha, curve, coupons, a, b, c)?.value, 0),
+            6 => (payer_swaption_value(alpha, pillars, curve, coupons, own, a, b, c, d)?.value, 0),
+            7 => (receiver_swaption_value(alpha, pillars, curve, coupons, own, a, b, c, d)?.value, 0),
+            8 => fitted(fit_caplet_black(alpha, curve, a, b, c, d)?),
+            9 => fitted(fit_caplet_normal(alpha, curve, a, b, c, d)?),
+            10 => fitted(fit_swaption_black(alpha, curve, coupons, a, b, c)?),
+            11 => fitted(fit_swaption_normal(alpha, curve, coupons, a, b, c)?),
+            _ => {
+                let path: Vec<_> = self.path()?.into_iter().zip(0..).collect();
+                return Ok(if path.is_empty() { vec![(0.0, 0)] } else { path });
+            }
+        };
+        Ok(vec![one])
+    }
+
+    /// What the program prints, each job by its call.
+    fn printed(&self) -> String {
+        let mut lines = String::from("job kind answer value note\n");
+        for (place, &(kind, numbers)) in self.jobs.iter().enumerate() {
+            let (answer, results) = match self.call(kind, numbers) {
+                Ok(results) => (0, results),
+                Err(refusal) => (refusal.number(), vec![(0.0, 0)]),
+            };
+            for (value, note) in results {
+                lines += &format!("{place} {kind} {answer} {:016x} {note}\n", value.to_bits());
+            }
+        }
+        lines
+    }
+}
+
+fn held(name: &str, data: &[u8], expected: &[u8]) {
+    let expected = std::str::from_utf8(expected).unwrap();
+    assert_eq!(String::from_utf8(run_file(data)).unwrap(), expected, "{name}");
+    if expected != "refused 1\n" {
+        assert_eq!(RunFile::read(data).printed(), expected, "{name}");
+    }
+}
+
+#[test]
+fn whole_case() {
+    let mut data = Vec::new();
+    for half in [48u32, 8, 56, 0, 56, 32, 88, 0, 88, 0, 88, 80] {
+        data.extend(half.to_le_bytes());
+    }
+    for number in [0.5f64, 1.0, 1.0, 2.0, 1.0] {
+        data.extend(number.to_le_bytes());
+    }
+    for kind in [3u64, 4] {
+        data.extend(kind.to_le_bytes());
+        for number in [1.0f64, 2.0, 0.5, 0.0] {
+            data.extend(number.to_le_bytes());
+        }
+    }
+    held("whole case", &data, b"job kind answer value note\n0 3 0 0000000000000000 0\n1 4 0 3fe0000000000000 0\n");
+    let curve = Curve { times: &[1.0, 2.0], factors: &[1.0, 1.0] };
+    assert_eq!(bond_put_price(0.5, curve, 1.0, 2.0, 0.5, 0.0).map(f64::to_bits), Ok(0));
+    assert_eq!(bond_call_price(0.5, curve, 1.0, 2.0, 0.5, 0.0), Ok(0.5));
+}
+
+#[test]
+fn examples() {
+    let mut seen = 0;
+    for entry in std::fs::read_dir(root().join("examples")).unwrap() {
+        let path = entry.unwrap().path();
+        if path.extension().is_some_and(|ending| ending == "run") {
+            held(&path.display().to_string(), &std::fs::read(&path).unwrap(), &std::fs::read(path.with_extension("out")).unwrap());
+            seen += 1;
+        }
+    }
+    assert!(seen >= 15);
+}
+
+#[test]
+fn fixed_run_files() {
+    let list = std::fs::read(root().join("oracle/fixed/list.bin")).unwrap();
+    let mut at = 0;
+    let mut part = || {
+        let size = u32::from_le_bytes(list[at..at + 4].try_into().unwrap());
+        at += 4;
+        (size != u32::MAX).then(|| {
+            at += size as usize;
+            &list[at - size as usize..at]
+        })
+    };
+    let mut seen = 0;
+    while let Some(run) = part() {
+        held(&format!("entry {seen}"), run, part().unwrap());
+        seen += 1;
+    }
+    assert_eq!(seen, 570);
+}
+
+#[test]
+fn files_that_break_their_layout() {
+    for data in [vec![], vec![0], vec![0; 48], vec![0; 65_536], vec![0; 65_537]] {
+        assert_eq!(run_file(&data), b"refused 1\n");
+    }
+    let mut short = vec![7; PIECE_BYTES - 1];
+    assert_eq!(piece(&[], 0, &mut short), Err(Refusal::Size));
+    assert!(short.iter().all(|&byte| byte == 7));
+    assert_eq!(piece(&[], usize::MAX, &mut vec![0; PIECE_BYTES]), Ok(0));
+}
+
+/// README's numbers.
+#[test]
+fn desk() {
+    let desk = RunFile::desk();
+    let (alpha, curve, coupons, pillars) = (desk.alpha, desk.curve(), desk.coupons(), desk.pillars());
+    assert_eq!(caplet_price(alpha, curve, 0.03, 1.0, 1.5, 0.01), Ok(0.0018520317606408843));
+    assert_eq!(floorlet_price(alpha, curve, 0.03, 1.0, 1.5, 0.01), Ok(0.0017439422727289755));
+    assert_eq!(bond_put_price(alpha, curve, 1.0, 5.0, 0.88, 0.01), Ok(0.007709327124727912));
+    assert_eq!(bond_call_price(alpha, curve, 1.0, 5.0, 0.88, 0.01), Ok(0.014425234027098555));
+    let model = swaption_price(alpha, curve, coupons, 0.031, 1.0, 0.01).unwrap();
+    assert_eq!(model.value, 0.010713537784161791);
+    let payer = payer_swaption_value(alpha, pillars, curve, coupons, &[0.0; 4], 0.031, 1.0, 1e6, 1.0).unwrap();
+    assert_eq!(payer.value, 10713.537784161801);
+    let receiver = receiver_swaption_value(alpha, pillars, curve, coupons, &[0.0; 4], 0.031, 1.0, 1e6, -1.0).unwrap();
+    assert_eq!(receiver.value, -12679.02875263987);
+    for (bracket, rate) in [(model.bracket, model.rate), (payer.bracket, payer.rate)] {
+        assert!(bracket.lower <= rate && rate <= bracket.upper);
+        assert!(bracket.lower_sum >= 1.0 && bracket.upper_sum <= 1.0);
+        assert_eq!((bracket.lower_rung, bracket.upper_rung), (0, 0));
+    }
+    assert!((payer.stepped - payer.rate).abs() < 1e-12);
+    for (fit, sigma, halvings) in [
+        (fit_caplet_black(alpha, curve, 0.03, 1.0, 1.5, 0.25), 0.007965961463308302, 37),
+        (fit_caplet_normal(alpha, curve, 0.03, 1.0, 1.5, 0.0075), 0.00795676143695671, 36),
+        (fit_swaption_black(alpha, curve, coupons, 0.031, 1.0, 0.22), 0.008309960890466608, 39),
+        (fit_swaption_normal(alpha, curve, coupons, 0.031, 1.0, 0.007), 0.008622592662243852, 40),
+    ] {
+        let fit = fit.unwrap();
+        assert_eq!((fit.sigma, fit.halvings, fit.converged), (sigma, halvings, true));
+        assert!(fit.residual.abs() < 1e-12 && fit.low < sigma && sigma < fit.high);
+        assert!(fit.low_residual < 0.0 && fit.high_residual > 0.0);
+    }
+    assert_eq!(desk.path(), Ok(vec![0.031512192643853264, 0.025986290645509974, 0.031659410562398474, 0.03215463750724506]));
+}
+
+#[test]
+fn basket() {
+    let desk = RunFile::desk();
+    let (alpha, curve) = (desk.alpha, desk.curve());
+    let caplets = Caplets { normals: &[false, true], strikes: &[0.03; 2], starts: &[1.0; 2], ends: &[1.5; 2], vols: &[0.25, 0.0075] };
+    let basket = calibrate_to_instruments(alpha, curve, caplets).unwrap();
+    let alone = [fit_caplet_black(alpha, curve, 0.03, 1.0, 1.5, 0.25), fit_caplet_normal(alpha, curve, 0.03, 1.0, 1.5, 0.0075)];
+    let bumped = fit_caplet_black(alpha, curve, 0.03, 1.0, 1.5, 0.25 + 1e-6).unwrap();
+    assert_eq!(basket.sigmas, alone.map(|fit| fit.unwrap().sigma));
+    assert_eq!(basket.residuals, alone.map(|fit| fit.unwrap().residual));
+    assert_eq!((basket.statuses, basket.halvings, basket.bumped_statuses), (vec![true; 2], vec![37, 36], vec![true; 2]));
+    assert_eq!(basket.diagonal[0], (bumped.sigma - alone[0].unwrap().sigma) / 1e-6);
+    let none = Caplets { normals: &[], strikes: &[], starts: &[], ends: &[], vols: &[] };
+    assert_eq!(calibrate_to_instruments(alpha, curve, none).unwrap().sigmas, []);
+    let one = [0.03; 65];
+    let many = Caplets { normals: &[false; 65], strikes: &one, starts: &[1.0; 65], ends: &[1.5; 65], vols: &[0.25; 65] };
+    assert_eq!(calibrate_to_instruments(alpha, curve, many), Err(Refusal::Size));
+    assert_eq!(calibrate_to_instruments(alpha, curve, Caplets { normals: &[false], ..caplets }), Err(Refusal::Size));
+    assert_eq!(calibrate_to_instruments(alpha, curve, Caplets { vols: &[0.25, 0.0], ..caplets }), Err(Refusal::Domain));
+}
+
+/// Document 01's proved cases.
+#[test]
+fn numbers() {
+    assert_eq!((norm_cdf(0.0), norm_cdf(38.0), norm_cdf(-38.0)), (0.5, 1.0, 0.0));
+    assert_eq!((norm_cdf_dual(38.0), norm_cdf_dual(-38.0)), (1.0, 0.0));
+    assert_eq!((exp(0.0), ln(1.0), sqrt(4.0), fused(2.0, 3.0, 1.0)), (1.0, 0.0, 2.0, 7.0));
+    assert_eq!(sqrt(-0.0).to_bits(), (-0.0f64).to_bits());
+    assert_eq!((signum(-0.0), signum(0.0)), (-1.0, 1.0));
+    assert_eq!((midpoint(1.0, 4.0), max(1.0, 2.0), min(1.0, 2.0), max(f64::NAN, 2.0), min(2.0, f64::NAN)), (2.5, 2.0, 1.0, 2.0, 2.0));
+    for either in [max, min] {
+        assert_eq!([either(0.0, -0.0), either(-0.0, 0.0)].map(f64::to_bits), [0.0f64, -0.0].map(f64::to_bits));
+    }
+    assert!(near(exp(1.7), 1.7f64.exp()) && near(exp_m1(0.3), 0.3f64.exp_m1()) && near(ln(7.5), 7.5f64.ln()));
+    assert!(near(norm_pdf(0.7), (-0.245f64).exp() / (2.0 * std::f64::consts::PI).sqrt()));
+    assert!(near(norm_cdf(1.96), 0.9750021048517795) && near(norm_cdf_dual(1.96), 0.9750021048517795));
+    assert!(exp(f64::NAN).is_nan() && ln(-1.0).is_nan());
+}
+
+fn near(one: f64, other: f64) -> bool {
+    (one - other).abs() < 1e-12
+}
+
+/// The calls that are no kind, beside what they stand for: an argument out of place is seen here.
+#[test]
+fn formulas() {
+    let desk = RunFile::desk();
+    let (curve, pillars) = (desk.curve(), desk.pillars());
+    let p = |time: f64| curve.factors[curve.times.iter().position(|&t| t == time).unwrap()];
+    let (alpha, t, bond, sigma) = (0.1f64, 1.0f64, 4.0f64, 0.012f64);
+    let b = (1.0 - (-alpha * (bond - t)).exp()) / alpha;
+    let state = sigma * sigma * (1.0 - (-2.0 * alpha * t).exp()) / (2.0 * alpha);
+    let forward = forward_rate_from_curve(curve, t).unwrap();
+    let a = p(bond) / p(t) * (b * forward - state * b * b / 2.0).exp();
+    assert!(near(B(alpha, t, bond).unwrap(), b) && (forward - 0.03).abs() < 1e-10);
+    assert!(near(A(alpha, curve, t, bond, sigma).unwrap(), a));
+    assert!(near(zcb_price(alpha, curve, 0.02, t, bond, sigma).unwrap(), a * (-b * 0.02).exp()));
+    assert!(near(zcb_price_volatility(alpha, sigma, t, bond).unwrap(), b * state.sqrt()));
+    let spread = sigma * sigma * (1.0 - (-2.0 * alpha * (bond - t)).exp()) / (2.0 * alpha);
+    assert!(near(short_rate_variance(alpha, t, bond, sigma).unwrap(), spread));
+    let days = [0.0, 1.0 / 365.0, 2.0 / 365.0];
+    let factors = days.map(|day: f64| (-0.03 * day).exp());
+    assert!((theta(alpha, Curve { times: &days, factors: &factors }, 0.0, sigma).unwrap() - alpha * 0.03).abs() < 1e-6);
+
+    assert_eq!([0.0, 0.5, 0.75, 1.0, 9.0].map(|t| volatility(pillars, t).unwrap()), [0.010, 0.010, 0.010, 0.011, 0.012]);
+    assert_eq!([0.0, 0.5, 0.75, 1.0, 9.0].map(|t| pillars_reached(pillars, t).unwrap().len()), [0, 1, 1, 2, 3]);
+    assert_eq!(pillars_reached(pillars, 1.0), Ok(&[0.5, 1.0][..]));
+    assert_eq!(volatility(Pillars { times: &[], sigmas: &[] }, 1.0), Err(Refusal::Empty));
+    let step = |s: f64, a: f64, b: f64| s * s * ((2.0 * alpha * b).exp() - (2.0 * alpha * a).exp()) / (2.0 * alpha);
+    let whole = (-2.0 * alpha * 1.5).exp() * (step(0.010, 0.25, 1.0) + step(0.011, 1.0, 1.5));
+    assert!(near(hull_white_piecewise_variance(alpha, pillars, 0.25, 1.5).unwrap(), whole));
+
+    let (fwd, strike, vol, tau) = (0.031f64, 0.028f64, 0.22f64, 1.5f64);
+    let d = d1_d2(fwd, strike, vol, tau).unwrap();
+    let d1 = ((fwd / strike).ln() + vol * vol * tau / 2.0) / (vol * tau.sqrt());
+    assert!(near(d.d1, d1) && near(d.d2, d1 - vol * tau.sqrt()));
+    let (call, put) = (black_call(fwd, strike, vol, tau).unwrap(), black_put(fwd, strike, vol, tau).unwrap());
+    assert!(near(call, fwd * norm_cdf(d.d1) - strike * norm_cdf(d.d2)) && near(call - put, fwd - strike));
+    let s = 0.007 * tau.sqrt();
+    let x = (fwd - strike) / s;
+    assert!(near(bachelier_call(fwd, strike, 0.007, tau).unwrap(), (fwd - strike) * norm_cdf(x) + s * norm_pdf(x)));
+    let annuity = swap_annuity_from_curve(curve, Coupons { payments: &[2.0, 4.0], accruals: &[0.5, 2.0] }).unwrap();
+    assert!(near(annuity, 0.5 * p(2.0) + 2.0 * p(4.0)));
+}
+
+#[test]
+fn critical_rates() {
+    let term = |coefficient| find_critical_rate(Terms { coefficients: &[coefficient], affines: &[1.0], b: &[0.0] });
+    assert_eq!(term(1.0).unwrap().rate, -0.5);
+    assert_eq!((term(2.0), term(0.5)), (Err(Refusal::NoBracket), Err(Refusal::NoBracket)));
+    let flat = Terms { coefficients: &[1.0], affines: &[1.0], b: &[0.0] };
+    assert_eq!(implicit_critical_rate(flat), Err(Refusal::FlatDerivative));
+    let apart = Terms { coefficients: &[1.0, -1.0], affines: &[1.0, 1.0], b: &[1.0, 1.0] };
+    assert_eq!(find_critical_rate(apart), Err(Refusal::NanReached));
+    let terms = Terms { coefficients: &[0.5, 0.6], affines: &[0.98, 0.95], b: &[1.0, 2.0] };
+    let (found, stepped) = (find_critical_rate(terms).unwrap(), implicit_critical_rate(terms).unwrap());
+    assert!(near(0.5 * 0.98 * (-found.rate).exp() + 0.6 * 0.95 * (-2.0 * found.rate).exp(), 1.0));
+    assert_eq!((stepped.rate, stepped.bracket), (found.rate, found.bracket));
+    assert!(near(stepped.stepped, stepped.rate));
+}
+
+/// A call that each number turns down.
+#[test]
+fn refusals() {
+    let h = 1.0 / 365.0;
+    let small = Curve { times: &[0.0, h, 1.0, 1.0 + h, 2.0], factors: &[1.0, 1.0, 0.97, 0.9699, 0.94] };
+    let caplet = |alpha, curve, start, end, sigma| caplet_price(alpha, curve, 0.03, start, end, sigma);
+    let (coupons, pillars) = (Coupons { payments: &[2.0], accruals: &[1.0] }, Pillars { times: &[1.0], sigmas: &[0.01] });
+    let payer = |pillars, side| payer_swaption_value(0.5, pillars, small, coupons, &[0.0], 0.03, 1.0, 1.0, side).map(|it| it.value);
+    let twice = Coupons { payments: &[2.0, 2.0], accruals: &[1.0, 0.0] };
+    let tiny = Curve { times: &[0.0, 1e-300, h], factors: &[1.0; 3] };
+    let at_once = Coupons { payments: &[1e-300], accruals: &[0.0] };
+    let from_0 = Pillars { times: &[0.0], sigmas: &[0.01] };
+    let all = [
+        caplet(0.5, Curve { times: &[1.0, 2.0], factors: &[1.0] }, 1.0, 2.0, 0.01),
+        caplet(0.5, small, 1.0, 2.0, f64::NAN),
+        caplet(0.0, small, 1.0, 2.0, 0.01),
+        caplet(0.5, Curve { times: &[2.0, 1.0], factors: &[0.94, 0.97] }, 1.0, 2.0, 0.01),
+        caplet(0.5, small, 2.0, 1.0, 0.01),
+        payer(pillars, 2.0),
+        payer(Pillars { times: &[], sigmas: &[] }, 1.0),
+        caplet(0.5, small, 1.0, 1.5, 0.01),
+        swaption_price(0.5, small, twice, -1.0, 1.0, 0.01).map(|it| it.value),
+        swaption_price(0.5, small, coupons, -3.0, 1.0, 0.01).map(|it| it.value),
+        payer_swaption_value(1.0, from_0, tiny, at_once, &[0.0], 0.0, 0.0, 1.0, 1.0).map(|it| it.value),
+        fit_caplet_black(0.5, small, 0.03, 1.0, 2.0, 1e-9).map(|it| it.sigma),
+        bond_put_price(0.5, Curve { times: &[1.0, 2.0], factors: &[1e308, 1.0] }, 1.0, 2.0, 1e10, 0.01),
+    ];
+    assert_eq!(Refusal::ALL.len(), all.len());
+    for (place, outcome) in all.into_iter().enumerate() {
+        let refusal = outcome.unwrap_err();
+        assert_eq!((refusal, refusal.number()), (Refusal::ALL[place], place as u64 + 1));
+        assert_eq!(refusal.to_string(), format!("refused {}: {}", place + 1, refusal.sentence()));
+    }
+    assert_eq!(caplet(0.5, Curve { times: &[], factors: &[] }, 1.0, 2.0, 0.01), Err(Refusal::OffCurve));
+    let error: Box<dyn std::error::Error> = Refusal::MeanReversion.into();
+    assert_eq!(error.to_string(), "refused 3: alpha is zero or negative");
+}
+
+#[test]
+fn long_and_unpaired_lists() {
+    let times: Vec<f64> = (0..2049).map(f64::from).collect();
+    let factors = vec![1.0; 2049];
+    let call = |n: usize, m: usize| bond_call_price(0.5, Curve { times: &times[..n], factors: &factors[..m] }, 1.0, 2.0, 0.5, 0.0);
+    assert_eq!(call(2048, 2048), Ok(0.5));
+    assert_eq!(call(2049, 2049), Err(Refusal::Size));
+    assert_eq!(call(2048, 2047), Err(Refusal::Size));
+    let pillars = |n: usize| volatility(Pillars { times: &times[..n], sigmas: &factors[..n] }, 70.0);
+    assert_eq!((pillars(64), pillars(65)), (Ok(1.0), Err(Refusal::Size)));
+    let terms = Terms { coefficients: &[1.0; 65], affines: &[1.0; 65], b: &[1.0; 65] };
+    assert_eq!(find_critical_rate(terms), Err(Refusal::Size));
+    assert_eq!(find_critical_rate(Terms { affines: &[1.0; 64], ..terms }), Err(Refusal::Size));
+}
+
+#[test]
+fn lent_lists() {
+    let desk = RunFile::desk();
+    let (alpha, pillars, curve, grid, draws) = (desk.alpha, desk.pillars(), desk.curve(), &desk.grid[0][..], &desk.grid[1][..]);
+    let before = [7.0, 8.0, 9.0, 10.0, 11.0];
+    let mut out = before;
+    assert_eq!(generate(alpha, pillars, curve, grid, &[0.3, -1.1, f64::NAN, 0.05], &mut out), Err(Refusal::NotFinite));
+    assert_eq!(generate(alpha, pillars, curve, grid, &draws[..3], &mut out), Err(Refusal::Size));
+    assert_eq!(generate(0.0, pillars, curve, grid, draws, &mut out), Err(Refusal::MeanReversion));
+    assert_eq!(generate(alpha, pillars, curve, &[0.25, 0.5, 1.0, 1.25], draws, &mut out), Err(Refusal::OffCurve));
+    assert_eq!(generate(alpha, pillars, curve, grid, draws, &mut out[..3]), Err(Refusal::Size));
+    assert_eq!(generate(alpha, pillars, curve, grid, draws, &mut []), Err(Refusal::Size));
+    assert_eq!(out, before);
+    assert_eq!(generate(alpha, pillars, curve, &[], &[], &mut out), Ok(0));
+    assert_eq!(generate(alpha, pillars, curve, grid, draws, &mut out), Ok(4));
+    assert_eq!((&out[..4], out[4]), (&desk.path().unwrap()[..], 11.0));
+
+    let mut out = before;
+    assert_eq!(transition_variances(alpha, pillars, 5, 0.0, &mut out), Err(Refusal::Times));
+    assert_eq!(transition_variances(alpha, pillars, 6, 0.25, &mut out), Err(Refusal::Size));
+    assert_eq!(transition_variances(alpha, pillars, 1025, 0.25, &mut [0.0; 2000]), Err(Refusal::Size));
+    assert_eq!(out, before);
+    assert_eq!(transition_variances(alpha, pillars, 4, 0.25, &mut out), Ok(4));
+    assert!(near(out[0], hull_white_piecewise_variance(alpha, pillars, 0.0, 0.25).unwrap()));
+    assert_eq!(out[4], 11.0);
+}
