@@ -18,7 +18,7 @@ LIMITS = {
     "CALSTWID_MAX_CURVE": ("crates/refusals/specs/Faults.antt", r"curveFaults \w+ \w+ = record \{\s*size = ltb (\d+) "),
     "CALSTWID_MAX_COUPONS": ("crates/refusals/specs/Faults.antt", r"couponFaults \w+ \w+ = record \{\s*size = ltb (\d+) "),
     "CALSTWID_MAX_GRID": ("crates/refusals/specs/Faults.antt", r"gridFaults \w+ \w+ = record \{\s*size = ltb (\d+) "),
-    "CALSTWID_MAX_TERMS": ("crates/search_critical_rate/specs/Find.antt", r"rule R\.Size \(ltb (\d+) \(length cs\)"),
+    "CALSTWID_MAX_TERMS": ("crates/pricer_critical_rate/specs/Find.antt", r"rule R\.Size \(ltb (\d+) \(length cs\)"),
     "CALSTWID_MAX_BASKET": ("crates/basket_entries/specs/Entries.antt", r"sizeWrong [\w ]+ = ltb (\d+) "),
     "CALSTWID_MAX_STEPS": ("crates/hullwhite_transitions/specs/Transition.antt", r"rule R\.Size \([^\n]*ltb (\d+) steps"),
     "CALSTWID_MAX_FILE_BYTES": ("crates/file_layout/specs/Layout.antt", r"bounded size = leb size (\d+) "),
