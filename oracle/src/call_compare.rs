@@ -38,6 +38,10 @@ pub fn main(args: &[String]) -> i32 {
         #[cfg(calls)]
         ["library-calls", count, seed] => two(count, seed).map(|(count, seed)| compare(count, seed)),
         #[cfg(calls)]
+        ["library-call", "-"] => std::io::read_to_string(std::io::stdin())
+            .map_err(|error| format!("standard input: {error}"))
+            .and_then(|line| one(&line)),
+        #[cfg(calls)]
         ["library-call", line @ ..] => one(&line.join(" ")),
         #[cfg(calls)]
         ["library-slips", count, seed] => two(count, seed).map(|(count, seed)| slips(count, seed)),

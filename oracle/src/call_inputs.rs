@@ -23,9 +23,8 @@ const TINY: f64 = 5e-324;
 /// How many of some 1,000 calls are of a function: few of what takes long.
 fn weight(name: &str) -> u64 {
     match name {
-        "fit_swaption_black" | "fit_swaption_normal" => 14,
-        "calibrate_to_instruments" => 12,
-        "fit_caplet_black" | "fit_caplet_normal" => 20,
+        "calibrate_to_instruments" => 18,
+        "fit_caplet_black" | "fit_caplet_normal" | "fit_swaption_black" | "fit_swaption_normal" => 24,
         "swaption_price" | "payer_swaption_value" | "receiver_swaption_value" | "generate" => 28,
         "find_critical_rate" | "implicit_critical_rate" | "transition_variances" | "piece" => 26,
         _ if FUNCTIONS.iter().any(|function| function.name == name && function.is_ground()) => 18,
@@ -40,7 +39,11 @@ pub struct Inputs {
     drawn: u64,
     next_file: u64,
     next_basket: u64,
-    jobs: BTreeMap<u64, VecDeque<(Rc<Run>, Job)>>,
+    /// Jobs by kind, those of a rare category apart.
+    jobs: BTreeMap<(u64, &'static str), VecDeque<(Rc<Run>, Job)>>,
+    /// How often a function was planted a fault, and each rule of it.
+    plans: BTreeMap<usize, usize>,
+    turns: BTreeMap<(usize, u64), usize>,
     pieces: VecDeque<Call>,
     written_terms: usize,
 }
@@ -55,6 +58,8 @@ impl Inputs {
             next_file: 0,
             next_basket: 0,
             jobs: BTreeMap::new(),
+            plans: BTreeMap::new(),
+            turns: BTreeMap::new(),
             pieces: VecDeque::new(),
             written_terms: 0,
         }
@@ -83,22 +88,31 @@ impl Inputs {
         if call.table().is_ground() || call.name() == "piece" || sound {
             return call;
         }
-        let dice = &mut self.dice;
-        let faults = match dice.below(16) {
-            0..=7 => 0,
-            8..=11 => 1,
-            12..=13 => 2,
-            _ => {
-                odd(dice, &mut call);
-                dice.below(2)
-            }
-        };
-        for _ in 0..faults {
-            let rules = rules(call.name());
-            let rule = rules[dice.below(rules.len() as u64) as usize];
-            fault(dice, &mut call, rule);
+        match self.dice.below(16) {
+            0..=5 => {}
+            6..=7 => odd(&mut self.dice, &mut call),
+            _ => self.plant(&mut call),
         }
         call
+    }
+
+    /// The next faults in turn: of one rule, of a rule and the next, of a rule and
+    /// any other.
+    fn plant(&mut self, call: &mut Call) {
+        let rules = rules(call.name());
+        let plan = self.plans.entry(call.function).or_default();
+        let at = *plan % rules.len();
+        let second = match *plan / rules.len() % 5 {
+            1 | 3 => rules.get(at + 1),
+            4 => Some(pick(&mut self.dice, &rules)),
+            _ => None,
+        };
+        *plan += 1;
+        for rule in [Some(&rules[at]), second].into_iter().flatten() {
+            let turn = self.turns.entry((call.function, *rule)).or_default();
+            *turn += 1;
+            fault(&mut self.dice, call, *rule, *turn);
+        }
     }
 
     fn base(&mut self, function: usize) -> Call {
@@ -119,31 +133,62 @@ impl Inputs {
 
     // ------------------------------------------------ from the other makers
 
-    /// The next job of that kind in generated run files.
+    /// The next job of that kind in generated run files, now and then in those of a
+    /// rare category.
     fn job(&mut self, kind: u64) -> Vec<Arg> {
+        let categories = rare(kind);
+        let mut rare = if categories.is_empty() || self.dice.below(4) > 0 {
+            ""
+        } else {
+            *pick(&mut self.dice, categories)
+        };
         loop {
-            if let Some((run, job)) = self.jobs.get_mut(&kind).and_then(VecDeque::pop_front) {
+            if let Some((run, job)) = self.jobs.get_mut(&(kind, rare)).and_then(VecDeque::pop_front) {
                 return arguments(&run, &job);
             }
-            let (bytes, _) = generate::generate(self.seed, self.next_file);
+            let bytes = if rare.is_empty() {
+                generate::generate(self.seed, self.next_file).0
+            } else {
+                generate::of_category(rare, self.seed, self.next_file)
+            };
             self.next_file += 1;
             let Some(run) = judge::read(&bytes, Slip::Nothing) else {
                 continue;
             };
             let run = Rc::new(run);
             for job in &run.jobs {
-                let waiting = self.jobs.entry(job.kind).or_default();
+                let waiting = self.jobs.entry((job.kind, rare)).or_default();
                 // Files of many jobs of one kind do not crowd out the others.
                 if waiting.len() < 400 {
                     waiting.push_back((Rc::clone(&run), *job));
                 }
             }
+            if !self.jobs.contains_key(&(kind, rare)) {
+                rare = ""; // a category without jobs of this kind
+            }
         }
     }
 
     fn basket(&mut self) -> Vec<Arg> {
-        let ask = baskets::request(self.seed, self.next_basket);
+        let mut ask = baskets::request(self.seed, self.next_basket);
         self.next_basket += 1;
+        if self.dice.below(10) == 0 {
+            // Fits whose end residuals overflow: a basket meets 13 by one of them.
+            let bytes = generate::of_category("limit/overflowing-fit", self.seed, self.next_basket);
+            let run = judge::read(&bytes, Slip::Nothing).expect("a sound file");
+            let from = self.dice.below(run.jobs.len() as u64) as usize;
+            let quotes = run.jobs.iter().skip(from).take(1 + self.dice.below(2) as usize);
+            ask.entries = quotes
+                .map(|job| judge::Caplet {
+                    normal: job.kind == 9,
+                    strike: job.a,
+                    start: job.b,
+                    end: job.c,
+                    volatility: job.d,
+                })
+                .collect();
+            (ask.alpha, ask.curve) = (run.alpha, run.curve);
+        }
         let entries = |field: fn(&judge::Caplet) -> f64| {
             Arg::Floats(ask.entries.iter().map(field).collect())
         };
@@ -204,6 +249,24 @@ impl Inputs {
             }
         }
         self.pieces.pop_front().unwrap()
+    }
+}
+
+/// Categories of files in which a kind's rarer answers are.
+fn rare(kind: u64) -> &'static [&'static str] {
+    match kind {
+        5 => &["limit/overflowing-sum", "limit/mixed-signs", "limit/rungs", "limit/wild-terms"],
+        6 | 7 => &[
+            "near/derivative",
+            "limit/newton-nan",
+            "limit/overflowing-sum",
+            "limit/rungs",
+            "limit/mixed-signs",
+            "limit/wide-bracket",
+        ],
+        8 | 9 => &["limit/overflowing-fit", "refusal/fit-order", "fit/zero-residual", "near/tolerance"],
+        10 | 11 => &["limit/overflowing-swap-fit", "refusal/fit-order", "limit/rungs", "limit/mixed-signs", "limit/wild-terms"],
+        _ => &[],
     }
 }
 
@@ -372,6 +435,12 @@ fn curve(dice: &mut Dice, needed: &[f64]) -> [Arg; 2] {
         let last = times.last().copied().unwrap_or(0.0);
         times.push(last.max(0.0) + 0.25);
     }
+    for time in &mut times {
+        // A zero of the other sign is the same time.
+        if *time == 0.0 && dice.below(3) == 0 {
+            *time = -*time;
+        }
+    }
     let level = dice.between(-0.02, 0.08);
     let any = dice.below(16) == 0;
     let scale = if dice.below(12) == 0 { dice.log_between(1e-6, 1e9) } else { 1.0 };
@@ -477,8 +546,13 @@ fn made(dice: &mut Dice, name: &str) -> Vec<Arg> {
                 2 => 65,
                 _ => 1 + dice.below(8),
             };
+            let from = match dice.below(6) {
+                0 => -0.5,
+                1 => -1.0,
+                _ => t,
+            };
             let mut payments: Vec<f64> =
-                (1..=count).map(|place| t + place as f64 * 0.5).collect();
+                (1..=count).map(|place| from + place as f64 * 0.5).collect();
             let [times, factors] = curve(dice, &payments);
             if dice.below(4) == 0 {
                 payments.reverse();
@@ -594,15 +668,17 @@ fn ground(dice: &mut Dice, name: &str) -> Vec<f64> {
                 3 => *pick(dice, &[f64::NAN, 0.0, -0.0, TINY, f64::INFINITY, f64::NEG_INFINITY]),
                 _ => dice.float(),
             };
-            match dice.below(6) {
+            match dice.below(8) {
                 0 => vec![sign * 0.0, -sign * 0.0],
                 1 => vec![y, x],
+                2 => vec![sign * f64::from_bits(dice.below(100)), f64::from_bits(dice.below(0x0020_0000_0000_0000))],
                 _ => vec![x, y],
             }
         }
         "sqrt" if aimed => {
             let root = wild(dice);
-            vec![match dice.below(4) {
+            vec![match dice.below(5) {
+                4 => sign * 0.0,
                 0 => root * root,
                 1 => beside(dice, root * root),
                 2 => f64::from_bits(dice.below(0x0010_0000_0000_0000)),
@@ -611,8 +687,7 @@ fn ground(dice: &mut Dice, name: &str) -> Vec<f64> {
         }
         "exp" | "exp_m1" | "norm_pdf" if aimed => {
             // Ties of k, the ends of the range, the series' own range.
-            let half = (dice.below(2200) as f64 - 1100.0) / 2.0;
-            let tie = half / 1.4426950408889634;
+            let tie = tie(dice);
             vec![match dice.below(6) {
                 0 => tie,
                 1 => beside(dice, tie),
@@ -647,6 +722,23 @@ fn ground(dice: &mut Dice, name: &str) -> Vec<f64> {
         "signum" if aimed => vec![*pick(dice, &[0.0, -0.0, TINY, -TINY, f64::NAN, f64::INFINITY, f64::NEG_INFINITY])],
         _ => vec![x],
     }
+}
+
+/// An argument of exp whose product with 1/ln 2 is a whole number and a half, if
+/// one is found.
+fn tie(dice: &mut Dice) -> f64 {
+    let mut near = 0.5;
+    for _ in 0..40 {
+        let half = dice.below(1000) as f64 - 500.0 + 0.5;
+        near = half / 1.4426950408889634;
+        for steps in [0, 1, u64::MAX] {
+            let x = f64::from_bits(near.to_bits().wrapping_add(steps));
+            if x * 1.4426950408889634 == half {
+                return x;
+            }
+        }
+    }
+    near
 }
 
 // -------------------------------------------------------------------- faults
@@ -714,22 +806,20 @@ fn element<'a>(dice: &mut Dice, call: &'a mut Call, argument: &str) -> Option<&'
     }
 }
 
-fn some_of(dice: &mut Dice, call: &Call, arguments: &[&'static str]) -> Option<&'static str> {
+/// Of these arguments those that the call has, in turn.
+fn some_of(turn: usize, call: &Call, arguments: &[&'static str]) -> Option<&'static str> {
     let have: Vec<&'static str> =
         arguments.iter().copied().filter(|one| call.table().position(one).is_some()).collect();
-    if have.is_empty() {
-        None
-    } else {
-        Some(*pick(dice, &have))
-    }
+    have.get(turn % have.len().max(1)).copied()
 }
 
-/// A fault that mostly, not always, has the call refused with that number.
-fn fault(dice: &mut Dice, call: &mut Call, rule: u64) {
+/// A fault that mostly, not always, has the call refused with that number; its ways
+/// in turn.
+fn fault(dice: &mut Dice, call: &mut Call, rule: u64, turn: usize) {
     match rule {
-        1 => lengths(dice, call),
+        1 => lengths(dice, call, turn),
         2 => {
-            let place = dice.below(call.args.len() as u64) as usize;
+            let place = turn % call.args.len();
             let (argument, kind) = call.table().arguments[place];
             let value = bad(dice);
             match kind {
@@ -746,12 +836,12 @@ fn fault(dice: &mut Dice, call: &mut Call, rule: u64) {
             let value = *pick(dice, &[0.0, -0.0, -0.5, -TINY, -1e-12, -f64::MAX]);
             set(call, "alpha", value);
         }
-        4 => times(dice, call),
-        5 => early(dice, call),
+        4 => times(dice, call, turn),
+        5 => early(dice, call, turn),
         6 => {
             let value = *pick(dice, &[0.0, -0.0, -1.0, -0.01, -TINY]);
             let some = some_of(
-                dice,
+                turn,
                 call,
                 &["sigma", "sigmas", "vol", "vols", "strike", "strikes", "factors", "own_dfs", "side", "factors"],
             );
@@ -774,7 +864,7 @@ fn fault(dice: &mut Dice, call: &mut Call, rule: u64) {
         }
         7 => {
             let names = ["pillars", "payments"];
-            let Some(argument) = some_of(dice, call, &names) else {
+            let Some(argument) = some_of(turn, call, &names) else {
                 return;
             };
             let place = call.table().position(argument);
@@ -784,11 +874,12 @@ fn fault(dice: &mut Dice, call: &mut Call, rule: u64) {
                 }
             }
         }
-        8 => lookups(dice, call),
+        8 => lookups(dice, call, turn),
+        _ if turn % 2 == 0 && overflow(dice, call) => {}
         _ => {
             let number = *pick(dice, &[f64::MAX, 1e200, 1e308, 1e160, TINY, 1e-300, -f64::MAX, -1e300]);
             let some = some_of(
-                dice,
+                turn / 2,
                 call,
                 &["sigma", "rate", "fwd", "vol", "bond", "notional", "strike", "sigmas", "draws", "accruals", "coefficients", "affines", "b", "alpha", "end", "tau", "time_step", "factors"],
             );
@@ -812,14 +903,49 @@ fn fault(dice: &mut Dice, call: &mut Call, rule: u64) {
     }
 }
 
+/// Several arguments at once that take a result beyond the floats; false where
+/// there is no such way for the call.
+fn overflow(dice: &mut Dice, call: &mut Call) -> bool {
+    match call.name() {
+        // A bond so far away, beside an alpha so small, that B overflows.
+        "B" => {
+            let alpha = dice.log_between(1e-320, 1e-306);
+            set(call, "alpha", alpha);
+            set(call, "bond", f64::MAX)
+        }
+        "bachelier_call" => {
+            let high = if dice.below(2) == 0 { f64::MAX } else { 1.5e308 };
+            set(call, "fwd", high);
+            set(call, "strike", -high)
+        }
+        "swap_annuity_from_curve" => {
+            if let Arg::Floats(accruals) = &mut call.args[3] {
+                accruals.fill(1.7e308);
+            }
+            true
+        }
+        "forward_rate_from_curve" | "theta" | "A" | "zcb_price" => {
+            let place = call.table().position("factors").unwrap();
+            if let Arg::Floats(factors) = &mut call.args[place] {
+                let (one, other) = if dice.below(2) == 0 { (1e300, 1e-300) } else { (1e-300, 1e300) };
+                for (at, factor) in factors.iter_mut().enumerate() {
+                    *factor = if at % 2 == 0 { one } else { other };
+                }
+            }
+            true
+        }
+        _ => false,
+    }
+}
+
 /// Lists of other lengths, over their limits, and outputs that are too short.
-fn lengths(dice: &mut Dice, call: &mut Call) {
+fn lengths(dice: &mut Dice, call: &mut Call, turn: usize) {
     if let Some(out) = call.table().position("out") {
         let needed = match call.name() {
             "generate" => call.length(5),
             _ => call.size(3) as usize,
         };
-        match dice.below(8) {
+        match turn % 6 {
             0 => {
                 call.args[out] = Arg::Room(needed.saturating_sub(1));
                 return;
@@ -837,11 +963,12 @@ fn lengths(dice: &mut Dice, call: &mut Call) {
         }
     }
     let groups = groups(call.name());
-    let (places, limit) = *pick(dice, groups);
-    let place = *pick(dice, places);
-    match dice.below(6) {
-        0 | 1 => shorten(&mut call.args[place]),
-        2 => {
+    let (places, limit) = groups[turn % groups.len()];
+    let turn = turn / groups.len();
+    let place = places[turn / 6 % places.len()];
+    match turn % 6 {
+        0 => shorten(&mut call.args[place]),
+        1 | 2 => {
             let length = call.length(place) + 1;
             lengthen(&mut call.args[place], length);
         }
@@ -908,8 +1035,8 @@ fn grow(call: &mut Call, places: &[usize], length: usize) {
 }
 
 /// Times that do not rise.
-fn times(dice: &mut Dice, call: &mut Call) {
-    let Some(argument) = some_of(dice, call, &["times", "pillars", "grid"]) else {
+fn times(dice: &mut Dice, call: &mut Call, turn: usize) {
+    let Some(argument) = some_of(turn, call, &["times", "pillars", "grid"]) else {
         return;
     };
     let place = call.table().position(argument).unwrap();
@@ -930,11 +1057,11 @@ fn times(dice: &mut Dice, call: &mut Call) {
 }
 
 /// Times too early or too late for an option.
-fn early(dice: &mut Dice, call: &mut Call) {
+fn early(dice: &mut Dice, call: &mut Call, turn: usize) {
     let negative = *pick(dice, &[-1.0, -TINY, -0.5, 0.0, -0.0]);
     let option = get(call, "t").or(get(call, "start"));
     match some_of(
-        dice,
+        turn,
         call,
         &["t", "start", "bond", "end", "tau", "time_step", "grid", "payments", "starts", "ends"],
     ) {
@@ -943,7 +1070,7 @@ fn early(dice: &mut Dice, call: &mut Call) {
         }
         Some(argument @ ("bond" | "end")) => {
             let option = option.unwrap_or(0.0);
-            let value = *pick(dice, &[option, option - 0.25, -option, 0.0]);
+            let value = *pick(dice, &[option, option, option, option - 0.25, -option, 0.0]);
             let value = if dice.below(3) == 0 && option != 0.0 { f64::from_bits(option.to_bits() - 1) } else { value };
             set(call, argument, value);
         }
@@ -969,9 +1096,9 @@ fn early(dice: &mut Dice, call: &mut Call) {
 }
 
 /// A time that the curve does not have, or nearly has.
-fn lookups(dice: &mut Dice, call: &mut Call) {
+fn lookups(dice: &mut Dice, call: &mut Call, turn: usize) {
     let times = call.table().position("times").unwrap();
-    match dice.below(6) {
+    match turn % 6 {
         0 => {
             call.args[times] = Arg::Floats(Vec::new());
             call.args[times + 1] = Arg::Floats(Vec::new());
@@ -980,7 +1107,13 @@ fn lookups(dice: &mut Dice, call: &mut Call) {
             // One point less.
             let count = call.length(times);
             if count > 0 && call.length(times + 1) == count {
-                let at = dice.below(count as u64) as usize;
+                // That of a day after the option, or any other.
+                let after = get(call, "t").map(|t| t + H);
+                let after = call.floats(times).iter().position(|time| Some(*time) == after);
+                let at = match after {
+                    Some(at) if turn % 6 == 1 => at,
+                    _ => dice.below(count as u64) as usize,
+                };
                 for place in [times, times + 1] {
                     if let Arg::Floats(list) = &mut call.args[place] {
                         list.remove(at);
@@ -995,7 +1128,7 @@ fn lookups(dice: &mut Dice, call: &mut Call) {
             }
         }
         _ => match some_of(
-            dice,
+            turn / 6,
             call,
             &["t", "start", "bond", "end", "payments", "grid", "starts", "ends"],
         ) {

@@ -549,7 +549,7 @@ fn no_kind(call: &Call, slip: &str) -> Result<Outcome, String> {
             written: Vec::new(),
         });
     }
-    let values = match rust(call) {
+    let values = match slipped(call, slip).map_or_else(|| rust(call), Ok) {
         Ok(values) => values,
         // With a slip the Rust is asked what it need not answer.
         Err(_) if !slip.is_empty() => return Ok(call.refused(99)),
@@ -611,6 +611,117 @@ fn rust(call: &Call) -> shim::Result<Vec<f64>> {
         name => unreachable!("{name}"),
     };
     Ok(vec![value])
+}
+
+/// The formula of a call that is no kind, worked with the named mistake; nothing
+/// where the slip is none of its formula.
+fn slipped(call: &Call, slip: &str) -> Option<Vec<f64>> {
+    let x = |place: usize| call.number(place);
+    let factor = |time: f64| {
+        let at = call.table().position("times").unwrap();
+        let found = call.floats(at).iter().position(|one| *one == time);
+        found.map_or(f64::NAN, |place| call.floats(at + 1)[place])
+    };
+    let (exp, ln, exp_m1) = (elementary::exp, elementary::ln, elementary::exp_m1);
+    let forward = |t: f64| -ln(factor(t + H) / factor(t)) / H;
+    let b = |alpha: f64, t: f64, bond: f64| (1.0 - exp(-alpha * (bond - t))) / alpha;
+    let settled = |alpha: f64, t: f64| 1.0 - exp(-2.0 * alpha * t);
+    Some(match (call.name(), slip) {
+        ("B", "by-exp-m1") => vec![-exp_m1(-x(0) * (x(2) - x(1))) / x(0)],
+        ("zcb_price_volatility", "other-order") => {
+            let root = (settled(x(0), x(2)) / (2.0 * x(0))).sqrt();
+            vec![x(1) * (b(x(0), x(2), x(3)) * root)]
+        }
+        ("short_rate_variance", "by-exp-m1") => {
+            vec![x(3) * x(3) * -exp_m1(-2.0 * x(0) * (x(2) - x(1))) / (2.0 * x(0))]
+        }
+        ("A", "unfused") => {
+            let b = b(x(0), x(3), x(4));
+            let carried = b * forward(x(3)) + ln(factor(x(4)) / factor(x(3)));
+            let spread = (((x(5) * x(5)) / (4.0 * x(0))) * settled(x(0), x(3))) * b;
+            vec![exp(carried - spread * b)]
+        }
+        ("zcb_price", "rate-at-0") => {
+            let mut other = call.clone();
+            other.args[3] = Arg::Number(0.0);
+            return rust(&other).ok();
+        }
+        ("theta", "unfused") => {
+            let t = x(3);
+            let slope = if t > H {
+                (forward(t) - -ln(factor(t) / factor(t - H)) / H) / H
+            } else {
+                (-ln(factor(t + 2.0 * H) / factor(t + H)) / H - forward(t)) / H
+            };
+            vec![(x(4) * x(4) / (2.0 * x(0))) * settled(x(0), t) + (x(0) * forward(t) + slope)]
+        }
+        ("forward_rate_from_curve", "times-365") => vec![-ln(factor(x(2) + H) / factor(x(2))) * 365.0],
+        ("d1_d2", "unfused") => {
+            let root = x(3).sqrt();
+            let d1 = 0.5 * x(2) * root + ln(x(0) / x(1)) / (x(2) * root);
+            vec![d1, d1 - x(2) * root]
+        }
+        ("black_call" | "black_put", "unfused") => {
+            let (d1, d2) = utils::d1_d2(x(0), x(1), x(2), x(3)).ok()?;
+            vec![if call.name() == "black_call" {
+                x(0) * d1.norm_cdf() - x(1) * d2.norm_cdf()
+            } else {
+                x(1) * (-d2).norm_cdf() - x(0) * (-d1).norm_cdf()
+            }]
+        }
+        ("black_put", "by-parity") => {
+            vec![utils::black_call(x(0), x(1), x(2), x(3)).ok()? - (x(0) - x(1))]
+        }
+        ("bachelier_call", "unfused") => {
+            let spread = x(2) * x(3).sqrt();
+            let d = (x(0) - x(1)) / spread;
+            vec![(x(0) - x(1)) * d.norm_cdf() + spread * elementary::norm_pdf(d)]
+        }
+        ("swap_annuity_from_curve", "unfused") => {
+            vec![pairs(call, 2).iter().fold(0.0, |sum, coupon| sum + coupon.1 * factor(coupon.0))]
+        }
+        ("swap_annuity_from_curve", "backwards") => {
+            let coupons = pairs(call, 2);
+            vec![coupons.iter().rev().fold(0.0, |sum, coupon| coupon.1.mul_add(factor(coupon.0), sum))]
+        }
+        ("volatility", "pillar-before") => {
+            let pillars = pairs(call, 0);
+            let found = pillars.iter().rev().find(|pillar| pillar.0 < x(2)).unwrap_or(&pillars[0]);
+            vec![found.1]
+        }
+        ("volatility", "zero-before-first") => {
+            vec![pairs(call, 0).iter().rev().find(|pillar| pillar.0 <= x(2)).map_or(0.0, |pillar| pillar.1)]
+        }
+        ("hull_white_piecewise_variance", "first-pillar-own-time" | "variance-fused" | "alpha-1e-12-closed") => {
+            let run = Run {
+                alpha: x(0),
+                pillars: pairs(call, 1),
+                ..Run::default()
+            };
+            let case = Case {
+                run: &run,
+                job: Job::default(),
+                n: Numbers {
+                    slip: crate::slips::named(slip).unwrap(),
+                },
+            };
+            vec![case.variance(x(3), x(4))]
+        }
+        ("transition_variances", "steps-added-up" | "one-step-repeated") => {
+            let mut start = 0.0;
+            (0..call.size(3))
+                .map(|_| {
+                    let end = start + x(4);
+                    let step = parameters::hull_white_piecewise_variance(x(0), &pairs(call, 1), start, end);
+                    if slip == "steps-added-up" {
+                        start = end;
+                    }
+                    step
+                })
+                .collect()
+        }
+        _ => return None,
+    })
 }
 
 // ---------------------------------------------------------- ground functions
