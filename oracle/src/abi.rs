@@ -9,11 +9,12 @@
 //! A call and its outcome as a line of text: `NAME ARGUMENT.. -> OUTCOME`. A
 //! number is 16 hexadecimal digits of its bits; a size, and the room of a list
 //! to be written, a decimal; a list stands in brackets, numbers with commas
-//! between, bools as 0 and 1, bytes as two hexadecimal digits each. The outcome
-//! is the report field by field, whole numbers as decimals, an array without
+//! between (and `*N` behind one that stands N times), bools as 0 and 1, bytes as two
+//! hexadecimal digits each. The outcome is the report field by field, whole numbers as decimals, an array without
 //! the zeros at its end; then, where a list is written, what was written to its
 //! front.
 
+use std::collections::BTreeMap;
 use std::fmt::Write;
 
 #[derive(Clone, Copy, PartialEq, Eq, Debug)]
@@ -440,9 +441,7 @@ impl Call {
                 Arg::Number(number) => write!(text, "{:016x}", number.to_bits()).unwrap(),
                 Arg::Size(size) => write!(text, "{size}").unwrap(),
                 Arg::Room(room) | Arg::ByteRoom(room) => write!(text, "{room}").unwrap(),
-                Arg::Floats(list) => {
-                    text += &words_text(list.iter().map(|float| float.to_bits()));
-                }
+                Arg::Floats(list) => text += &floats_text(list),
                 Arg::Bools(list) => {
                     let digits: String =
                         list.iter().map(|one| if *one { '1' } else { '0' }).collect();
@@ -491,13 +490,42 @@ impl Call {
     }
 }
 
+/// A number that stands more than three times in a row is written once, with a star
+/// and how often.
+fn floats_text(list: &[f64]) -> String {
+    let mut parts = Vec::new();
+    for same in list.chunk_by(|one, other| one.to_bits() == other.to_bits()) {
+        let word = format!("{:016x}", same[0].to_bits());
+        if same.len() > 3 {
+            parts.push(format!("{word}*{}", same.len()));
+        } else {
+            parts.extend(same.iter().map(|_| word.clone()));
+        }
+    }
+    format!("[{}]", parts.join(","))
+}
+
 fn words_text(words: impl Iterator<Item = u64>) -> String {
     let parts: Vec<String> = words.map(|word| format!("{word:016x}")).collect();
     format!("[{}]", parts.join(","))
 }
 
-/// A call from its line; what stands behind `->` is passed over.
-pub fn parse(line: &str) -> Result<Call, String> {
+/// Lists by name, for lines that share them.
+pub type Lists = BTreeMap<String, Vec<f64>>;
+
+/// `list NAME [..]`, which lines after it may refer to.
+pub fn parse_list(line: &str, lists: &mut Lists) -> Option<()> {
+    let mut words = line.strip_prefix("list ")?.split_whitespace();
+    let (name, Arg::Floats(list)) = (words.next()?, parse_argument(words.next()?, Kind::Floats, lists)?) else {
+        return None;
+    };
+    lists.insert(name.to_string(), list);
+    Some(())
+}
+
+/// A call from its line; what stands behind `->` is passed over. A list of floats
+/// may be given as `=NAME:FROM:COUNT`, a part of a list by name.
+pub fn parse(line: &str, lists: &Lists) -> Result<Call, String> {
     let line = line.split("->").next().unwrap_or("");
     let mut words = line.split_whitespace();
     let name = words.next().ok_or("no name")?;
@@ -505,7 +533,7 @@ pub fn parse(line: &str) -> Result<Call, String> {
     let mut args = Vec::new();
     for (what, kind) in FUNCTIONS[function].arguments {
         let word = words.next().ok_or(format!("{name}: {what} is missing"))?;
-        args.push(parse_argument(word, *kind).ok_or(format!("{name}: {what} cannot be {word}"))?);
+        args.push(parse_argument(word, *kind, lists).ok_or(format!("{name}: {what} cannot be {word}"))?);
     }
     match words.next() {
         None => Ok(Call { function, args }),
@@ -513,7 +541,15 @@ pub fn parse(line: &str) -> Result<Call, String> {
     }
 }
 
-fn parse_argument(word: &str, kind: Kind) -> Option<Arg> {
+fn parse_argument(word: &str, kind: Kind, lists: &Lists) -> Option<Arg> {
+    if let (Kind::Floats, Some(part)) = (kind, word.strip_prefix('=')) {
+        let parts: Vec<&str> = part.split(':').collect();
+        let [name, from, count] = parts.as_slice() else {
+            return None;
+        };
+        let (from, count): (usize, usize) = (from.parse().ok()?, count.parse().ok()?);
+        return Some(Arg::Floats(lists.get(*name)?.get(from..from + count)?.to_vec()));
+    }
     let float = |word: &str| {
         let bits = if word.len() == 16 { u64::from_str_radix(word, 16).ok() } else { None };
         bits.map(f64::from_bits)
@@ -525,8 +561,12 @@ fn parse_argument(word: &str, kind: Kind) -> Option<Arg> {
         Kind::Room => Arg::Room(word.parse().ok()?),
         Kind::ByteRoom => Arg::ByteRoom(word.parse().ok()?),
         Kind::Floats => {
-            let parts = inner?.split(',').filter(|part| !part.is_empty());
-            Arg::Floats(parts.map(float).collect::<Option<Vec<f64>>>()?)
+            let mut list = Vec::new();
+            for part in inner?.split(',').filter(|part| !part.is_empty()) {
+                let (word, count) = part.split_once('*').unwrap_or((part, "1"));
+                list.resize(list.len() + count.parse::<usize>().ok()?, float(word)?);
+            }
+            Arg::Floats(list)
         }
         Kind::Bools => Arg::Bools(inner?.chars().map(|one| one == '1').collect()),
         Kind::Bytes => {

@@ -1,9 +1,11 @@
 //! The library against the judge and the Rust, call by call.
 //!
-//! - `library-calls N SEED` compares N random calls;
+//! - `library-calls N SEED [NAME ..]` compares N random calls, of these functions
+//!   alone where some are named;
 //! - `library-call LINE` makes the call of a line and compares it;
 //! - `library-slips N SEED` counts which slips N calls tell apart;
-//! - `fixed-calls FILE N SEED` writes the fixed list, chosen from N calls.
+//! - `fixed-calls DIR OUT N SEED` writes the fixed lists to OUT: the calls of
+//!   DIR/edges.txt with their outcomes anew, and some chosen from N random calls.
 //!
 //! All but the last need the library: `oracle/calls` builds and runs them.
 
@@ -23,7 +25,7 @@ const SHOWN: u64 = 10;
 const TRIES: u32 = 60;
 
 const USAGE: &str = "usage:
-  oracle/calls [ARCHIVE] N SEED           compare N random calls of the library
+  oracle/calls [ARCHIVE] N SEED [NAME ..] compare N random calls of the library
   oracle/calls [ARCHIVE] --one LINE       make the call of a line again
   oracle/calls [ARCHIVE] --slips [N SEED] the slips that N calls tell apart";
 
@@ -36,7 +38,10 @@ pub fn main(args: &[String]) -> i32 {
     std::panic::set_hook(Box::new(|_| {}));
     let done = match words.as_slice() {
         #[cfg(calls)]
-        ["library-calls", count, seed] => two(count, seed).map(|(count, seed)| compare(count, seed)),
+        ["library-calls", count, seed, names @ ..] => two(count, seed).and_then(|(count, seed)| {
+            let only = names.iter().map(|name| abi::named(name).ok_or(format!("no function is called {name}")));
+            Ok(compare(count, seed, only.collect::<Result<Vec<usize>, String>>()?))
+        }),
         #[cfg(calls)]
         ["library-call", "-"] => std::io::read_to_string(std::io::stdin())
             .map_err(|error| format!("standard input: {error}"))
@@ -45,8 +50,8 @@ pub fn main(args: &[String]) -> i32 {
         ["library-call", line @ ..] => one(&line.join(" ")),
         #[cfg(calls)]
         ["library-slips", count, seed] => two(count, seed).map(|(count, seed)| slips(count, seed)),
-        ["fixed-calls", file, count, seed] => {
-            two(count, seed).and_then(|(count, seed)| fixed(file, count, seed))
+        ["fixed-calls", from, to, count, seed] => {
+            two(count, seed).and_then(|(count, seed)| fixed(from, to, count, seed))
         }
         _ => Err(USAGE.to_string()),
     };
@@ -85,6 +90,10 @@ struct Stream {
     tried: Vec<u64>,
     served: Vec<u64>,
     answers: BTreeMap<(usize, u64), u64>,
+    /// The functions that are called; all where there is none.
+    only: Vec<usize>,
+    /// Calls by what rule 1 met in them, and served ones with a list at its limit.
+    lengths: BTreeMap<String, u64>,
 }
 
 impl Stream {
@@ -94,11 +103,54 @@ impl Stream {
             tried: vec![0; FUNCTIONS.len()],
             served: vec![0; FUNCTIONS.len()],
             answers: BTreeMap::new(),
+            only: Vec::new(),
+            lengths: BTreeMap::new(),
+        }
+    }
+
+    /// Counts what there is about the lengths of a call's lists.
+    fn count_lengths(&mut self, call: &Call, answer: u64) {
+        let mut add = |what: String| *self.lengths.entry(what).or_default() += 1;
+        let mut paired = true;
+        for (places, limit) in call_rules::groups(call.name()) {
+            let name = match call.table().arguments[places[0]].0 {
+                "times" => "points",
+                "payments" => "coupons",
+                "normals" => "entries",
+                "coefficients" => "terms",
+                name => name,
+            };
+            let longest = places.iter().map(|place| call.length(*place)).max().unwrap_or(0);
+            paired &= places.iter().all(|place| call.length(*place) == longest);
+            if longest > *limit && paired {
+                add(format!("{longest} {name}"));
+            } else if longest == *limit && answer == 0 {
+                add(format!("served with {longest} {name}"));
+            }
+        }
+        if !paired {
+            add("unpaired lists".to_string());
+        }
+        let (room, needed) = match call.name() {
+            "transition_variances" => (call.length(5), call.size(3)),
+            "generate" => (call.length(7), call.length(5) as u64),
+            "piece" => (call.length(2), call_rules::PIECE_BYTES as u64),
+            _ => return,
+        };
+        if call.name() == "transition_variances" && needed > 1024 {
+            add("over 1024 steps".to_string());
+        } else if (room as u64) < needed {
+            add("outputs too short".to_string());
+        } else if room as u64 == needed {
+            add("outputs just long enough".to_string());
         }
     }
 
     fn next(&mut self) -> (Call, Result<Outcome, String>) {
-        let function = self.inputs.function();
+        let function = match self.only.as_slice() {
+            [] => self.inputs.function(),
+            only => only[(self.tried.iter().sum::<u64>() % only.len() as u64) as usize],
+        };
         let due = 2 * self.served[function] <= self.tried[function];
         let mut tries = 0;
         loop {
@@ -111,6 +163,7 @@ impl Stream {
             }
             self.tried[function] += 1;
             if let Ok(answer) = answer {
+                self.count_lengths(&call, answer);
                 self.served[function] += u64::from(answer == 0);
                 *self.answers.entry((function, answer)).or_default() += 1;
             }
@@ -220,8 +273,9 @@ fn made(call: &Call, right: &Outcome, at_the_end: bool) -> Result<Outcome, Strin
 }
 
 #[cfg(calls)]
-fn compare(count: u64, seed: u64) -> i32 {
+fn compare(count: u64, seed: u64, only: Vec<usize>) -> i32 {
     let mut stream = Stream::new(seed);
+    stream.only = only;
     let (mut differ, mut unknown) = (0, 0);
     for index in 0..count {
         let (call, right) = stream.next();
@@ -244,9 +298,14 @@ fn compare(count: u64, seed: u64) -> i32 {
         }
     }
     print!("{}", stream.table());
+    let lengths: Vec<String> = stream.lengths.iter().map(|(what, count)| format!("{what} {count}")).collect();
+    println!("lengths: {}", lengths.join(", "));
     let mut wrong = differ + unknown > 0;
     let mut missing = Vec::new();
     for (function, row) in FUNCTIONS.iter().enumerate() {
+        if !stream.only.is_empty() && !stream.only.contains(&function) {
+            continue;
+        }
         if stream.tried[function] == 0 {
             println!("never called: {}", row.name);
             wrong = true;
@@ -285,7 +344,7 @@ fn compare(count: u64, seed: u64) -> i32 {
 /// A call from its line.
 #[cfg(calls)]
 fn one(line: &str) -> Result<i32, String> {
-    let call = abi::parse(line)?;
+    let call = abi::parse(line, &abi::Lists::new())?;
     let right = expected(&call)?;
     let mut wrong = false;
     for at_the_end in [true, false] {
@@ -371,12 +430,77 @@ fn slips(count: u64, seed: u64) -> i32 {
 // ------------------------------------------------------------ the fixed list
 
 /// Lines longer than this are taken only where there is no other example.
-const LONG: usize = 3_000;
+const LONG: usize = 2_000;
 /// Examples of each function and answer, and of each function served.
-const EXAMPLES: usize = 5;
-const SERVED: usize = 22;
+const EXAMPLES: usize = 3;
+const SERVED: usize = 14;
 
-fn fixed(file: &str, count: u64, seed: u64) -> Result<i32, String> {
+fn fixed(from: &str, to: &str, count: u64, seed: u64) -> Result<i32, String> {
+    std::fs::create_dir_all(to).map_err(|error| format!("cannot make {to}: {error}"))?;
+    edges(&format!("{from}/edges.txt"), &format!("{to}/edges.txt"))?;
+    chosen(&format!("{to}/random.txt"), count, seed)
+}
+
+/// The calls of a file, each with the outcome that it must have.
+fn edges(from: &str, to: &str) -> Result<(), String> {
+    let old = std::fs::read_to_string(from).map_err(|error| format!("cannot read {from}: {error}"))?;
+    let mut lists = abi::Lists::new();
+    let mut text = declarations();
+    let mut count = 0;
+    for line in old.lines() {
+        if line.starts_with("function ") {
+            continue;
+        }
+        if line.starts_with('#') || abi::parse_list(line, &mut lists).is_some() {
+            text += line;
+        } else {
+            let call = abi::parse(line, &lists)?;
+            let right = expected(&call).map_err(|what| format!("{line}: {what}"))?;
+            let asked = line.split(" ->").next().unwrap_or(line);
+            write!(text, "{asked} -> {}", call.outcome_text(&right)).unwrap();
+            count += 1;
+        }
+        text.push('\n');
+    }
+    std::fs::write(to, &text).map_err(|error| format!("cannot write {to}: {error}"))?;
+    println!("{to}: {count} calls, {} bytes", text.len());
+    Ok(())
+}
+
+/// What the functions take and give, for a reader that has no table of them.
+fn declarations() -> String {
+    let mut text = String::new();
+    for row in FUNCTIONS {
+        write!(text, "function {}", row.name).unwrap();
+        for (argument, kind) in row.arguments {
+            let kind = match kind {
+                Kind::Number => "number",
+                Kind::Size => "size",
+                Kind::Floats => "floats",
+                Kind::Bools => "bools",
+                Kind::Bytes => "bytes",
+                Kind::Room => "room",
+                Kind::ByteRoom => "byte_room",
+            };
+            write!(text, " {argument}:{kind}").unwrap();
+        }
+        text += " ->";
+        for (field, count, float) in row.fields {
+            let kind = match (*field, float) {
+                (_, true) => "f64",
+                ("converged", false) => "bool",
+                (_, false) => "u64",
+            };
+            write!(text, " {field}:{kind}:{count}").unwrap();
+        }
+        text.push('\n');
+    }
+    text
+}
+
+/// Of random calls: some of each function and answer, and one for each of the
+/// judge's slips.
+fn chosen(file: &str, count: u64, seed: u64) -> Result<i32, String> {
     let mut stream = Stream::new(seed);
     let mut chosen: BTreeMap<u64, String> = BTreeMap::new();
     let mut have: BTreeMap<(usize, u64), usize> = BTreeMap::new();
@@ -403,6 +527,10 @@ fn fixed(file: &str, count: u64, seed: u64) -> Result<i32, String> {
             continue;
         }
         let line = format!("{} -> {}", call.text(), call.outcome_text(&right));
+        // A curve of 2,048 points takes much room; the edges have some.
+        if line.len() > 10 * LONG && answer != 1 {
+            continue;
+        }
         if line.len() > LONG && told.is_empty() {
             let best = longer.entry((call.function, answer)).or_insert_with(|| (index, line.clone()));
             if line.len() < best.1.len() {
@@ -421,32 +549,7 @@ fn fixed(file: &str, count: u64, seed: u64) -> Result<i32, String> {
             chosen.insert(index, line);
         }
     }
-    let mut text = format!("# The library's calls with their outcomes: `oracle fixed-calls FILE {count} {seed}`.\n");
-    for row in FUNCTIONS {
-        write!(text, "function {}", row.name).unwrap();
-        for (argument, kind) in row.arguments {
-            let kind = match kind {
-                Kind::Number => "number",
-                Kind::Size => "size",
-                Kind::Floats => "floats",
-                Kind::Bools => "bools",
-                Kind::Bytes => "bytes",
-                Kind::Room => "room",
-                Kind::ByteRoom => "byte_room",
-            };
-            write!(text, " {argument}:{kind}").unwrap();
-        }
-        text += " ->";
-        for (field, count, float) in row.fields {
-            let kind = match (*field, float) {
-                (_, true) => "f64",
-                ("converged", false) => "bool",
-                (_, false) => "u64",
-            };
-            write!(text, " {field}:{kind}:{count}").unwrap();
-        }
-        text.push('\n');
-    }
+    let mut text = declarations();
     chosen.values().for_each(|line| {
         text += line;
         text.push('\n');
@@ -455,6 +558,6 @@ fn fixed(file: &str, count: u64, seed: u64) -> Result<i32, String> {
     for (function, slip) in &slips {
         println!("told by no call: {}", call_slips::described(*function, *slip));
     }
-    println!("{} calls, {} bytes", chosen.len(), text.len());
+    println!("{file}: {} calls, {} bytes", chosen.len(), text.len());
     Ok(0)
 }

@@ -12,7 +12,8 @@ use crate::call_rules::{groups, kind, with_pieces, PIECE_BYTES};
 use crate::calls::{self, Dice};
 use crate::elementary::exp;
 use crate::generate;
-use crate::judge::{self, Job, Run};
+use crate::judge::{self, Case, Job, Run, Trace};
+use crate::numbers::Numbers;
 use crate::slips::Slip;
 use std::collections::{BTreeMap, VecDeque};
 use std::rc::Rc;
@@ -45,7 +46,9 @@ pub struct Inputs {
     plans: BTreeMap<usize, usize>,
     turns: BTreeMap<(usize, u64), usize>,
     pieces: VecDeque<Call>,
-    written_terms: usize,
+    written_terms: BTreeMap<usize, usize>,
+    /// The call's terms are written by hand, and stay so.
+    as_written: bool,
 }
 
 impl Inputs {
@@ -61,7 +64,8 @@ impl Inputs {
             plans: BTreeMap::new(),
             turns: BTreeMap::new(),
             pieces: VecDeque::new(),
-            written_terms: 0,
+            written_terms: BTreeMap::new(),
+            as_written: false,
         }
     }
 
@@ -84,8 +88,9 @@ impl Inputs {
 
     /// A call of that function; with `sound` no fault is planted.
     pub fn call(&mut self, function: usize, sound: bool) -> Call {
+        self.as_written = false;
         let mut call = self.base(function);
-        if call.table().is_ground() || call.name() == "piece" || sound {
+        if call.table().is_ground() || call.name() == "piece" || sound || self.as_written {
             return call;
         }
         match self.dice.below(16) {
@@ -120,7 +125,7 @@ impl Inputs {
         let args = match name {
             "piece" => return self.piece(function),
             "calibrate_to_instruments" => self.basket(),
-            "find_critical_rate" | "implicit_critical_rate" => self.terms(),
+            "find_critical_rate" | "implicit_critical_rate" => self.terms(function),
             _ => match kind(name) {
                 // Kinds that are cheap to make are made here as well.
                 Some(1..=4 | 8 | 9 | 12) if self.dice.below(3) == 0 => made(&mut self.dice, name),
@@ -158,12 +163,14 @@ impl Inputs {
             let run = Rc::new(run);
             for job in &run.jobs {
                 let waiting = self.jobs.entry((job.kind, rare)).or_default();
-                // Files of many jobs of one kind do not crowd out the others.
-                if waiting.len() < 400 {
+                // Of fits that overflow those that are refused for it come first; files
+                // of many jobs of one kind do not crowd out the others.
+                let common = rare == OVERFLOWING && !overflows(&run, job) && self.dice.below(24) > 0;
+                if waiting.len() < 400 && !common {
                     waiting.push_back((Rc::clone(&run), *job));
                 }
             }
-            if !self.jobs.contains_key(&(kind, rare)) {
+            if !run.jobs.iter().any(|job| job.kind == kind) {
                 rare = ""; // a category without jobs of this kind
             }
         }
@@ -172,11 +179,12 @@ impl Inputs {
     fn basket(&mut self) -> Vec<Arg> {
         let mut ask = baskets::request(self.seed, self.next_basket);
         self.next_basket += 1;
-        if self.dice.below(10) == 0 {
+        if self.dice.below(6) == 0 {
             // Fits whose end residuals overflow: a basket meets 13 by one of them.
-            let bytes = generate::of_category("limit/overflowing-fit", self.seed, self.next_basket);
+            let bytes = generate::of_category(OVERFLOWING, self.seed, self.next_basket);
             let run = judge::read(&bytes, Slip::Nothing).expect("a sound file");
-            let from = self.dice.below(run.jobs.len() as u64) as usize;
+            let from = run.jobs.iter().position(|job| overflows(&run, job));
+            let from = from.unwrap_or(self.dice.below(run.jobs.len() as u64) as usize);
             let quotes = run.jobs.iter().skip(from).take(1 + self.dice.below(2) as usize);
             ask.entries = quotes
                 .map(|job| judge::Caplet {
@@ -205,10 +213,12 @@ impl Inputs {
     }
 
     /// Random terms, and now and then the next of those below.
-    fn terms(&mut self) -> Vec<Arg> {
-        let rows: Vec<(f64, f64, f64)> = if self.dice.below(5) == 0 {
-            self.written_terms = (self.written_terms + 1) % WRITTEN_TERMS.len();
-            WRITTEN_TERMS[self.written_terms].to_vec()
+    fn terms(&mut self, function: usize) -> Vec<Arg> {
+        let rows: Vec<(f64, f64, f64)> = if self.dice.below(3) == 0 {
+            let turn = self.written_terms.entry(function).or_default();
+            *turn += 1;
+            self.as_written = true;
+            WRITTEN_TERMS[*turn % WRITTEN_TERMS.len()].to_vec()
         } else {
             match self.dice.any_terms() {
                 calls::Arg::List(list) => calls::triples(&list),
@@ -252,11 +262,24 @@ impl Inputs {
     }
 }
 
+const OVERFLOWING: &str = "limit/overflowing-fit";
+
+/// Whether a fit is refused by 13.
+fn overflows(run: &Run, job: &Job) -> bool {
+    let case = Case {
+        run,
+        job: *job,
+        n: Numbers { slip: Slip::Nothing },
+    };
+    case.answer(&mut Trace::default()).code == 13
+}
+
 /// Categories of files in which a kind's rarer answers are.
 fn rare(kind: u64) -> &'static [&'static str] {
     match kind {
         5 => &["limit/overflowing-sum", "limit/mixed-signs", "limit/rungs", "limit/wild-terms"],
         6 | 7 => &[
+            "near/derivative",
             "near/derivative",
             "limit/newton-nan",
             "limit/overflowing-sum",
@@ -264,8 +287,14 @@ fn rare(kind: u64) -> &'static [&'static str] {
             "limit/mixed-signs",
             "limit/wide-bracket",
         ],
-        8 | 9 => &["limit/overflowing-fit", "refusal/fit-order", "fit/zero-residual", "near/tolerance"],
-        10 | 11 => &["limit/overflowing-swap-fit", "refusal/fit-order", "limit/rungs", "limit/mixed-signs", "limit/wild-terms"],
+        8 | 9 => &[
+            OVERFLOWING,
+            OVERFLOWING,
+            "refusal/fit-order",
+            "fit/zero-residual",
+            "near/tolerance",
+        ],
+        10 | 11 => &["limit/overflowing-swap-fit", "refusal/fit-order", "refusal/fit-order", "limit/rungs", "limit/mixed-signs", "limit/wild-terms"],
         _ => &[],
     }
 }
@@ -671,6 +700,8 @@ fn ground(dice: &mut Dice, name: &str) -> Vec<f64> {
             match dice.below(8) {
                 0 => vec![sign * 0.0, -sign * 0.0],
                 1 => vec![y, x],
+                3 => vec![f64::NAN, dice.float()],
+                4 => vec![dice.float(), f64::NAN],
                 2 => vec![sign * f64::from_bits(dice.below(100)), f64::from_bits(dice.below(0x0020_0000_0000_0000))],
                 _ => vec![x, y],
             }
@@ -710,13 +741,13 @@ fn ground(dice: &mut Dice, name: &str) -> Vec<f64> {
             }]
         }
         "norm_cdf" | "norm_cdf_dual" if aimed => {
-            let limit = *pick(dice, &[37.0, 7.071067811865475, 0.0, 38.0, 2f64.powi(-10), 4.0, 2f64.powi(-20), 8.0]);
+            let tail = 7.071067811865475;
+            let limit = *pick(dice, &[37.0, 37.0, tail, tail, 0.0, 38.0, 2f64.powi(-10), 4.0, 2f64.powi(-20), 8.0]);
             vec![sign
-                * match dice.below(4) {
+                * match dice.below(3) {
                     0 => limit,
                     1 => beside(dice, limit),
-                    2 => dice.between(7.0, 38.0),
-                    _ => dice.between(0.0, 7.2),
+                    _ => dice.between(0.0, 38.0),
                 }]
         }
         "signum" if aimed => vec![*pick(dice, &[0.0, -0.0, TINY, -TINY, f64::NAN, f64::INFINITY, f64::NEG_INFINITY])],
@@ -952,6 +983,10 @@ fn lengths(dice: &mut Dice, call: &mut Call, turn: usize) {
             }
             1 => {
                 call.args[out] = Arg::Room(0);
+                return;
+            }
+            2 if call.name() == "generate" => {
+                grow(call, &[5, 6], 1025);
                 return;
             }
             2 if call.name() == "transition_variances" => {

@@ -1,6 +1,7 @@
 //! The oracle: what document 01 says the program prints, with the Rust itself
 //! as witness. See oracle/README.md.
 
+#[cfg_attr(not(calls), allow(dead_code))]
 mod abi;
 mod baskets;
 #[cfg(plain)]
@@ -8,6 +9,7 @@ mod bench;
 mod call_compare;
 mod call_inputs;
 mod call_rules;
+#[cfg_attr(not(calls), allow(dead_code))]
 mod call_slips;
 mod calls;
 mod confront;
@@ -37,7 +39,7 @@ oracle vectors NAME COUNT SEED                          calls with random argume
 oracle calls                                            the names of the calls
 oracle baskets PROGRAM N SEED                           a program on generated baskets
 oracle basket-vectors DIR SEED                          a short list of baskets with their answers
-oracle fixed-calls FILE N SEED                          the fixed list of calls of the library
+oracle fixed-calls DIR OUT N SEED                       the fixed lists of calls of the library
 ";
 
 fn main() {
