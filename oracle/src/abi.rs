@@ -608,6 +608,7 @@ mod linked {
         fn mmap(at: *mut c_void, size: usize, may: i32, how: i32, file: i32, from: i64) -> *mut c_void;
         fn mprotect(at: *mut c_void, size: usize, may: i32) -> i32;
         fn signal(number: i32, handler: usize) -> usize;
+        fn alarm(seconds: u32) -> u32;
         fn _exit(code: i32) -> !;
     }
 
@@ -621,12 +622,27 @@ mod linked {
     /// The call that is under way, for the handler below.
     static UNDER_WAY: AtomicPtr<Call> = AtomicPtr::new(std::ptr::null_mut());
 
-    /// A call that reads or writes outside its lists ends here.
-    extern "C" fn outside(_: i32) {
+    /// The signals that end here: a place outside the lists is read or written, the
+    /// library falls over, or it does not come back.
+    const SIGNALS: [(i32, &str); 6] = [
+        (11, "reads or writes outside a list"),
+        (7, "reads or writes outside a list"),
+        (4, "falls over"),
+        (6, "falls over"),
+        (8, "falls over"),
+        (14, "does not come back"),
+    ];
+
+    /// Seconds that a call may take.
+    const PATIENCE: u32 = 60;
+
+    extern "C" fn ended(number: i32) {
         let call = UNDER_WAY.load(Ordering::SeqCst);
-        if !call.is_null() {
-            eprintln!("the library reads or writes outside a list:");
-            eprintln!("  {}", unsafe { &*call }.text());
+        let what = SIGNALS.iter().find(|one| one.0 == number).map_or("falls over", |one| one.1);
+        if call.is_null() {
+            eprintln!("signal {number} outside the library");
+        } else {
+            println!("the library {what}:\n  {}", unsafe { &*call }.text());
         }
         unsafe { _exit(1) }
     }
@@ -652,12 +668,9 @@ mod linked {
 
     thread_local! {
         static SLOTS: RefCell<Vec<Slot>> = RefCell::new({
-            const BUS: i32 = 7;
-            const SEGMENT: i32 = 11;
-            let handler = outside as extern "C" fn(i32);
-            unsafe {
-                signal(BUS, handler as usize);
-                signal(SEGMENT, handler as usize);
+            let handler = ended as extern "C" fn(i32);
+            for (number, _) in SIGNALS {
+                unsafe { signal(number, handler as usize) };
             }
             (0..MOST).map(|_| Slot::new()).collect()
         });
@@ -792,7 +805,9 @@ mod linked {
             let slots = slots.borrow();
             let mut frame = Frame::new(call, at_the_end, &slots);
             UNDER_WAY.store((call as *const Call).cast_mut(), Ordering::SeqCst);
+            unsafe { alarm(PATIENCE) };
             let words = (call.table().call)(&mut frame);
+            unsafe { alarm(0) };
             UNDER_WAY.store(std::ptr::null_mut(), Ordering::SeqCst);
             frame.meddle(meddle, at_the_end, written);
             let mut out = Vec::new();

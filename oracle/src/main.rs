@@ -6,6 +6,7 @@ mod abi;
 mod baskets;
 #[cfg(plain)]
 mod bench;
+#[cfg_attr(not(calls), allow(dead_code))]
 mod call_compare;
 mod call_inputs;
 mod call_rules;
