@@ -51,11 +51,11 @@ pub fn main(args: &[String]) -> i32 {
 }
 
 /// What a basket asks.
-struct Request {
+pub struct Request {
     category: &'static str,
-    alpha: f64,
-    curve: Vec<(f64, f64)>,
-    entries: Vec<Caplet>,
+    pub alpha: f64,
+    pub curve: Vec<(f64, f64)>,
+    pub entries: Vec<Caplet>,
 }
 
 impl Request {
@@ -279,7 +279,7 @@ fn lengthen(ask: &mut Request, count: usize) {
     }
 }
 
-fn request(seed: u64, index: u64) -> Request {
+pub fn request(seed: u64, index: u64) -> Request {
     let mut dice = Dice::new(seed.wrapping_mul(0x1_0000_0001).wrapping_add(index));
     match dice.below(16) {
         0..=6 => market(&mut dice, "market", 0),

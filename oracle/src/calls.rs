@@ -24,7 +24,7 @@ use crate::slips::Slip;
 
 /// One argument of a call.
 #[derive(Clone, Debug)]
-enum Arg {
+pub enum Arg {
     One(f64),
     List(Vec<f64>),
 }
@@ -203,7 +203,7 @@ fn pairs(list: &[f64]) -> Vec<(f64, f64)> {
     list.chunks_exact(2).map(|two| (two[0], two[1])).collect()
 }
 
-fn triples(list: &[f64]) -> Vec<(f64, f64, f64)> {
+pub fn triples(list: &[f64]) -> Vec<(f64, f64, f64)> {
     list.chunks_exact(3)
         .map(|three| (three[0], three[1], three[2]))
         .collect()
@@ -402,7 +402,7 @@ impl Dice {
     pub fn new(seed: u64) -> Dice {
         Dice(seed.wrapping_mul(0x9e37_79b9_7f4a_7c15) ^ 0x5851_f42d_4c95_7f2d)
     }
-    fn next(&mut self) -> u64 {
+    pub fn next(&mut self) -> u64 {
         // splitmix64
         self.0 = self.0.wrapping_add(0x9e37_79b9_7f4a_7c15);
         let mut z = self.0;
@@ -413,7 +413,7 @@ impl Dice {
     pub fn below(&mut self, n: u64) -> u64 {
         self.next() % n
     }
-    fn unit(&mut self) -> f64 {
+    pub fn unit(&mut self) -> f64 {
         (self.next() >> 11) as f64 / (1u64 << 53) as f64
     }
     pub fn between(&mut self, low: f64, high: f64) -> f64 {
@@ -424,7 +424,7 @@ impl Dice {
     }
 
     /// Any float at all, one in four; else one of moderate size or a limit.
-    fn float(&mut self) -> f64 {
+    pub fn float(&mut self) -> f64 {
         const LIMITS: [f64; 22] = [
             0.0,
             -0.0,
@@ -511,7 +511,7 @@ impl Dice {
 
     /// Half of the time terms of a swaption; else of sizes and signs that none
     /// has, so that every refusal of a search occurs and far rungs are reached.
-    fn any_terms(&mut self) -> Arg {
+    pub fn any_terms(&mut self) -> Arg {
         if self.below(2) == 0 {
             return self.terms();
         }

@@ -90,7 +90,7 @@ pub fn instrument(run: &Run, job: &Job) -> shim::CalibrationInstrument {
 /// The rates at which the Rust evaluates the sum: it tries rungs 0 to 59 in
 /// each ladder (rung 60 is only looked at afterwards), then halves. Between
 /// the two `find_critical_rate` asks both ends again.
-fn rates_asked(search: &Search, trail: &[f64], ends_again: bool) -> Vec<f64> {
+pub fn rates_asked(search: &Search, trail: &[f64], ends_again: bool) -> Vec<f64> {
     let mut rates = Vec::new();
     for (rung, first) in [(search.rungs[0], -0.5), (search.rungs[1], 0.5)] {
         rates.extend((0..=rung.min(59)).map(|step| first * 2f64.powi(step as i32)));

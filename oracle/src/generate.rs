@@ -2761,6 +2761,12 @@ pub fn generate(seed: u64, index: u64) -> (Vec<u8>, &'static str) {
     unreachable!("the weights add up to the total");
 }
 
+/// The run file of a category, a seed and an index.
+pub fn of_category(category: &str, seed: u64, index: u64) -> Vec<u8> {
+    let row = CATEGORIES.iter().find(|row| row.0 == category).expect("a category's name");
+    make(&mut Dice::new(seed, index), row.2)
+}
+
 fn make(dice: &mut Dice, maker: Maker) -> Vec<u8> {
     match maker {
         Contents(build) => {

@@ -561,7 +561,7 @@ impl Case<'_> {
 
     /// Ladders, then 200 halvings. `bracket_needed` is false only for the slip
     /// that goes on without one.
-    fn search(
+    pub fn search(
         &self,
         terms: &[Term],
         bracket_needed: bool,
@@ -616,7 +616,7 @@ impl Case<'_> {
     }
 
     /// One Newton step; rule 11.
-    fn newton(&self, terms: &[Term], rate: f64) -> Result<f64, Refusal> {
+    pub fn newton(&self, terms: &[Term], rate: f64) -> Result<f64, Refusal> {
         let mut objective = -1.0;
         let mut derivative = 0.0;
         for term in terms {

@@ -1,9 +1,17 @@
 //! The oracle: what document 01 says the program prints, with the Rust itself
 //! as witness. See oracle/README.md.
 
+#[cfg_attr(not(calls), allow(dead_code))]
+mod abi;
 mod baskets;
 #[cfg(plain)]
 mod bench;
+#[cfg_attr(not(calls), allow(dead_code))]
+mod call_compare;
+mod call_inputs;
+mod call_rules;
+#[cfg_attr(not(calls), allow(dead_code))]
+mod call_slips;
 mod calls;
 mod confront;
 mod cut;
@@ -32,6 +40,7 @@ oracle vectors NAME COUNT SEED                          calls with random argume
 oracle calls                                            the names of the calls
 oracle baskets PROGRAM N SEED                           a program on generated baskets
 oracle basket-vectors DIR SEED                          a short list of baskets with their answers
+oracle fixed-calls DIR OUT N SEED                       the fixed lists of calls of the library
 ";
 
 fn main() {
@@ -43,6 +52,9 @@ fn main() {
         Some("vectors") => calls::vectors(&args[1..]),
         Some("calls") => calls::list(),
         Some("baskets" | "basket-vectors") => baskets::main(&args),
+        Some("library-calls" | "library-call" | "library-slips" | "fixed-calls") => {
+            call_compare::main(&args)
+        }
         #[cfg(plain)]
         Some("bench") => bench::main(false, &args[1..]),
         #[cfg(plain)]
