@@ -71,11 +71,11 @@ module _ (quote : QuoteType) (alpha : Float) (ts fs : List Float) (strike t S vo
 
 -- ---- swaptions
 module _ (quote : QuoteType) (alpha : Float) (ts fs payments accruals : List Float) (strike t vol : Float) where
-  abbrev objectiveOn : Float → Float → List Float → Float → Outcome Float
-  objectiveOn pt pPlus ps = swaptionObjective quote alpha payments accruals strike t vol pt pPlus ps
+  abbrev objectiveFrom : Float → Float → List Float → Float → Outcome Float
+  objectiveFrom pt pPlus ps = swaptionObjective quote alpha payments accruals strike t vol pt pPlus ps
 
   abbrev swaptionOn : Float → Float → List Float → Outcome Fit
-  swaptionOn pt pPlus ps = following (solveOf (objectiveOn pt pPlus ps)) finishingFit
+  swaptionOn pt pPlus ps = following (solveOf (objectiveFrom pt pPlus ps)) finishingFit
 
   fits : (o : Outcome Fit) → Late o → swaptionFitOutcome quote alpha ts fs payments accruals strike t vol ≡ o → Searches (swaptionRulesOn quote alpha ts fs payments accruals strike t vol) ts fs payments t swaptionOn o
   unfolding swaptionFitOutcome swaptionFitted
@@ -87,7 +87,7 @@ module _ (quote : QuoteType) (alpha : Float) (ts fs payments accruals : List Flo
   fit-begins b = begins (swaptionRulesOn quote alpha ts fs payments accruals strike t vol) ts fs payments t swaptionOn b
 
   -- the search at a sigma where the objective is served
-  root-at : (b : FitBegun quote alpha ts fs payments accruals strike t vol) (sigma x : Float) → objectiveOn (b .pt) (b .pPlus) (b .ps) sigma ≡ served x → RootAt quote alpha ts fs payments accruals strike t vol b sigma
+  root-at : (b : FitBegun quote alpha ts fs payments accruals strike t vol) (sigma x : Float) → objectiveFrom (b .pt) (b .pPlus) (b .ps) sigma ≡ served x → RootAt quote alpha ts fs payments accruals strike t vol b sigma
   root-at b sigma x e =
       let r = value-there quote alpha payments accruals strike t vol (b .pt) (b .pPlus) (b .ps) sigma e in
       record { valued = r .0; price = r .1; located = root-there quote alpha payments accruals strike t vol (b .pt) (b .pPlus) (b .ps) sigma (r .0) (r .1) }
@@ -98,7 +98,7 @@ module _ (quote : QuoteType) (alpha : Float) (ts fs payments accruals : List Flo
     swaption-held fit e =
         let s = fits (served fit) tt (sym is ∙ e) in
         let b = s .begun in
-        let f = objectiveOn (b .pt) (b .pPlus) (b .ps) in
+        let f = objectiveFrom (b .pt) (b .pPlus) (b .ps) in
         let a = demand3 .assured f fit (finished-served (solveOf f) fit (s .goes-on)) in
         record { begun = b; assured = a; every-search = λ sigma m. let x = a .every sigma m in root-at b sigma (x .residual) (x .there) }
 
@@ -109,7 +109,7 @@ module _ (quote : QuoteType) (alpha : Float) (ts fs payments accruals : List Flo
         there e =
             let s = fits (refused R.NoBracket) tt (sym is ∙ e) in
             let b = s .begun in
-            let f = objectiveOn (b .pt) (b .pPlus) (b .ps) in
+            let f = objectiveFrom (b .pt) (b .pPlus) (b .ps) in
             let w = demand3 .no-bracket f .0 (finished-wanting (solveOf f) (s .goes-on)) in
             record {
               begun = b;
@@ -121,7 +121,7 @@ module _ (quote : QuoteType) (alpha : Float) (ts fs payments accruals : List Flo
         back : FitWantsBracket quote alpha ts fs payments accruals strike t vol → o ≡ refused R.NoBracket
         back w =
             let b = w .begun in
-            let f = objectiveOn (b .pt) (b .pPlus) (b .ps) in
+            let f = objectiveFrom (b .pt) (b .pPlus) (b .ps) in
             let e = bracket-wanted quote alpha payments accruals strike t vol (b .pt) (b .pPlus) (b .ps) (w .sigma) (w .unbracketed) in
             let k = demand3 .no-bracket f .1 (record { sigma = w .sigma; tried = w .tried; there = e }) in
             is ∙ fit-begins b ∙ ap (λ (x : Outcome Fit). following x finishingFit) k
