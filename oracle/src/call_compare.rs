@@ -4,10 +4,11 @@
 //!   alone where some are named;
 //! - `library-call LINE` makes the call of a line and compares it;
 //! - `library-slips N SEED` counts which slips N calls tell apart;
+//! - `library-names` prints the names of the functions;
 //! - `fixed-calls DIR OUT N SEED` writes the fixed lists to OUT: the calls of
 //!   DIR/edges.txt with their outcomes anew, and some chosen from N random calls.
 //!
-//! All but the last need the library: `oracle/calls` builds and runs them.
+//! The first three need the library: `oracle/calls` builds and runs them.
 
 use crate::abi::{self, Call, Kind, Outcome, FUNCTIONS};
 use crate::call_inputs::Inputs;
@@ -50,6 +51,10 @@ pub fn main(args: &[String]) -> i32 {
         ["library-call", line @ ..] => one(&line.join(" ")),
         #[cfg(calls)]
         ["library-slips", count, seed] => two(count, seed).map(|(count, seed)| slips(count, seed)),
+        ["library-names"] => {
+            FUNCTIONS.iter().for_each(|row| println!("{}", row.name));
+            Ok(0)
+        }
         ["fixed-calls", from, to, count, seed] => {
             two(count, seed).and_then(|(count, seed)| fixed(from, to, count, seed))
         }

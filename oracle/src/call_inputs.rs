@@ -300,8 +300,8 @@ fn rare(kind: u64) -> &'static [&'static str] {
 }
 
 /// Terms written by hand: document 01's cases; far rungs, the last one and none;
-/// each refusal of a search, in each ladder; the derivative about 1e-14; an
-/// infinite sum; an infinite step.
+/// each refusal of a search, in each ladder; the derivative about 1e-14; ends that
+/// move up to the last halving; an infinite sum; an infinite step.
 const WRITTEN_TERMS: &[&[(f64, f64, f64)]] = &[
     &[(1.0, 1.0, 0.0)],
     &[(2.0, 1.0, 0.0)],
@@ -329,6 +329,7 @@ const WRITTEN_TERMS: &[&[(f64, f64, f64)]] = &[
     &[(1.0, 1.0, 0.99e-14)],
     &[(1.0, 1.0, 1.01e-14)],
     &[(2.0, 1.0, 0.0), (1.0, 1.0, -1.0), (-1.0, 1.0, -1.0)],
+    &[(1.0, 1.0, 1e60)],
     &[(1.0, 1.0, 1e300)],
     &[(1e-310, 1e308, 1.0)],
 ];
