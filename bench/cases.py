@@ -99,12 +99,12 @@ def path(points, curve_points, pillar_count, jobs):
                grid=grid, jobs=[job(12)] * jobs)
 
 
-def basket(count, alpha=ALPHA):
-    """A basket as crates/test_baskets reads it: the numbers of points and of caplets, alpha, the points, the caplets
+def basket(count):
+    """A basket as bench/basket.c reads it: the numbers of points and of caplets, alpha, the points, the caplets
     (1 for a normal quote, strike, start, end, volatility)."""
     listed = [(0.25 * (i + 1), 0.25 * (i + 2)) for i in range(count)]
     points = curve(128, sorted({t for span in listed for t in span}))
-    made = struct.pack("<2Id", len(points), count, alpha)
+    made = struct.pack("<2Id", len(points), count, ALPHA)
     made += b"".join(struct.pack("<2d", *point) for point in points)
     for i, (start, end) in enumerate(listed):
         normal = i % 2
@@ -135,8 +135,6 @@ CASES += [("large", f"kind {kind}, 1 job, 64 coupons, {word}", swaptions(kind, 6
 CASES += [("large", "kind 12, 1 job of 1,024 points, 64 pillars, 2,048 points", path(1024, 2048, 64, 1))]
 CASES += [("large", "kind 6, 128 jobs, 64 coupons", swaptions(6, 64, 128, 72))]
 CASES += [("basket", "a basket of 64 caplets", basket(64))]
-# The same basket turned down at once, by its alpha: what it costs to read it and to write the answer.
-IDLE_BASKET = basket(64, 0.0)
 CASES += [("growth", f"kind 6, 128 jobs, coupons {n}", swaptions(6, n, 128)) for n in (1, 4, 16, 64)]
 CASES += [("growth", f"kind 1, 128 jobs, curve points {n}", spread(n)) for n in (16, 128, 2048)]
 CASES += [("program", f"mixed kinds 1 to 11, jobs {n}", mixed(n)) for n in (1, 16, 128)]

@@ -112,7 +112,7 @@ fn line(text: &mut Vec<u8>, number: usize, kind: u64, value: f64, note: usize) {
     writeln!(text, "{number} {kind} 0 {:016x} {note}", value.to_bits()).unwrap();
 }
 
-/// A basket as `crates/test_baskets` reads it: the numbers of points and of
+/// A basket as `bench/basket.c` reads it: the numbers of points and of
 /// caplets (u32), alpha, the points, the caplets. A line a caplet: its sigma
 /// and its place on the diagonal.
 fn work_basket(bytes: &[u8], rounds: u32) -> Vec<u8> {
