@@ -38,8 +38,6 @@ oracle slips                                            the names of the slips
 oracle call NAME ARGUMENT..                             one call of the Rust
 oracle vectors NAME COUNT SEED                          calls with random arguments
 oracle calls                                            the names of the calls
-oracle baskets PROGRAM N SEED                           a program on generated baskets
-oracle basket-vectors DIR SEED                          a short list of baskets with their answers
 oracle fixed-calls DIR OUT N SEED                       the fixed lists of calls of the library
 ";
 
@@ -51,7 +49,6 @@ fn main() {
         Some("call") => calls::call(&args[1..]),
         Some("vectors") => calls::vectors(&args[1..]),
         Some("calls") => calls::list(),
-        Some("baskets" | "basket-vectors") => baskets::main(&args),
         Some("library-calls" | "library-call" | "library-slips" | "library-names" | "fixed-calls") => {
             call_compare::main(&args)
         }
