@@ -120,9 +120,19 @@ macro_rules! report {
     (@words $words:ident $value:expr, bool) => { $words.push(u64::from($value)) };
 }
 
-report!(PriceReport { answer: u64, value: f64, });
-report!(D1D2Report { answer: u64, d1: f64, d2: f64, });
-report!(CountReport { answer: u64, count: u64, });
+report!(PriceReport {
+    answer: u64,
+    value: f64,
+});
+report!(D1D2Report {
+    answer: u64,
+    d1: f64,
+    d2: f64,
+});
+report!(CountReport {
+    answer: u64,
+    count: u64,
+});
 report!(CriticalRateReport {
     answer: u64,
     rate: f64,
@@ -443,13 +453,16 @@ impl Call {
                 Arg::Room(room) | Arg::ByteRoom(room) => write!(text, "{room}").unwrap(),
                 Arg::Floats(list) => text += &floats_text(list),
                 Arg::Bools(list) => {
-                    let digits: String =
-                        list.iter().map(|one| if *one { '1' } else { '0' }).collect();
+                    let digits: String = list
+                        .iter()
+                        .map(|one| if *one { '1' } else { '0' })
+                        .collect();
                     write!(text, "[{digits}]").unwrap();
                 }
                 Arg::Bytes(list) => {
                     text.push('[');
-                    list.iter().for_each(|byte| write!(text, "{byte:02x}").unwrap());
+                    list.iter()
+                        .for_each(|byte| write!(text, "{byte:02x}").unwrap());
                     text.push(']');
                 }
             }
@@ -469,7 +482,10 @@ impl Call {
             let words = &outcome.words[at..at + count];
             at += count;
             if count > 1 {
-                let full = words.iter().rposition(|word| *word != 0).map_or(0, |last| last + 1);
+                let full = words
+                    .iter()
+                    .rposition(|word| *word != 0)
+                    .map_or(0, |last| last + 1);
                 text += &words_text(words[..full].iter().copied());
             } else if float {
                 write!(text, "{:016x}", words[0]).unwrap();
@@ -483,7 +499,10 @@ impl Call {
         }
         if function.arguments.iter().any(|one| one.1 == Kind::ByteRoom) {
             text += " [";
-            outcome.written.iter().for_each(|byte| write!(text, "{byte:02x}").unwrap());
+            outcome
+                .written
+                .iter()
+                .for_each(|byte| write!(text, "{byte:02x}").unwrap());
             text.push(']');
         }
         text
@@ -516,7 +535,10 @@ pub type Lists = BTreeMap<String, Vec<f64>>;
 /// `list NAME [..]`, which lines after it may refer to.
 pub fn parse_list(line: &str, lists: &mut Lists) -> Option<()> {
     let mut words = line.strip_prefix("list ")?.split_whitespace();
-    let (name, Arg::Floats(list)) = (words.next()?, parse_argument(words.next()?, Kind::Floats, lists)?) else {
+    let (name, Arg::Floats(list)) = (
+        words.next()?,
+        parse_argument(words.next()?, Kind::Floats, lists)?,
+    ) else {
         return None;
     };
     lists.insert(name.to_string(), list);
@@ -533,7 +555,9 @@ pub fn parse(line: &str, lists: &Lists) -> Result<Call, String> {
     let mut args = Vec::new();
     for (what, kind) in FUNCTIONS[function].arguments {
         let word = words.next().ok_or(format!("{name}: {what} is missing"))?;
-        args.push(parse_argument(word, *kind, lists).ok_or(format!("{name}: {what} cannot be {word}"))?);
+        args.push(
+            parse_argument(word, *kind, lists).ok_or(format!("{name}: {what} cannot be {word}"))?,
+        );
     }
     match words.next() {
         None => Ok(Call { function, args }),
@@ -548,13 +572,21 @@ fn parse_argument(word: &str, kind: Kind, lists: &Lists) -> Option<Arg> {
             return None;
         };
         let (from, count): (usize, usize) = (from.parse().ok()?, count.parse().ok()?);
-        return Some(Arg::Floats(lists.get(*name)?.get(from..from + count)?.to_vec()));
+        return Some(Arg::Floats(
+            lists.get(*name)?.get(from..from + count)?.to_vec(),
+        ));
     }
     let float = |word: &str| {
-        let bits = if word.len() == 16 { u64::from_str_radix(word, 16).ok() } else { None };
+        let bits = if word.len() == 16 {
+            u64::from_str_radix(word, 16).ok()
+        } else {
+            None
+        };
         bits.map(f64::from_bits)
     };
-    let inner = word.strip_prefix('[').and_then(|word| word.strip_suffix(']'));
+    let inner = word
+        .strip_prefix('[')
+        .and_then(|word| word.strip_suffix(']'));
     Some(match kind {
         Kind::Number => Arg::Number(float(word)?),
         Kind::Size => Arg::Size(word.parse().ok()?),
@@ -605,7 +637,14 @@ mod linked {
     use std::sync::atomic::{AtomicPtr, Ordering};
 
     extern "C" {
-        fn mmap(at: *mut c_void, size: usize, may: i32, how: i32, file: i32, from: i64) -> *mut c_void;
+        fn mmap(
+            at: *mut c_void,
+            size: usize,
+            may: i32,
+            how: i32,
+            file: i32,
+            from: i64,
+        ) -> *mut c_void;
         fn mprotect(at: *mut c_void, size: usize, may: i32) -> i32;
         fn signal(number: i32, handler: usize) -> usize;
         fn alarm(seconds: u32) -> u32;
@@ -638,7 +677,10 @@ mod linked {
 
     extern "C" fn ended(number: i32) {
         let call = UNDER_WAY.load(Ordering::SeqCst);
-        let what = SIGNALS.iter().find(|one| one.0 == number).map_or("falls over", |one| one.1);
+        let what = SIGNALS
+            .iter()
+            .find(|one| one.0 == number)
+            .map_or("falls over", |one| one.1);
         if call.is_null() {
             eprintln!("signal {number} outside the library");
         } else {
@@ -656,7 +698,14 @@ mod linked {
             const PRIVATE_ANONYMOUS: i32 = 0x22;
             unsafe {
                 let all = ROOM + 2 * PAGE;
-                let at = mmap(std::ptr::null_mut(), all, READ_AND_WRITE, PRIVATE_ANONYMOUS, -1, 0);
+                let at = mmap(
+                    std::ptr::null_mut(),
+                    all,
+                    READ_AND_WRITE,
+                    PRIVATE_ANONYMOUS,
+                    -1,
+                    0,
+                );
                 assert!(at as isize != -1, "no memory");
                 let at = at.cast::<u8>();
                 assert_eq!(mprotect(at.cast(), PAGE, 0), 0);
@@ -701,7 +750,9 @@ mod linked {
         fn new(call: &Call, at_the_end: bool, slots: &[Slot]) -> Frame {
             let laid = call.args.iter().zip(slots);
             Frame {
-                laid: laid.map(|(arg, slot)| Laid::new(arg, slot, at_the_end)).collect(),
+                laid: laid
+                    .map(|(arg, slot)| Laid::new(arg, slot, at_the_end))
+                    .collect(),
                 at: 0,
             }
         }
@@ -737,9 +788,12 @@ mod linked {
                     size = *value;
                     (0, Vec::new())
                 }
-                Arg::Floats(list) => {
-                    (8, list.iter().flat_map(|float| float.to_bits().to_le_bytes()).collect())
-                }
+                Arg::Floats(list) => (
+                    8,
+                    list.iter()
+                        .flat_map(|float| float.to_bits().to_le_bytes())
+                        .collect(),
+                ),
                 Arg::Bools(list) => (1, list.iter().map(|one| u8::from(*one)).collect()),
                 Arg::Bytes(list) => (1, list.clone()),
                 // Numbers that no call gives: quiet NaNs with the place in them.
@@ -800,7 +854,12 @@ mod linked {
     /// Makes the call. Where a list that is read, a margin, or a place behind
     /// what is written is not as it was, the error says so; how much should be
     /// written is `written`.
-    pub fn run(call: &Call, at_the_end: bool, written: usize, meddle: Meddle) -> Result<Outcome, String> {
+    pub fn run(
+        call: &Call,
+        at_the_end: bool,
+        written: usize,
+        meddle: Meddle,
+    ) -> Result<Outcome, String> {
         SLOTS.with(|slots| {
             let slots = slots.borrow();
             let mut frame = Frame::new(call, at_the_end, &slots);
@@ -819,12 +878,19 @@ mod linked {
                     return Err(format!("{what}: a place beside the list was written"));
                 }
                 let lent_to_write = *what == "out";
-                let kept_from = if lent_to_write { written.min(laid.length) } else { 0 } * laid.width;
+                let kept_from = if lent_to_write {
+                    written.min(laid.length)
+                } else {
+                    0
+                } * laid.width;
                 if laid.now()[kept_from..] != laid.before[kept_from..] {
                     let place = (kept_from..laid.before.len())
                         .find(|at| laid.now()[*at] != laid.before[*at])
                         .map_or(0, |at| at / laid.width);
-                    return Err(format!("{what}: place {place} of {} was written", laid.length));
+                    return Err(format!(
+                        "{what}: place {place} of {} was written",
+                        laid.length
+                    ));
                 }
                 if lent_to_write {
                     out = laid.now()[..kept_from]
@@ -837,7 +903,10 @@ mod linked {
                         .collect();
                 }
             }
-            Ok(Outcome { words, written: out })
+            Ok(Outcome {
+                words,
+                written: out,
+            })
         })
     }
 

@@ -4,10 +4,11 @@
 //!   alone where some are named;
 //! - `library-call LINE` makes the call of a line and compares it;
 //! - `library-slips N SEED` counts which slips N calls tell apart;
+//! - `library-names` prints the names of the functions;
 //! - `fixed-calls DIR OUT N SEED` writes the fixed lists to OUT: the calls of
 //!   DIR/edges.txt with their outcomes anew, and some chosen from N random calls.
 //!
-//! All but the last need the library: `oracle/calls` builds and runs them.
+//! The first three need the library: `oracle/calls` builds and runs them.
 
 use crate::abi::{self, Call, Kind, Outcome, FUNCTIONS};
 use crate::call_inputs::Inputs;
@@ -32,15 +33,26 @@ const USAGE: &str = "usage:
 /// Gives the exit code: 0 all well, 1 a difference, 2 a wrong call.
 pub fn main(args: &[String]) -> i32 {
     let words: Vec<&str> = args.iter().map(String::as_str).collect();
-    let number = |word: &str| word.parse::<u64>().map_err(|_| format!("not a number: {word}\n{USAGE}"));
-    let two = |one: &str, other: &str| number(one).and_then(|one| number(other).map(|other| (one, other)));
+    let number = |word: &str| {
+        word.parse::<u64>()
+            .map_err(|_| format!("not a number: {word}\n{USAGE}"))
+    };
+    let two = |one: &str, other: &str| {
+        number(one).and_then(|one| number(other).map(|other| (one, other)))
+    };
     // What the judge says when it falls over is told by the comparison.
     std::panic::set_hook(Box::new(|_| {}));
     let done = match words.as_slice() {
         #[cfg(calls)]
         ["library-calls", count, seed, names @ ..] => two(count, seed).and_then(|(count, seed)| {
-            let only = names.iter().map(|name| abi::named(name).ok_or(format!("no function is called {name}")));
-            Ok(compare(count, seed, only.collect::<Result<Vec<usize>, String>>()?))
+            let only = names
+                .iter()
+                .map(|name| abi::named(name).ok_or(format!("no function is called {name}")));
+            Ok(compare(
+                count,
+                seed,
+                only.collect::<Result<Vec<usize>, String>>()?,
+            ))
         }),
         #[cfg(calls)]
         ["library-call", "-"] => std::io::read_to_string(std::io::stdin())
@@ -50,6 +62,10 @@ pub fn main(args: &[String]) -> i32 {
         ["library-call", line @ ..] => one(&line.join(" ")),
         #[cfg(calls)]
         ["library-slips", count, seed] => two(count, seed).map(|(count, seed)| slips(count, seed)),
+        ["library-names"] => {
+            FUNCTIONS.iter().for_each(|row| println!("{}", row.name));
+            Ok(0)
+        }
         ["fixed-calls", from, to, count, seed] => {
             two(count, seed).and_then(|(count, seed)| fixed(from, to, count, seed))
         }
@@ -69,7 +85,10 @@ fn expected(call: &Call) -> Result<Outcome, String> {
         Err(fell) => {
             let text = fell.downcast_ref::<String>().cloned();
             let text = text.or_else(|| fell.downcast_ref::<&str>().map(|text| text.to_string()));
-            Err(format!("the oracle fell over: {}", text.unwrap_or_default()))
+            Err(format!(
+                "the oracle fell over: {}",
+                text.unwrap_or_default()
+            ))
         }
     }
 }
@@ -94,6 +113,8 @@ struct Stream {
     only: Vec<usize>,
     /// Calls by what rule 1 met in them, and served ones with a list at its limit.
     lengths: BTreeMap<String, u64>,
+    /// Fits that converged and fits that did not: single ones, of baskets, bumped.
+    fits: [[u64; 2]; 3],
 }
 
 impl Stream {
@@ -105,6 +126,28 @@ impl Stream {
             answers: BTreeMap::new(),
             only: Vec::new(),
             lengths: BTreeMap::new(),
+            fits: [[0; 2]; 3],
+        }
+    }
+
+    /// Counts the served fits, those of baskets and the bumped ones apart.
+    fn count_fits(&mut self, call: &Call, outcome: &Outcome) {
+        if outcome.words[0] != 0 {
+            return;
+        }
+        let mut at = 0;
+        for &(field, count, _) in call.table().fields {
+            let words = &outcome.words[at..at + count];
+            at += count;
+            let (counts, places) = match field {
+                "converged" => (&mut self.fits[0], 1),
+                "statuses" => (&mut self.fits[1], outcome.words[1] as usize),
+                "bumped_statuses" => (&mut self.fits[2], outcome.words[1] as usize),
+                _ => continue,
+            };
+            for word in &words[..places] {
+                counts[usize::from(*word == 0)] += 1;
+            }
         }
     }
 
@@ -120,7 +163,11 @@ impl Stream {
                 "coefficients" => "terms",
                 name => name,
             };
-            let longest = places.iter().map(|place| call.length(*place)).max().unwrap_or(0);
+            let longest = places
+                .iter()
+                .map(|place| call.length(*place))
+                .max()
+                .unwrap_or(0);
             paired &= places.iter().all(|place| call.length(*place) == longest);
             if longest > *limit && paired {
                 add(format!("{longest} {name}"));
@@ -164,6 +211,9 @@ impl Stream {
             self.tried[function] += 1;
             if let Ok(answer) = answer {
                 self.count_lengths(&call, answer);
+                if let Ok(outcome) = &outcome {
+                    self.count_fits(&call, outcome);
+                }
                 self.served[function] += u64::from(answer == 0);
                 *self.answers.entry((function, answer)).or_default() += 1;
             }
@@ -176,11 +226,18 @@ impl Stream {
         let mut text = format!("{:30} |", "call");
         let columns = 0..=13;
         for answer in columns.clone() {
-            let head = if answer == 0 { "served".to_string() } else { answer.to_string() };
+            let head = if answer == 0 {
+                "served".to_string()
+            } else {
+                answer.to_string()
+            };
             write!(text, " {head:>7}").unwrap();
         }
         text.push('\n');
         for (function, row) in FUNCTIONS.iter().enumerate() {
+            if !self.only.is_empty() && !self.only.contains(&function) {
+                continue;
+            }
             write!(text, "{:30} |", row.name).unwrap();
             for answer in columns.clone() {
                 match self.answers.get(&(function, answer)) {
@@ -216,9 +273,7 @@ fn can_give(name: &str) -> &'static [u64] {
         "fit_caplet_black" | "fit_caplet_normal" | "calibrate_to_instruments" => {
             &[0, 1, 2, 3, 4, 5, 6, 8, 9, 12, 13]
         }
-        "fit_swaption_black" | "fit_swaption_normal" => {
-            &[0, 1, 2, 3, 4, 5, 6, 7, 8, 9, 10, 12, 13]
-        }
+        "fit_swaption_black" | "fit_swaption_normal" => &[0, 1, 2, 3, 4, 5, 6, 7, 8, 9, 10, 12, 13],
         "find_critical_rate" => &[0, 1, 2, 9, 10, 13],
         "implicit_critical_rate" => &[0, 1, 2, 9, 10, 11, 13],
         "generate" => &[0, 1, 2, 3, 4, 5, 6, 7, 8, 13],
@@ -243,12 +298,19 @@ fn difference(call: &Call, right: &Outcome, found: &Result<Outcome, String>) -> 
             let (one, other) = (right.words[at], found.words[at]);
             at += 1;
             if one != other && !(ground && abi::alike(one, other)) {
-                let place = if count > 1 { format!(" {place}") } else { String::new() };
-                return Some(format!("{field}{place}: {one:016x} expected, {other:016x} found"));
+                let place = if count > 1 {
+                    format!(" {place}")
+                } else {
+                    String::new()
+                };
+                return Some(format!(
+                    "{field}{place}: {one:016x} expected, {other:016x} found"
+                ));
             }
         }
     }
-    let place = (0..right.written.len()).find(|place| right.written[*place] != found.written[*place])?;
+    let place =
+        (0..right.written.len()).find(|place| right.written[*place] != found.written[*place])?;
     Some(format!(
         "out {place}: {:016x} expected, {:016x} found",
         right.written[place], found.written[place]
@@ -293,13 +355,27 @@ fn compare(count: u64, seed: u64, only: Vec<usize>) -> i32 {
         if let Some(what) = difference(&call, &right, &found) {
             differ += 1;
             if differ <= SHOWN {
-                show(&call, &right, &found, &format!("call {index} of seed {seed}: {what}"));
+                show(
+                    &call,
+                    &right,
+                    &found,
+                    &format!("call {index} of seed {seed}: {what}"),
+                );
             }
         }
     }
     print!("{}", stream.table());
-    let lengths: Vec<String> = stream.lengths.iter().map(|(what, count)| format!("{what} {count}")).collect();
+    let lengths: Vec<String> = stream
+        .lengths
+        .iter()
+        .map(|(what, count)| format!("{what} {count}"))
+        .collect();
     println!("lengths: {}", lengths.join(", "));
+    let [single, basket, bumped] = stream.fits;
+    println!(
+        "fits converged and unconverged: {} and {}, in baskets {} and {}, bumped {} and {}",
+        single[0], single[1], basket[0], basket[1], bumped[0], bumped[1]
+    );
     let mut wrong = differ + unknown > 0;
     let mut missing = Vec::new();
     for (function, row) in FUNCTIONS.iter().enumerate() {
@@ -352,7 +428,12 @@ fn one(line: &str) -> Result<i32, String> {
         let what = difference(&call, &right, &found);
         wrong |= what.is_some();
         if at_the_end || what.is_some() {
-            show(&call, &right, &found, what.as_deref().unwrap_or("no difference"));
+            show(
+                &call,
+                &right,
+                &found,
+                what.as_deref().unwrap_or("no difference"),
+            );
         }
     }
     Ok(i32::from(wrong))
@@ -373,7 +454,10 @@ fn tells(call: &Call, right: &Outcome, at_the_end: bool, slip: Slip) -> bool {
                 difference(call, right, &run(&other, abi::Meddle::Nothing)).is_some()
             })
         }
-        Slip::InputWritten(_) | Slip::WrittenOnRefusal | Slip::WrittenBehind | Slip::WrittenBeside
+        Slip::InputWritten(_)
+        | Slip::WrittenOnRefusal
+        | Slip::WrittenBehind
+        | Slip::WrittenBeside
         | Slip::LastUnwritten => {
             let served = answer(call, right) == 0;
             let meddle = call_slips::meddle(call, written, served, slip);
@@ -383,7 +467,12 @@ fn tells(call: &Call, right: &Outcome, at_the_end: bool, slip: Slip) -> bool {
             let Ok(found) = run(call, abi::Meddle::Nothing) else {
                 return false;
             };
-            difference(call, right, &Ok(call_slips::handed_back(call, &found, slip))).is_some()
+            difference(
+                call,
+                right,
+                &Ok(call_slips::handed_back(call, &found, slip)),
+            )
+            .is_some()
         }
     }
 }
@@ -399,16 +488,25 @@ fn slips(count: u64, seed: u64) -> i32 {
         };
         for (place, (function, slip)) in all.iter().enumerate() {
             if *function == call.function && told[place].is_none() {
-                let tells = catch_unwind(AssertUnwindSafe(|| tells(&call, &right, index % 2 == 0, *slip)));
+                let tells = catch_unwind(AssertUnwindSafe(|| {
+                    tells(&call, &right, index % 2 == 0, *slip)
+                }));
                 if tells.unwrap_or(true) {
                     told[place] = Some(index);
                 }
             }
         }
     }
-    let latest = told.iter().zip(&all).filter_map(|(at, slip)| at.map(|at| (at, slip))).max_by_key(|one| one.0);
+    let latest = told
+        .iter()
+        .zip(&all)
+        .filter_map(|(at, slip)| at.map(|at| (at, slip)))
+        .max_by_key(|one| one.0);
     if let Some((at, (function, slip))) = latest {
-        println!("the last told, by call {at}: {}", call_slips::described(*function, *slip));
+        println!(
+            "the last told, by call {at}: {}",
+            call_slips::described(*function, *slip)
+        );
     }
     let mut left = 0;
     for (place, (function, slip)) in all.iter().enumerate() {
@@ -423,7 +521,12 @@ fn slips(count: u64, seed: u64) -> i32 {
             println!("no slip of {}", row.name);
         }
     }
-    println!("{} slips of {} functions, {} told by {count} calls", all.len(), FUNCTIONS.len(), all.len() - left);
+    println!(
+        "{} slips of {} functions, {} told by {count} calls",
+        all.len(),
+        FUNCTIONS.len(),
+        all.len() - left
+    );
     i32::from(left > 0)
 }
 
@@ -443,7 +546,8 @@ fn fixed(from: &str, to: &str, count: u64, seed: u64) -> Result<i32, String> {
 
 /// The calls of a file, each with the outcome that it must have.
 fn edges(from: &str, to: &str) -> Result<(), String> {
-    let old = std::fs::read_to_string(from).map_err(|error| format!("cannot read {from}: {error}"))?;
+    let old =
+        std::fs::read_to_string(from).map_err(|error| format!("cannot read {from}: {error}"))?;
     let mut lists = abi::Lists::new();
     let mut text = declarations();
     let mut count = 0;
@@ -505,8 +609,10 @@ fn chosen(file: &str, count: u64, seed: u64) -> Result<i32, String> {
     let mut chosen: BTreeMap<u64, String> = BTreeMap::new();
     let mut have: BTreeMap<(usize, u64), usize> = BTreeMap::new();
     let mut longer: BTreeMap<(usize, u64), (u64, String)> = BTreeMap::new();
-    let mut slips: Vec<(usize, Slip)> =
-        call_slips::all().into_iter().filter(|slip| matches!(slip.1, Slip::Judge(_))).collect();
+    let mut slips: Vec<(usize, Slip)> = call_slips::all()
+        .into_iter()
+        .filter(|slip| matches!(slip.1, Slip::Judge(_)))
+        .collect();
     for index in 0..count {
         let (call, right) = stream.next();
         let right = right.map_err(|what| format!("call {index}: {what}\n  {}", call.text()))?;
@@ -517,8 +623,10 @@ fn chosen(file: &str, count: u64, seed: u64) -> Result<i32, String> {
             .filter(|place| match slips[*place] {
                 (function, Slip::Judge(name)) => {
                     function == call.function
-                        && catch_unwind(AssertUnwindSafe(|| call_slips::judge_differs(&call, &right, name)))
-                            .unwrap_or(true)
+                        && catch_unwind(AssertUnwindSafe(|| {
+                            call_slips::judge_differs(&call, &right, name)
+                        }))
+                        .unwrap_or(true)
                 }
                 _ => false,
             })
@@ -532,7 +640,9 @@ fn chosen(file: &str, count: u64, seed: u64) -> Result<i32, String> {
             continue;
         }
         if line.len() > LONG && told.is_empty() {
-            let best = longer.entry((call.function, answer)).or_insert_with(|| (index, line.clone()));
+            let best = longer
+                .entry((call.function, answer))
+                .or_insert_with(|| (index, line.clone()));
             if line.len() < best.1.len() {
                 *best = (index, line);
             }
@@ -556,7 +666,10 @@ fn chosen(file: &str, count: u64, seed: u64) -> Result<i32, String> {
     });
     std::fs::write(file, &text).map_err(|error| format!("cannot write {file}: {error}"))?;
     for (function, slip) in &slips {
-        println!("told by no call: {}", call_slips::described(*function, *slip));
+        println!(
+            "told by no call: {}",
+            call_slips::described(*function, *slip)
+        );
     }
     println!("{file}: {} calls, {} bytes", chosen.len(), text.len());
     Ok(0)

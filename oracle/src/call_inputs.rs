@@ -25,10 +25,17 @@ const TINY: f64 = 5e-324;
 fn weight(name: &str) -> u64 {
     match name {
         "calibrate_to_instruments" => 18,
-        "fit_caplet_black" | "fit_caplet_normal" | "fit_swaption_black" | "fit_swaption_normal" => 24,
+        "fit_caplet_black" | "fit_caplet_normal" | "fit_swaption_black" | "fit_swaption_normal" => {
+            24
+        }
         "swaption_price" | "payer_swaption_value" | "receiver_swaption_value" | "generate" => 28,
         "find_critical_rate" | "implicit_critical_rate" | "transition_variances" | "piece" => 26,
-        _ if FUNCTIONS.iter().any(|function| function.name == name && function.is_ground()) => 18,
+        _ if FUNCTIONS
+            .iter()
+            .any(|function| function.name == name && function.is_ground()) =>
+        {
+            18
+        }
         _ => 28,
     }
 }
@@ -148,7 +155,11 @@ impl Inputs {
             *pick(&mut self.dice, categories)
         };
         loop {
-            if let Some((run, job)) = self.jobs.get_mut(&(kind, rare)).and_then(VecDeque::pop_front) {
+            if let Some((run, job)) = self
+                .jobs
+                .get_mut(&(kind, rare))
+                .and_then(VecDeque::pop_front)
+            {
                 return arguments(&run, &job);
             }
             let bytes = if rare.is_empty() {
@@ -165,7 +176,8 @@ impl Inputs {
                 let waiting = self.jobs.entry((job.kind, rare)).or_default();
                 // Of fits that overflow those that are refused for it come first; files
                 // of many jobs of one kind do not crowd out the others.
-                let common = rare == OVERFLOWING && !overflows(&run, job) && self.dice.below(24) > 0;
+                let common =
+                    rare == OVERFLOWING && !overflows(&run, job) && self.dice.below(24) > 0;
                 if waiting.len() < 400 && !common {
                     waiting.push_back((Rc::clone(&run), *job));
                 }
@@ -185,7 +197,11 @@ impl Inputs {
             let run = judge::read(&bytes, Slip::Nothing).expect("a sound file");
             let from = run.jobs.iter().position(|job| overflows(&run, job));
             let from = from.unwrap_or(self.dice.below(run.jobs.len() as u64) as usize);
-            let quotes = run.jobs.iter().skip(from).take(1 + self.dice.below(2) as usize);
+            let quotes = run
+                .jobs
+                .iter()
+                .skip(from)
+                .take(1 + self.dice.below(2) as usize);
             ask.entries = quotes
                 .map(|job| judge::Caplet {
                     normal: job.kind == 9,
@@ -197,9 +213,8 @@ impl Inputs {
                 .collect();
             (ask.alpha, ask.curve) = (run.alpha, run.curve);
         }
-        let entries = |field: fn(&judge::Caplet) -> f64| {
-            Arg::Floats(ask.entries.iter().map(field).collect())
-        };
+        let entries =
+            |field: fn(&judge::Caplet) -> f64| Arg::Floats(ask.entries.iter().map(field).collect());
         vec![
             Arg::Number(ask.alpha),
             Arg::Floats(ask.curve.iter().map(|point| point.0).collect()),
@@ -225,7 +240,8 @@ impl Inputs {
                 calls::Arg::One(_) => unreachable!(),
             }
         };
-        let list = |field: fn(&(f64, f64, f64)) -> f64| Arg::Floats(rows.iter().map(field).collect());
+        let list =
+            |field: fn(&(f64, f64, f64)) -> f64| Arg::Floats(rows.iter().map(field).collect());
         vec![list(|row| row.0), list(|row| row.1), list(|row| row.2)]
     }
 
@@ -239,7 +255,14 @@ impl Inputs {
             let mut asked: Vec<u64> = if count <= 6 {
                 (0..=count).collect()
             } else {
-                vec![0, 1, 1 + dice.below(count - 1), 1 + dice.below(count - 1), count - 1, count]
+                vec![
+                    0,
+                    1,
+                    1 + dice.below(count - 1),
+                    1 + dice.below(count - 1),
+                    count - 1,
+                    count,
+                ]
             };
             if dice.below(4) == 0 {
                 asked.push(*pick(dice, &[count + 1, 128, 129, 130, 1 << 32, u64::MAX]));
@@ -269,7 +292,9 @@ fn overflows(run: &Run, job: &Job) -> bool {
     let case = Case {
         run,
         job: *job,
-        n: Numbers { slip: Slip::Nothing },
+        n: Numbers {
+            slip: Slip::Nothing,
+        },
     };
     case.answer(&mut Trace::default()).code == 13
 }
@@ -277,7 +302,12 @@ fn overflows(run: &Run, job: &Job) -> bool {
 /// Categories of files in which a kind's rarer answers are.
 fn rare(kind: u64) -> &'static [&'static str] {
     match kind {
-        5 => &["limit/overflowing-sum", "limit/mixed-signs", "limit/rungs", "limit/wild-terms"],
+        5 => &[
+            "limit/overflowing-sum",
+            "limit/mixed-signs",
+            "limit/rungs",
+            "limit/wild-terms",
+        ],
         6 | 7 => &[
             "near/derivative",
             "near/derivative",
@@ -294,14 +324,21 @@ fn rare(kind: u64) -> &'static [&'static str] {
             "fit/zero-residual",
             "near/tolerance",
         ],
-        10 | 11 => &["limit/overflowing-swap-fit", "refusal/fit-order", "refusal/fit-order", "limit/rungs", "limit/mixed-signs", "limit/wild-terms"],
+        10 | 11 => &[
+            "limit/overflowing-swap-fit",
+            "refusal/fit-order",
+            "refusal/fit-order",
+            "limit/rungs",
+            "limit/mixed-signs",
+            "limit/wild-terms",
+        ],
         _ => &[],
     }
 }
 
 /// Terms written by hand: document 01's cases; far rungs, the last one and none;
-/// each refusal of a search, in each ladder; the derivative about 1e-14; an
-/// infinite sum; an infinite step.
+/// each refusal of a search, in each ladder; the derivative about 1e-14; ends that
+/// move up to the last halving; an infinite sum; an infinite step.
 const WRITTEN_TERMS: &[&[(f64, f64, f64)]] = &[
     &[(1.0, 1.0, 0.0)],
     &[(2.0, 1.0, 0.0)],
@@ -329,6 +366,7 @@ const WRITTEN_TERMS: &[&[(f64, f64, f64)]] = &[
     &[(1.0, 1.0, 0.99e-14)],
     &[(1.0, 1.0, 1.01e-14)],
     &[(2.0, 1.0, 0.0), (1.0, 1.0, -1.0), (-1.0, 1.0, -1.0)],
+    &[(1.0, 1.0, 1e60)],
     &[(1.0, 1.0, 1e300)],
     &[(1e-310, 1e308, 1.0)],
 ];
@@ -341,11 +379,17 @@ fn arguments(run: &Run, job: &Job) -> Vec<Arg> {
     let number = Arg::Number;
     let mut args = vec![number(run.alpha)];
     if matches!(job.kind, 6 | 7 | 12) {
-        args.extend([list(&run.pillars, |row| row.0), list(&run.pillars, |row| row.1)]);
+        args.extend([
+            list(&run.pillars, |row| row.0),
+            list(&run.pillars, |row| row.1),
+        ]);
     }
     args.extend([list(&run.curve, |row| row.0), list(&run.curve, |row| row.1)]);
     if matches!(job.kind, 5 | 6 | 7 | 10 | 11) {
-        args.extend([list(&run.coupons, |row| row.0), list(&run.coupons, |row| row.1)]);
+        args.extend([
+            list(&run.coupons, |row| row.0),
+            list(&run.coupons, |row| row.1),
+        ]);
     }
     match job.kind {
         6 | 7 => args.extend([
@@ -377,7 +421,11 @@ fn beside(dice: &mut Dice, x: f64) -> f64 {
     if x == 0.0 {
         return if dice.below(2) == 0 { TINY } else { -TINY };
     }
-    f64::from_bits(if dice.below(2) == 0 { x.to_bits() + 1 } else { x.to_bits() - 1 })
+    f64::from_bits(if dice.below(2) == 0 {
+        x.to_bits() + 1
+    } else {
+        x.to_bits() - 1
+    })
 }
 
 /// A finite number above 0 of any size.
@@ -385,7 +433,22 @@ fn wild(dice: &mut Dice) -> f64 {
     match dice.below(3) {
         0 => *pick(
             dice,
-            &[TINY, 1e-320, f64::MIN_POSITIVE, 1e-300, 1e-154, 1e-16, 1e-12, 0.5, 1.0, 2.0, 1e12, 1e154, 1e300, f64::MAX],
+            &[
+                TINY,
+                1e-320,
+                f64::MIN_POSITIVE,
+                1e-300,
+                1e-154,
+                1e-16,
+                1e-12,
+                0.5,
+                1.0,
+                2.0,
+                1e12,
+                1e154,
+                1e300,
+                f64::MAX,
+            ],
         ),
         1 => f64::from_bits(1 + dice.below(0x7fef_ffff_ffff_ffff)),
         _ => dice.log_between(1e-30, 1e30),
@@ -472,7 +535,11 @@ fn curve(dice: &mut Dice, needed: &[f64]) -> [Arg; 2] {
     }
     let level = dice.between(-0.02, 0.08);
     let any = dice.below(16) == 0;
-    let scale = if dice.below(12) == 0 { dice.log_between(1e-6, 1e9) } else { 1.0 };
+    let scale = if dice.below(12) == 0 {
+        dice.log_between(1e-6, 1e9)
+    } else {
+        1.0
+    };
     let factors = times
         .iter()
         .map(|t| {
@@ -482,7 +549,13 @@ fn curve(dice: &mut Dice, needed: &[f64]) -> [Arg; 2] {
                 scale * exp(-(level + dice.between(-1e-4, 1e-4)) * t)
             }
         })
-        .map(|factor| if factor > 0.0 && factor.is_finite() { factor } else { 1.0 })
+        .map(|factor| {
+            if factor > 0.0 && factor.is_finite() {
+                factor
+            } else {
+                1.0
+            }
+        })
         .collect();
     [Arg::Floats(times), Arg::Floats(factors)]
 }
@@ -510,7 +583,16 @@ fn pillars(dice: &mut Dice, asked: &[f64]) -> [Arg; 2] {
     }
     times.sort_by(f64::total_cmp);
     times.dedup_by(|one, other| one == other);
-    let sigmas = times.iter().map(|_| if dice.below(8) == 0 { 0.0 } else { dice.between(0.0, 0.05) }).collect();
+    let sigmas = times
+        .iter()
+        .map(|_| {
+            if dice.below(8) == 0 {
+                0.0
+            } else {
+                dice.between(0.0, 0.05)
+            }
+        })
+        .collect();
     [Arg::Floats(times), Arg::Floats(sigmas)]
 }
 
@@ -559,13 +641,25 @@ fn made(dice: &mut Dice, name: &str) -> Vec<Arg> {
                 2 => dice.log_between(1e-12, 1e3),
                 _ => forward * dice.log_between(0.3, 3.0),
             };
-            let vol = if dice.below(8) == 0 { dice.log_between(1e-5, 20.0) } else { dice.log_between(0.01, 2.0) };
+            let vol = if dice.below(8) == 0 {
+                dice.log_between(1e-5, 20.0)
+            } else {
+                dice.log_between(0.01, 2.0)
+            };
             ones(&[forward, strike, vol, dice.log_between(0.01, 30.0)])
         }
         "bachelier_call" => {
             let forward = dice.between(-0.05, 0.15);
-            let strike = if dice.below(12) == 0 { forward } else { dice.between(-0.05, 0.15) };
-            let vol = if dice.below(8) == 0 { dice.log_between(1e-6, 1.0) } else { dice.log_between(1e-4, 0.05) };
+            let strike = if dice.below(12) == 0 {
+                forward
+            } else {
+                dice.between(-0.05, 0.15)
+            };
+            let vol = if dice.below(8) == 0 {
+                dice.log_between(1e-6, 1.0)
+            } else {
+                dice.log_between(1e-4, 0.05)
+            };
             ones(&[forward, strike, vol, dice.log_between(0.01, 30.0)])
         }
         "swap_annuity_from_curve" => {
@@ -615,17 +709,41 @@ fn made(dice: &mut Dice, name: &str) -> Vec<Arg> {
                 2..=8 => dice.below(40),
                 _ => dice.below(7),
             };
-            let step = if dice.below(12) == 0 { dice.log_between(1e-6, 1e3) } else { dice.between(0.01, 1.0) };
+            let step = if dice.below(12) == 0 {
+                dice.log_between(1e-6, 1e3)
+            } else {
+                dice.between(0.01, 1.0)
+            };
             let [times, sigmas] = pillars(dice, &[step, 2.0 * step]);
-            let room = steps as usize + if dice.below(2) == 0 { 0 } else { dice.below(4) as usize };
-            vec![number(alpha), times, sigmas, Arg::Size(steps), number(step), Arg::Room(room)]
+            let room = steps as usize
+                + if dice.below(2) == 0 {
+                    0
+                } else {
+                    dice.below(4) as usize
+                };
+            vec![
+                number(alpha),
+                times,
+                sigmas,
+                Arg::Size(steps),
+                number(step),
+                Arg::Room(room),
+            ]
         }
         "caplet_price" | "floorlet_price" => {
-            let strike = if dice.below(8) == 0 { dice.between(-0.5, 0.5) } else { dice.between(-0.02, 0.1) };
+            let strike = if dice.below(8) == 0 {
+                dice.between(-0.5, 0.5)
+            } else {
+                dice.between(-0.02, 0.1)
+            };
             with_curve(dice, &[t, bond], &[strike, t, bond, sigma])
         }
         "bond_put_price" | "bond_call_price" => {
-            let strike = if dice.below(16) == 0 { dice.between(-1.0, 3.0) } else { dice.between(0.5, 1.2) };
+            let strike = if dice.below(16) == 0 {
+                dice.between(-1.0, 3.0)
+            } else {
+                dice.between(0.5, 1.2)
+            };
             with_curve(dice, &[t, bond], &[t, bond, strike, sigma])
         }
         "fit_caplet_black" | "fit_caplet_normal" => {
@@ -644,15 +762,27 @@ fn made(dice: &mut Dice, name: &str) -> Vec<Arg> {
                 1 => 0,
                 _ => 1 + dice.below(8),
             };
-            let mut grid: Vec<f64> =
-                (0..count).map(|_| if dice.below(8) == 0 { 0.5 } else { dice.between(0.0, 10.0) }).collect();
+            let mut grid: Vec<f64> = (0..count)
+                .map(|_| {
+                    if dice.below(8) == 0 {
+                        0.5
+                    } else {
+                        dice.between(0.0, 10.0)
+                    }
+                })
+                .collect();
             grid.sort_by(f64::total_cmp);
             // The curve has room for 1,024 times and those a day later.
             let needed: Vec<f64> = grid.iter().flat_map(|t| [*t, t + H]).collect();
             let [pillar_times, sigmas] = pillars(dice, &grid);
             let [times, factors] = curve(dice, &needed);
             let draws = grid.iter().map(|_| dice.between(-3.0, 3.0)).collect();
-            let room = grid.len() + if dice.below(2) == 0 { 0 } else { dice.below(4) as usize };
+            let room = grid.len()
+                + if dice.below(2) == 0 {
+                    0
+                } else {
+                    dice.below(4) as usize
+                };
             vec![
                 number(alpha),
                 pillar_times,
@@ -694,7 +824,10 @@ fn ground(dice: &mut Dice, name: &str) -> Vec<f64> {
                 0 => x,
                 1 => -x,
                 2 => beside(dice, x),
-                3 => *pick(dice, &[f64::NAN, 0.0, -0.0, TINY, f64::INFINITY, f64::NEG_INFINITY]),
+                3 => *pick(
+                    dice,
+                    &[f64::NAN, 0.0, -0.0, TINY, f64::INFINITY, f64::NEG_INFINITY],
+                ),
                 _ => dice.float(),
             };
             match dice.below(8) {
@@ -702,7 +835,10 @@ fn ground(dice: &mut Dice, name: &str) -> Vec<f64> {
                 1 => vec![y, x],
                 3 => vec![f64::NAN, dice.float()],
                 4 => vec![dice.float(), f64::NAN],
-                2 => vec![sign * f64::from_bits(dice.below(100)), f64::from_bits(dice.below(0x0020_0000_0000_0000))],
+                2 => vec![
+                    sign * f64::from_bits(dice.below(100)),
+                    f64::from_bits(dice.below(0x0020_0000_0000_0000)),
+                ],
                 _ => vec![x, y],
             }
         }
@@ -724,7 +860,10 @@ fn ground(dice: &mut Dice, name: &str) -> Vec<f64> {
                 1 => beside(dice, tie),
                 2 => sign * dice.between(0.0, 0.5),
                 3 => beside(dice, sign * 0.5),
-                4 => *pick(dice, &[0.5, -0.5, 710.0, -746.0, -745.2, 709.9, -708.5, -740.0]),
+                4 => *pick(
+                    dice,
+                    &[0.5, -0.5, 710.0, -746.0, -745.2, 709.9, -708.5, -740.0],
+                ),
                 _ => dice.between(-750.0, 712.0),
             }]
         }
@@ -742,15 +881,41 @@ fn ground(dice: &mut Dice, name: &str) -> Vec<f64> {
         }
         "norm_cdf" | "norm_cdf_dual" if aimed => {
             let tail = 7.071067811865475;
-            let limit = *pick(dice, &[37.0, 37.0, tail, tail, 0.0, 38.0, 2f64.powi(-10), 4.0, 2f64.powi(-20), 8.0]);
-            vec![sign
-                * match dice.below(3) {
+            let limit = *pick(
+                dice,
+                &[
+                    37.0,
+                    37.0,
+                    tail,
+                    tail,
+                    0.0,
+                    38.0,
+                    2f64.powi(-10),
+                    4.0,
+                    2f64.powi(-20),
+                    8.0,
+                ],
+            );
+            vec![
+                sign * match dice.below(3) {
                     0 => limit,
                     1 => beside(dice, limit),
                     _ => dice.between(0.0, 38.0),
-                }]
+                },
+            ]
         }
-        "signum" if aimed => vec![*pick(dice, &[0.0, -0.0, TINY, -TINY, f64::NAN, f64::INFINITY, f64::NEG_INFINITY])],
+        "signum" if aimed => vec![*pick(
+            dice,
+            &[
+                0.0,
+                -0.0,
+                TINY,
+                -TINY,
+                f64::NAN,
+                f64::INFINITY,
+                f64::NEG_INFINITY,
+            ],
+        )],
         _ => vec![x],
     }
 }
@@ -776,7 +941,10 @@ fn tie(dice: &mut Dice) -> f64 {
 
 /// The refusals at which faults of a call can be aimed: 1 to 8, and 13.
 fn rules(name: &str) -> Vec<u64> {
-    let function = FUNCTIONS.iter().find(|function| function.name == name).unwrap();
+    let function = FUNCTIONS
+        .iter()
+        .find(|function| function.name == name)
+        .unwrap();
     let has = |argument: &str| function.position(argument).is_some();
     let mut rules = Vec::new();
     if !groups(name).is_empty() {
@@ -789,10 +957,16 @@ fn rules(name: &str) -> Vec<u64> {
     if has("times") || has("pillars") {
         rules.push(4);
     }
-    if ["t", "start", "starts", "tau", "time_step", "grid"].iter().any(|one| has(one)) {
+    if ["t", "start", "starts", "tau", "time_step", "grid"]
+        .iter()
+        .any(|one| has(one))
+    {
         rules.push(5);
     }
-    if ["sigma", "sigmas", "factors", "vol", "vols"].iter().any(|one| has(one)) {
+    if ["sigma", "sigmas", "factors", "vol", "vols"]
+        .iter()
+        .any(|one| has(one))
+    {
         rules.push(6);
     }
     if has("pillars") || (has("payments") && function.position("times") != Some(0)) {
@@ -816,7 +990,9 @@ fn set(call: &mut Call, argument: &str, number: f64) -> bool {
 }
 
 fn get(call: &Call, argument: &str) -> Option<f64> {
-    call.table().position(argument).map(|place| call.number(place))
+    call.table()
+        .position(argument)
+        .map(|place| call.number(place))
 }
 
 /// One element of a list, to be changed.
@@ -839,8 +1015,11 @@ fn element<'a>(dice: &mut Dice, call: &'a mut Call, argument: &str) -> Option<&'
 
 /// Of these arguments those that the call has, in turn.
 fn some_of(turn: usize, call: &Call, arguments: &[&'static str]) -> Option<&'static str> {
-    let have: Vec<&'static str> =
-        arguments.iter().copied().filter(|one| call.table().position(one).is_some()).collect();
+    let have: Vec<&'static str> = arguments
+        .iter()
+        .copied()
+        .filter(|one| call.table().position(one).is_some())
+        .collect();
     have.get(turn % have.len().max(1)).copied()
 }
 
@@ -874,15 +1053,25 @@ fn fault(dice: &mut Dice, call: &mut Call, rule: u64, turn: usize) {
             let some = some_of(
                 turn,
                 call,
-                &["sigma", "sigmas", "vol", "vols", "strike", "strikes", "factors", "own_dfs", "side", "factors"],
+                &[
+                    "sigma", "sigmas", "vol", "vols", "strike", "strikes", "factors", "own_dfs",
+                    "side", "factors",
+                ],
             );
             match some {
                 Some("side") => {
-                    let side = *pick(dice, &[0.0, 2.0, -2.0, 0.5, f64::from_bits(0x3ff0_0000_0000_0001)]);
+                    let side = *pick(
+                        dice,
+                        &[0.0, 2.0, -2.0, 0.5, f64::from_bits(0x3ff0_0000_0000_0001)],
+                    );
                     set(call, "side", side);
                 }
                 Some(argument @ ("sigmas" | "vols" | "strikes" | "factors" | "own_dfs")) => {
-                    let value = if argument == "own_dfs" && dice.below(2) == 0 { 0.9 } else { value };
+                    let value = if argument == "own_dfs" && dice.below(2) == 0 {
+                        0.9
+                    } else {
+                        value
+                    };
                     if let Some(one) = element(dice, call, argument) {
                         *one = value;
                     }
@@ -901,28 +1090,72 @@ fn fault(dice: &mut Dice, call: &mut Call, rule: u64, turn: usize) {
             let place = call.table().position(argument);
             for (places, _) in groups(call.name()) {
                 if places.contains(&place.unwrap()) {
-                    places.iter().for_each(|place| call.args[*place] = Arg::Floats(Vec::new()));
+                    places
+                        .iter()
+                        .for_each(|place| call.args[*place] = Arg::Floats(Vec::new()));
                 }
             }
         }
         8 => lookups(dice, call, turn),
         _ if turn % 2 == 0 && overflow(dice, call) => {}
         _ => {
-            let number = *pick(dice, &[f64::MAX, 1e200, 1e308, 1e160, TINY, 1e-300, -f64::MAX, -1e300]);
+            let number = *pick(
+                dice,
+                &[
+                    f64::MAX,
+                    1e200,
+                    1e308,
+                    1e160,
+                    TINY,
+                    1e-300,
+                    -f64::MAX,
+                    -1e300,
+                ],
+            );
             let some = some_of(
                 turn / 2,
                 call,
-                &["sigma", "rate", "fwd", "vol", "bond", "notional", "strike", "sigmas", "draws", "accruals", "coefficients", "affines", "b", "alpha", "end", "tau", "time_step", "factors"],
+                &[
+                    "sigma",
+                    "rate",
+                    "fwd",
+                    "vol",
+                    "bond",
+                    "notional",
+                    "strike",
+                    "sigmas",
+                    "draws",
+                    "accruals",
+                    "coefficients",
+                    "affines",
+                    "b",
+                    "alpha",
+                    "end",
+                    "tau",
+                    "time_step",
+                    "factors",
+                ],
             );
             match some {
-                Some(argument @ ("sigmas" | "draws" | "accruals" | "coefficients" | "affines" | "b" | "factors")) => {
-                    let number = if matches!(argument, "sigmas" | "factors") { number.abs() } else { number };
+                Some(
+                    argument @ ("sigmas" | "draws" | "accruals" | "coefficients" | "affines" | "b"
+                    | "factors"),
+                ) => {
+                    let number = if matches!(argument, "sigmas" | "factors") {
+                        number.abs()
+                    } else {
+                        number
+                    };
                     if let Some(one) = element(dice, call, argument) {
                         *one = number;
                     }
                 }
                 Some(argument @ ("fwd" | "rate" | "strike" | "notional")) => {
-                    let number = if dice.below(2) == 0 { *pick(dice, &[0.0, -1.0, -1e5, 1e5]) } else { number };
+                    let number = if dice.below(2) == 0 {
+                        *pick(dice, &[0.0, -1.0, -1e5, 1e5])
+                    } else {
+                        number
+                    };
                     set(call, argument, number);
                 }
                 Some(argument) => {
@@ -945,7 +1178,11 @@ fn overflow(dice: &mut Dice, call: &mut Call) -> bool {
             set(call, "bond", f64::MAX)
         }
         "bachelier_call" => {
-            let high = if dice.below(2) == 0 { f64::MAX } else { 1.5e308 };
+            let high = if dice.below(2) == 0 {
+                f64::MAX
+            } else {
+                1.5e308
+            };
             set(call, "fwd", high);
             set(call, "strike", -high)
         }
@@ -958,7 +1195,11 @@ fn overflow(dice: &mut Dice, call: &mut Call) -> bool {
         "forward_rate_from_curve" | "theta" | "A" | "zcb_price" => {
             let place = call.table().position("factors").unwrap();
             if let Arg::Floats(factors) = &mut call.args[place] {
-                let (one, other) = if dice.below(2) == 0 { (1e300, 1e-300) } else { (1e-300, 1e300) };
+                let (one, other) = if dice.below(2) == 0 {
+                    (1e300, 1e-300)
+                } else {
+                    (1e-300, 1e300)
+                };
                 for (at, factor) in factors.iter_mut().enumerate() {
                     *factor = if at % 2 == 0 { one } else { other };
                 }
@@ -1039,7 +1280,11 @@ fn lengthen(arg: &mut Arg, length: usize) {
             let rises = list.windows(2).all(|two| two[0] < two[1]);
             while list.len() < length {
                 let last = list.last().copied().unwrap_or(0.5);
-                list.push(if rises { last + last.abs().max(1.0) / 64.0 } else { last });
+                list.push(if rises {
+                    last + last.abs().max(1.0) / 64.0
+                } else {
+                    last
+                });
             }
         }
         Arg::Bools(list) => list.resize(length, false),
@@ -1087,7 +1332,13 @@ fn times(dice: &mut Dice, call: &mut Call, turn: usize) {
         1 => list[at - 1] = list[at],
         2 => list.swap(at - 1, at),
         3 => list.reverse(),
-        _ => list[at] = if list[at - 1] > 0.0 { f64::from_bits(list[at - 1].to_bits() - 1) } else { list[at - 1] - 1.0 },
+        _ => {
+            list[at] = if list[at - 1] > 0.0 {
+                f64::from_bits(list[at - 1].to_bits() - 1)
+            } else {
+                list[at - 1] - 1.0
+            }
+        }
     }
 }
 
@@ -1098,7 +1349,18 @@ fn early(dice: &mut Dice, call: &mut Call, turn: usize) {
     match some_of(
         turn,
         call,
-        &["t", "start", "bond", "end", "tau", "time_step", "grid", "payments", "starts", "ends"],
+        &[
+            "t",
+            "start",
+            "bond",
+            "end",
+            "tau",
+            "time_step",
+            "grid",
+            "payments",
+            "starts",
+            "ends",
+        ],
     ) {
         Some(argument @ ("t" | "start" | "tau" | "time_step")) => {
             set(call, argument, negative);
@@ -1106,7 +1368,11 @@ fn early(dice: &mut Dice, call: &mut Call, turn: usize) {
         Some(argument @ ("bond" | "end")) => {
             let option = option.unwrap_or(0.0);
             let value = *pick(dice, &[option, option, option, option - 0.25, -option, 0.0]);
-            let value = if dice.below(3) == 0 && option != 0.0 { f64::from_bits(option.to_bits() - 1) } else { value };
+            let value = if dice.below(3) == 0 && option != 0.0 {
+                f64::from_bits(option.to_bits() - 1)
+            } else {
+                value
+            };
             set(call, argument, value);
         }
         Some("grid") => {
@@ -1144,7 +1410,10 @@ fn lookups(dice: &mut Dice, call: &mut Call, turn: usize) {
             if count > 0 && call.length(times + 1) == count {
                 // That of a day after the option, or any other.
                 let after = get(call, "t").map(|t| t + H);
-                let after = call.floats(times).iter().position(|time| Some(*time) == after);
+                let after = call
+                    .floats(times)
+                    .iter()
+                    .position(|time| Some(*time) == after);
                 let at = match after {
                     Some(at) if turn % 6 == 1 => at,
                     _ => dice.below(count as u64) as usize,
@@ -1165,17 +1434,27 @@ fn lookups(dice: &mut Dice, call: &mut Call, turn: usize) {
         _ => match some_of(
             turn / 6,
             call,
-            &["t", "start", "bond", "end", "payments", "grid", "starts", "ends"],
+            &[
+                "t", "start", "bond", "end", "payments", "grid", "starts", "ends",
+            ],
         ) {
             Some(argument @ ("payments" | "grid" | "starts" | "ends")) => {
                 let coin = dice.below(2) == 0;
                 if let Some(one) = element(dice, call, argument) {
-                    *one = if coin { f64::from_bits(one.to_bits() ^ 1) } else { *one + 0.123 };
+                    *one = if coin {
+                        f64::from_bits(one.to_bits() ^ 1)
+                    } else {
+                        *one + 0.123
+                    };
                 }
             }
             Some(argument) => {
                 let now = get(call, argument).unwrap();
-                let value = if dice.below(2) == 0 { beside(dice, now) } else { now + 0.123 };
+                let value = if dice.below(2) == 0 {
+                    beside(dice, now)
+                } else {
+                    now + 0.123
+                };
                 set(call, argument, value);
             }
             None => {}
@@ -1212,13 +1491,17 @@ fn odd(dice: &mut Dice, call: &mut Call) {
         Kind::Size => call.args[place] = Arg::Size(dice.below(12)),
         Kind::Floats | Kind::Bools => match dice.below(4) {
             0 => {
-                let group = groups(call.name()).iter().find(|group| group.0.contains(&place));
+                let group = groups(call.name())
+                    .iter()
+                    .find(|group| group.0.contains(&place));
                 if let Some((places, limit)) = group {
                     grow(call, places, *limit);
                 }
             }
             1 => {
-                let group = groups(call.name()).iter().find(|group| group.0.contains(&place));
+                let group = groups(call.name())
+                    .iter()
+                    .find(|group| group.0.contains(&place));
                 if let Some((places, _)) = group {
                     for place in *places {
                         match &mut call.args[*place] {

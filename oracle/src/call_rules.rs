@@ -9,7 +9,9 @@
 use crate::abi::{Arg, Call, Outcome};
 use crate::confront;
 use crate::cut::norm_cdf::NormCDF;
-use crate::cut::{self, hullwhitecalibration, hullwhitemodel, parameters, pricer, utils, HullWhite};
+use crate::cut::{
+    self, hullwhitecalibration, hullwhitemodel, parameters, pricer, utils, HullWhite,
+};
 use crate::elementary;
 use crate::judge::{self, Answer, Caplet, Case, Job, Run, Search, Term, Trace};
 use crate::numbers::Numbers;
@@ -145,7 +147,10 @@ pub fn kind(name: &str) -> Option<u64> {
 
 fn pairs(call: &Call, first: usize) -> Vec<(f64, f64)> {
     let (one, other) = (call.floats(first), call.floats(first + 1));
-    one.iter().zip(other).map(|(one, other)| (*one, *other)).collect()
+    one.iter()
+        .zip(other)
+        .map(|(one, other)| (*one, *other))
+        .collect()
 }
 
 /// The call as a job over lists.
@@ -166,15 +171,21 @@ pub fn as_job(call: &Call, kind: u64) -> (Run, Job) {
         }
         5 | 10 | 11 => {
             run.curve = pairs(call, 1);
-            run.coupons = pairs(call, 3).iter().map(|two| (two.0, two.1, 0.0)).collect();
+            run.coupons = pairs(call, 3)
+                .iter()
+                .map(|two| (two.0, two.1, 0.0))
+                .collect();
             (job.a, job.b, job.c) = (x(5), x(6), x(7));
         }
         6 | 7 => {
             run.pillars = pairs(call, 1);
             run.curve = pairs(call, 3);
             let own = call.floats(7);
-            run.coupons =
-                pairs(call, 5).iter().zip(own).map(|(two, own)| (two.0, two.1, *own)).collect();
+            run.coupons = pairs(call, 5)
+                .iter()
+                .zip(own)
+                .map(|(two, own)| (two.0, two.1, *own))
+                .collect();
             (job.a, job.b, job.c, job.d) = (x(8), x(9), x(10), x(11));
         }
         _ => {
@@ -191,7 +202,9 @@ fn job(call: &Call) -> Result<Outcome, String> {
     let case = Case {
         run: &run,
         job,
-        n: Numbers { slip: Slip::Nothing },
+        n: Numbers {
+            slip: Slip::Nothing,
+        },
     };
     let mut trace = Trace::default();
     let answer = case.answer(&mut trace);
@@ -278,7 +291,11 @@ fn basket(call: &Call) -> Outcome {
         fits.iter().map(|fit| f64::from(fit.halvings)).collect(),
         fits.iter().map(|fit| fit.residual).collect(),
         answer.diagonal.clone(),
-        answer.bumped.iter().map(|fit| status(fit.converged)).collect(),
+        answer
+            .bumped
+            .iter()
+            .map(|fit| status(fit.converged))
+            .collect(),
     ];
     let mut words = vec![0, fits.len() as u64];
     for list in &lists {
@@ -299,10 +316,18 @@ fn critical_rate(call: &Call, slip: &str) -> Result<Outcome, String> {
         return Ok(call.refused(2));
     }
     let rows: Vec<(f64, f64, f64)> = (0..call.length(0))
-        .map(|place| (call.floats(0)[place], call.floats(1)[place], call.floats(2)[place]))
+        .map(|place| {
+            (
+                call.floats(0)[place],
+                call.floats(1)[place],
+                call.floats(2)[place],
+            )
+        })
         .collect();
-    let terms: Vec<Term> =
-        rows.iter().map(|&(coefficient, a, b)| Term { coefficient, a, b }).collect();
+    let terms: Vec<Term> = rows
+        .iter()
+        .map(|&(coefficient, a, b)| Term { coefficient, a, b })
+        .collect();
     let run = Run::default();
     let case = Case {
         run: &run,
@@ -351,7 +376,12 @@ fn critical_rate(call: &Call, slip: &str) -> Result<Outcome, String> {
     })
 }
 
-fn as_the_rust(rows: &[(f64, f64, f64)], found: &Search, trail: &[f64], stepping: bool) -> Result<(), String> {
+fn as_the_rust(
+    rows: &[(f64, f64, f64)],
+    found: &Search,
+    trail: &[f64],
+    stepping: bool,
+) -> Result<(), String> {
     let same = |what: &str, judged: f64, rust: f64| {
         if confront::same(judged, rust) {
             Ok(())
@@ -365,9 +395,15 @@ fn as_the_rust(rows: &[(f64, f64, f64)], found: &Search, trail: &[f64], stepping
     same("the critical rate", found.rate, rate)?;
     let rates = confront::rates_asked(found, trail, true);
     if exps.len() != rates.len() * rows.len() {
-        return Err(format!("the search: {} rates asked, exp called {} times", rates.len(), exps.len()));
+        return Err(format!(
+            "the search: {} rates asked, exp called {} times",
+            rates.len(),
+            exps.len()
+        ));
     }
-    let asked = rates.iter().flat_map(|rate| rows.iter().map(move |row| -row.2 * rate));
+    let asked = rates
+        .iter()
+        .flat_map(|rate| rows.iter().map(move |row| -row.2 * rate));
     for (judged, rust) in asked.zip(&exps) {
         same("a rate of the search", judged, *rust)?;
     }
@@ -430,7 +466,10 @@ fn used(call: &Call, slip: &str) -> Used {
     if name == "hull_white_piecewise_variance" && slip != "variance-alpha-checked" {
         used.alpha = None;
     }
-    let looked_up = matches!(name, "volatility" | "pillars_reached" | "transition_variances");
+    let looked_up = matches!(
+        name,
+        "volatility" | "pillars_reached" | "transition_variances"
+    );
     if looked_up || (slip == "empty-variance-refused" && name == "hull_white_piecewise_variance") {
         used.pillars = at("pillars").map(|place| call.length(place));
     }
@@ -469,16 +508,18 @@ fn breaks(call: &Call, used: &Used, rule: u64, slip: &str) -> bool {
                 Arg::Floats(list) => list.iter().any(|number| number.is_nan()),
                 _ => false,
             }),
-            "lists-unchecked" => {
-                call.args.iter().any(|arg| matches!(arg, Arg::Number(number) if !number.is_finite()))
-            }
+            "lists-unchecked" => call
+                .args
+                .iter()
+                .any(|arg| matches!(arg, Arg::Number(number) if !number.is_finite())),
             _ => has_bad_number(call),
         },
-        3 => used.alpha.is_some_and(|alpha| {
-            alpha < 0.0 || (alpha == 0.0 && slip != "alpha-zero-passes")
-        }),
+        3 => used
+            .alpha
+            .is_some_and(|alpha| alpha < 0.0 || (alpha == 0.0 && slip != "alpha-zero-passes")),
         4 => {
-            let rises = |two: &[f64]| two[0] < two[1] || (slip == "rising-loosely" && two[0] == two[1]);
+            let rises =
+                |two: &[f64]| two[0] < two[1] || (slip == "rising-loosely" && two[0] == two[1]);
             used.rising.iter().any(|times| !times.windows(2).all(rises))
         }
         5 => {
@@ -493,13 +534,16 @@ fn breaks(call: &Call, used: &Used, rule: u64, slip: &str) -> bool {
                 }
                 _ => false,
             };
-            let nothing =
-                used.above_0.is_some_and(|time| time < 0.0 || (time == 0.0 && slip != "tau-zero-passes"));
+            let nothing = used
+                .above_0
+                .is_some_and(|time| time < 0.0 || (time == 0.0 && slip != "tau-zero-passes"));
             early || before || nothing
         }
         6 => {
             let zero_refused = slip == "sigma-zero-refused";
-            used.sigmas.iter().any(|sigma| *sigma < 0.0 || (zero_refused && *sigma == 0.0))
+            used.sigmas
+                .iter()
+                .any(|sigma| *sigma < 0.0 || (zero_refused && *sigma == 0.0))
                 || used
                     .positive
                     .iter()
@@ -523,7 +567,10 @@ fn breaks(call: &Call, used: &Used, rule: u64, slip: &str) -> bool {
 /// The order of the rules; with a slip two neighbours exchanged.
 fn order(slip: &str) -> Vec<u64> {
     let mut order: Vec<u64> = (2..=8).collect();
-    match slip.strip_prefix("order-").and_then(|rule| rule.parse::<usize>().ok()) {
+    match slip
+        .strip_prefix("order-")
+        .and_then(|rule| rule.parse::<usize>().ok())
+    {
         Some(first) if first > 1 => order.swap(first - 2, first - 1),
         _ => {}
     }
@@ -596,8 +643,10 @@ fn rust(call: &Call) -> shim::Result<Vec<f64>> {
         "black_put" => utils::black_put(x(0), x(1), x(2), x(3))?,
         "bachelier_call" => utils::bachelier_call(x(0), x(1), x(2), x(3))?,
         "swap_annuity_from_curve" => {
-            let coupons: Vec<(f64, f64, f64)> =
-                pairs(call, 2).iter().map(|two| (two.0, two.1, 0.0)).collect();
+            let coupons: Vec<(f64, f64, f64)> = pairs(call, 2)
+                .iter()
+                .map(|two| (two.0, two.1, 0.0))
+                .collect();
             cut::lay_out_swap(0.0, &coupons);
             hullwhitecalibration::annuity(&curve, coupons.len() as i64)?
         }
@@ -606,7 +655,12 @@ fn rust(call: &Call) -> shim::Result<Vec<f64>> {
             parameters::hull_white_piecewise_variance(x(0), &pairs(call, 1), x(3), x(4))
         }
         "transition_variances" => {
-            return parameters::transition_variances(x(0), &pairs(call, 1), call.size(3) as usize, x(4));
+            return parameters::transition_variances(
+                x(0),
+                &pairs(call, 1),
+                call.size(3) as usize,
+                x(4),
+            );
         }
         name => unreachable!("{name}"),
     };
@@ -655,7 +709,9 @@ fn slipped(call: &Call, slip: &str) -> Option<Vec<f64>> {
             };
             vec![(x(4) * x(4) / (2.0 * x(0))) * settled(x(0), t) + (x(0) * forward(t) + slope)]
         }
-        ("forward_rate_from_curve", "times-365") => vec![-ln(factor(x(2) + H) / factor(x(2))) * 365.0],
+        ("forward_rate_from_curve", "times-365") => {
+            vec![-ln(factor(x(2) + H) / factor(x(2))) * 365.0]
+        }
         ("d1_d2", "unfused") => {
             let root = x(3).sqrt();
             let d1 = 0.5 * x(2) * root + ln(x(0) / x(1)) / (x(2) * root);
@@ -678,21 +734,37 @@ fn slipped(call: &Call, slip: &str) -> Option<Vec<f64>> {
             vec![(x(0) - x(1)) * d.norm_cdf() + spread * elementary::norm_pdf(d)]
         }
         ("swap_annuity_from_curve", "unfused") => {
-            vec![pairs(call, 2).iter().fold(0.0, |sum, coupon| sum + coupon.1 * factor(coupon.0))]
+            vec![pairs(call, 2)
+                .iter()
+                .fold(0.0, |sum, coupon| sum + coupon.1 * factor(coupon.0))]
         }
         ("swap_annuity_from_curve", "backwards") => {
             let coupons = pairs(call, 2);
-            vec![coupons.iter().rev().fold(0.0, |sum, coupon| coupon.1.mul_add(factor(coupon.0), sum))]
+            vec![coupons
+                .iter()
+                .rev()
+                .fold(0.0, |sum, coupon| coupon.1.mul_add(factor(coupon.0), sum))]
         }
         ("volatility", "pillar-before") => {
             let pillars = pairs(call, 0);
-            let found = pillars.iter().rev().find(|pillar| pillar.0 < x(2)).unwrap_or(&pillars[0]);
+            let found = pillars
+                .iter()
+                .rev()
+                .find(|pillar| pillar.0 < x(2))
+                .unwrap_or(&pillars[0]);
             vec![found.1]
         }
         ("volatility", "zero-before-first") => {
-            vec![pairs(call, 0).iter().rev().find(|pillar| pillar.0 <= x(2)).map_or(0.0, |pillar| pillar.1)]
+            vec![pairs(call, 0)
+                .iter()
+                .rev()
+                .find(|pillar| pillar.0 <= x(2))
+                .map_or(0.0, |pillar| pillar.1)]
         }
-        ("hull_white_piecewise_variance", "first-pillar-own-time" | "variance-fused" | "alpha-1e-12-closed") => {
+        (
+            "hull_white_piecewise_variance",
+            "first-pillar-own-time" | "variance-fused" | "alpha-1e-12-closed",
+        ) => {
             let run = Run {
                 alpha: x(0),
                 pillars: pairs(call, 1),
@@ -712,7 +784,12 @@ fn slipped(call: &Call, slip: &str) -> Option<Vec<f64>> {
             (0..call.size(3))
                 .map(|_| {
                     let end = start + x(4);
-                    let step = parameters::hull_white_piecewise_variance(x(0), &pairs(call, 1), start, end);
+                    let step = parameters::hull_white_piecewise_variance(
+                        x(0),
+                        &pairs(call, 1),
+                        start,
+                        end,
+                    );
                     if slip == "steps-added-up" {
                         start = end;
                     }
@@ -746,7 +823,9 @@ fn ground(call: &Call, slip: &str) -> f64 {
         ("ln", "ln-flushes") if x(0).abs() < f64::MIN_POSITIVE => f64::NEG_INFINITY,
         ("ln", "") => elementary::ln(x(0)),
         ("ln", _) => n.ln(x(0)),
-        ("norm_pdf", "pdf-by-the-constant") => elementary::exp((-0.5 * x(0)) * x(0)) * 0.398_942_280_401_432_7,
+        ("norm_pdf", "pdf-by-the-constant") => {
+            elementary::exp((-0.5 * x(0)) * x(0)) * 0.398_942_280_401_432_7
+        }
         ("norm_pdf", "") => elementary::norm_pdf(x(0)),
         ("norm_pdf", _) => n.norm_pdf(x(0)),
         ("norm_cdf", "") => x(0).norm_cdf(),
@@ -823,7 +902,11 @@ fn piece(call: &Call, slip: &str) -> Outcome {
             "piece-last-again" => k.min(pieces.len() as u64 - 1),
             _ => k,
         };
-        usize::try_from(k).ok().and_then(|k| pieces.get(k)).cloned().unwrap_or_default()
+        usize::try_from(k)
+            .ok()
+            .and_then(|k| pieces.get(k))
+            .cloned()
+            .unwrap_or_default()
     });
     if slip == "piece-refused-1" && piece == b"refused 1\n" {
         return call.refused(1);

@@ -42,150 +42,485 @@ pub enum Slip {
 
 /// Name, functions, what is wrong.
 const RULE_SLIPS: &[(&str, &[&str], &str)] = &[
-    ("limits-exclusive", LISTS, "a list at its limit, or 1,024 steps, is refused"),
-    ("limits-one-more", LISTS, "a list may have one record more than its limit, and there may be 1,025 steps"),
-    ("longer-second-passes", LISTS, "rule 1 lets a list pass that is longer than the one before it"),
-    ("shorter-second-passes", LISTS, "rule 1 lets a list pass that is shorter than the one before it"),
+    (
+        "limits-exclusive",
+        LISTS,
+        "a list at its limit, or 1,024 steps, is refused",
+    ),
+    (
+        "limits-one-more",
+        LISTS,
+        "a list may have one record more than its limit, and there may be 1,025 steps",
+    ),
+    (
+        "longer-second-passes",
+        LISTS,
+        "rule 1 lets a list pass that is longer than the one before it",
+    ),
+    (
+        "shorter-second-passes",
+        LISTS,
+        "rule 1 lets a list pass that is shorter than the one before it",
+    ),
     ("order-1", LISTS, "rule 2 before rule 1"),
     ("room-any", OUTPUTS, "an output may be too short"),
-    ("room-one-more", OUTPUTS, "an output must be longer than what is written"),
-    ("room-exact", OUTPUTS, "an output must be as long as what is written"),
+    (
+        "room-one-more",
+        OUTPUTS,
+        "an output must be longer than what is written",
+    ),
+    (
+        "room-exact",
+        OUTPUTS,
+        "an output must be as long as what is written",
+    ),
     ("infinities-pass", NO_KINDS, "rule 2 looks for NaN alone"),
-    ("lists-unchecked", CURVES, "rule 2 looks at plain numbers alone"),
-    ("variance-alpha-checked", &["hull_white_piecewise_variance"], "rule 3 looks at the alpha of the piecewise variance"),
+    (
+        "lists-unchecked",
+        CURVES,
+        "rule 2 looks at plain numbers alone",
+    ),
+    (
+        "variance-alpha-checked",
+        &["hull_white_piecewise_variance"],
+        "rule 3 looks at the alpha of the piecewise variance",
+    ),
     ("alpha-zero-passes", ALPHAS, "alpha of 0 passes rule 3"),
-    ("rising-loosely", RISING, "curve and pillar times may be equal"),
-    ("option-zero-refused", OPTIONS, "an option time of 0 is refused"),
-    ("minus-zero-refused", OPTIONS, "an option time of -0 is below 0"),
-    ("later-equal-passes", LATER, "a bond or end time may equal the option time"),
-    ("tau-zero-passes", &["d1_d2", "black_call", "black_put", "bachelier_call", "transition_variances"], "a tau or time step of 0 passes rule 5"),
+    (
+        "rising-loosely",
+        RISING,
+        "curve and pillar times may be equal",
+    ),
+    (
+        "option-zero-refused",
+        OPTIONS,
+        "an option time of 0 is refused",
+    ),
+    (
+        "minus-zero-refused",
+        OPTIONS,
+        "an option time of -0 is below 0",
+    ),
+    (
+        "later-equal-passes",
+        LATER,
+        "a bond or end time may equal the option time",
+    ),
+    (
+        "tau-zero-passes",
+        &[
+            "d1_d2",
+            "black_call",
+            "black_put",
+            "bachelier_call",
+            "transition_variances",
+        ],
+        "a tau or time step of 0 passes rule 5",
+    ),
     ("sigma-zero-refused", SIGMAS, "a sigma of 0 is refused"),
-    ("zeros-pass", POSITIVE, "a factor, quoted volatility or Black strike of 0 passes rule 6"),
-    ("bachelier-strike-checked", &["bachelier_call"], "rule 6 looks at the strike"),
-    ("forward-checked", &["d1_d2", "black_call", "black_put", "bachelier_call"], "rule 6 looks at the forward"),
-    ("empty-variance-refused", &["hull_white_piecewise_variance"], "no pillars are refused by 7"),
-    ("empty-annuity-refused", &["swap_annuity_from_curve"], "no coupons are refused by 7"),
-    ("annuity-times-checked", &["swap_annuity_from_curve"], "a payment time that is not above 0 is refused by 5"),
-    ("step-not-needed", &["A", "zcb_price", "theta", "forward_rate_from_curve"], "the time t + h need not be among the curve's"),
-    ("theta-closed", &["theta"], "the backward difference at t = h too"),
-    ("lookup-by-bits", &["A", "zcb_price", "theta", "forward_rate_from_curve", "swap_annuity_from_curve"], "a time is looked up by its bits: -0 is not +0"),
-    ("reached-before", &["pillars_reached"], "the pillar times before t, not those at t"),
-    ("13-not-looked", FLOATS, "a float that is not finite is served"),
+    (
+        "zeros-pass",
+        POSITIVE,
+        "a factor, quoted volatility or Black strike of 0 passes rule 6",
+    ),
+    (
+        "bachelier-strike-checked",
+        &["bachelier_call"],
+        "rule 6 looks at the strike",
+    ),
+    (
+        "forward-checked",
+        &["d1_d2", "black_call", "black_put", "bachelier_call"],
+        "rule 6 looks at the forward",
+    ),
+    (
+        "empty-variance-refused",
+        &["hull_white_piecewise_variance"],
+        "no pillars are refused by 7",
+    ),
+    (
+        "empty-annuity-refused",
+        &["swap_annuity_from_curve"],
+        "no coupons are refused by 7",
+    ),
+    (
+        "annuity-times-checked",
+        &["swap_annuity_from_curve"],
+        "a payment time that is not above 0 is refused by 5",
+    ),
+    (
+        "step-not-needed",
+        &["A", "zcb_price", "theta", "forward_rate_from_curve"],
+        "the time t + h need not be among the curve's",
+    ),
+    (
+        "theta-closed",
+        &["theta"],
+        "the backward difference at t = h too",
+    ),
+    (
+        "lookup-by-bits",
+        &[
+            "A",
+            "zcb_price",
+            "theta",
+            "forward_rate_from_curve",
+            "swap_annuity_from_curve",
+        ],
+        "a time is looked up by its bits: -0 is not +0",
+    ),
+    (
+        "reached-before",
+        &["pillars_reached"],
+        "the pillar times before t, not those at t",
+    ),
+    (
+        "13-not-looked",
+        FLOATS,
+        "a float that is not finite is served",
+    ),
     ("order-2", ALPHAS, "rule 3 before rule 2"),
-    ("order-3", &["A", "zcb_price", "theta", "transition_variances"], "rule 4 before rule 3"),
+    (
+        "order-3",
+        &["A", "zcb_price", "theta", "transition_variances"],
+        "rule 4 before rule 3",
+    ),
     ("order-4", RISING_OPTIONS, "rule 5 before rule 4"),
     ("order-5", SIGMA_OPTIONS, "rule 6 before rule 5"),
-    ("by-exp-m1", &["B", "short_rate_variance"], "exp_m1 in place of 1 - exp"),
-    ("other-order", &["zcb_price_volatility"], "B times the root first"),
-    ("unfused", &["A", "theta", "d1_d2", "black_call", "black_put", "bachelier_call", "swap_annuity_from_curve"], "products and sums in place of fused ones"),
+    (
+        "by-exp-m1",
+        &["B", "short_rate_variance"],
+        "exp_m1 in place of 1 - exp",
+    ),
+    (
+        "other-order",
+        &["zcb_price_volatility"],
+        "B times the root first",
+    ),
+    (
+        "unfused",
+        &[
+            "A",
+            "theta",
+            "d1_d2",
+            "black_call",
+            "black_put",
+            "bachelier_call",
+            "swap_annuity_from_curve",
+        ],
+        "products and sums in place of fused ones",
+    ),
     ("rate-at-0", &["zcb_price"], "the price at a rate of 0"),
-    ("times-365", &["forward_rate_from_curve"], "a product with 365 in place of the division by h"),
+    (
+        "times-365",
+        &["forward_rate_from_curve"],
+        "a product with 365 in place of the division by h",
+    ),
     ("by-parity", &["black_put"], "by put-call parity"),
-    ("backwards", &["swap_annuity_from_curve"], "the sum from the last coupon on"),
+    (
+        "backwards",
+        &["swap_annuity_from_curve"],
+        "the sum from the last coupon on",
+    ),
     ("pillar-before", &["volatility"], "the last pillar before t"),
-    ("zero-before-first", &["volatility"], "0 before the first pillar"),
-    ("first-pillar-own-time", &["hull_white_piecewise_variance"], "the first pillar starts at its own time"),
-    ("variance-fused", &["hull_white_piecewise_variance"], "fused in place of a product and a sum"),
-    ("alpha-1e-12-closed", &["hull_white_piecewise_variance"], "the plain span for |alpha| <= 1e-12"),
-    ("steps-added-up", &["transition_variances"], "a step starts where the sum of the steps before it ends"),
-    ("one-step-repeated", &["transition_variances"], "the first step's variance at every step"),
+    (
+        "zero-before-first",
+        &["volatility"],
+        "0 before the first pillar",
+    ),
+    (
+        "first-pillar-own-time",
+        &["hull_white_piecewise_variance"],
+        "the first pillar starts at its own time",
+    ),
+    (
+        "variance-fused",
+        &["hull_white_piecewise_variance"],
+        "fused in place of a product and a sum",
+    ),
+    (
+        "alpha-1e-12-closed",
+        &["hull_white_piecewise_variance"],
+        "the plain span for |alpha| <= 1e-12",
+    ),
+    (
+        "steps-added-up",
+        &["transition_variances"],
+        "a step starts where the sum of the steps before it ends",
+    ),
+    (
+        "one-step-repeated",
+        &["transition_variances"],
+        "the first step's variance at every step",
+    ),
     ("rungs-to-59", TERMS, "ladders end at rung 59"),
     ("rungs-to-61", TERMS, "ladders go on to rung 61"),
-    ("lower-rung-open", TERMS, "a lower rung is good above 1 only"),
-    ("upper-rung-open", TERMS, "an upper rung is good below 1 only"),
+    (
+        "lower-rung-open",
+        TERMS,
+        "a lower rung is good above 1 only",
+    ),
+    (
+        "upper-rung-open",
+        TERMS,
+        "an upper rung is good below 1 only",
+    ),
     ("coupon-sum-fused", TERMS, "the sum with fused steps"),
-    ("ten-before-upper", TERMS, "10 before the upper ladder is run"),
+    (
+        "ten-before-upper",
+        TERMS,
+        "10 before the upper ladder is run",
+    ),
     ("rate-upper-end", TERMS, "the rate is the upper end"),
     ("halvings-199", TERMS, "199 halvings"),
     ("sum-below-one", TERMS, "a NaN passes for a good sum"),
     ("no-terms-7", TERMS, "no terms are refused by 7"),
-    ("no-derivative-check", &["implicit_critical_rate"], "a derivative below 1e-14 is not refused"),
-    ("derivative-below-1e-13", &["implicit_critical_rate"], "the derivative is refused below 1e-13"),
+    (
+        "no-derivative-check",
+        &["implicit_critical_rate"],
+        "a derivative below 1e-14 is not refused",
+    ),
+    (
+        "derivative-below-1e-13",
+        &["implicit_critical_rate"],
+        "the derivative is refused below 1e-13",
+    ),
     ("piece-from-1", &["piece"], "pieces are counted from 1"),
-    ("piece-last-again", &["piece"], "behind the last piece the last is given again"),
-    ("piece-room-one-more", &["piece"], "131,072 bytes of room are refused"),
-    ("piece-room-one-less", &["piece"], "131,071 bytes of room pass"),
-    ("piece-refused-1", &["piece"], "a file that breaks its layout has the call refused"),
+    (
+        "piece-last-again",
+        &["piece"],
+        "behind the last piece the last is given again",
+    ),
+    (
+        "piece-room-one-more",
+        &["piece"],
+        "131,072 bytes of room are refused",
+    ),
+    (
+        "piece-room-one-less",
+        &["piece"],
+        "131,071 bytes of room pass",
+    ),
+    (
+        "piece-refused-1",
+        &["piece"],
+        "a file that breaks its layout has the call refused",
+    ),
     ("fused-rounds-twice", &["fused"], "a product and then a sum"),
     ("sqrt-minus-zero", &["sqrt"], "the root of -0 is +0"),
     ("sqrt-flushes", &["sqrt"], "the root of a subnormal is 0"),
     ("exp-ties-even", &["exp"], "k to even at a tie"),
     ("exp-k-truncated", &["exp", "norm_pdf"], "k toward zero"),
-    ("exp-degree-12", &["exp", "norm_pdf"], "the series begins at n = 12"),
-    ("exp-one-constant", &["exp", "norm_pdf"], "the second part of ln 2 is left out"),
+    (
+        "exp-degree-12",
+        &["exp", "norm_pdf"],
+        "the series begins at n = 12",
+    ),
+    (
+        "exp-one-constant",
+        &["exp", "norm_pdf"],
+        "the second part of ln 2 is left out",
+    ),
     ("exp-m1-by-exp", &["exp_m1"], "exp(y) - 1 everywhere"),
-    ("expm1-degree-12", &["exp_m1"], "the series begins at n = 12"),
+    (
+        "expm1-degree-12",
+        &["exp_m1"],
+        "the series begins at n = 12",
+    ),
     ("ln-split-at-2", &["ln"], "split with 1 <= m < 2"),
     ("ln-sum-order", &["ln"], "another order of the last sum"),
     ("ln-flushes", &["ln"], "a subnormal is taken for 0"),
-    ("pdf-by-the-constant", &["norm_pdf"], "a product in place of the division"),
-    ("normal-plain-for-both", &["norm_cdf"], "a product and then a sum"),
+    (
+        "pdf-by-the-constant",
+        &["norm_pdf"],
+        "a product in place of the division",
+    ),
+    (
+        "normal-plain-for-both",
+        &["norm_cdf"],
+        "a product and then a sum",
+    ),
     ("normal-fused-for-both", &["norm_cdf_dual"], "fused steps"),
-    ("normal-37-closed", &["norm_cdf", "norm_cdf_dual"], "0 or 1 from 37.0 on"),
-    ("normal-7.07-closed", &["norm_cdf", "norm_cdf_dual"], "the quotient at 7.071067811865475 too"),
-    ("normal-tail-short", &["norm_cdf", "norm_cdf_dual"], "the tail's fraction without 4/b"),
+    (
+        "normal-37-closed",
+        &["norm_cdf", "norm_cdf_dual"],
+        "0 or 1 from 37.0 on",
+    ),
+    (
+        "normal-7.07-closed",
+        &["norm_cdf", "norm_cdf_dual"],
+        "the quotient at 7.071067811865475 too",
+    ),
+    (
+        "normal-tail-short",
+        &["norm_cdf", "norm_cdf_dual"],
+        "the tail's fraction without 4/b",
+    ),
     ("midpoint-halves", &["midpoint"], "a/2 + b/2"),
     ("midpoint-from-below", &["midpoint"], "a + (b - a)/2"),
     ("signum-zero", &["signum"], "signum of a zero is 0"),
     ("signum-minus-zero", &["signum"], "signum of -0 is 1"),
     ("nan-kept", &["max", "min"], "a NaN in front is given"),
     ("nan-not-passed", &["max", "min"], "a NaN behind is given"),
-    ("second-of-equals", &["max", "min"], "of two equal numbers the second"),
+    (
+        "second-of-equals",
+        &["max", "min"],
+        "of two equal numbers the second",
+    ),
 ];
 
 const LISTS: &[&str] = &[
-    "A", "zcb_price", "theta", "forward_rate_from_curve", "swap_annuity_from_curve", "volatility",
-    "pillars_reached", "hull_white_piecewise_variance", "transition_variances", "caplet_price",
-    "floorlet_price", "bond_put_price", "bond_call_price", "swaption_price", "payer_swaption_value",
-    "receiver_swaption_value", "fit_caplet_black", "fit_caplet_normal", "fit_swaption_black",
-    "fit_swaption_normal", "calibrate_to_instruments", "find_critical_rate", "implicit_critical_rate",
+    "A",
+    "zcb_price",
+    "theta",
+    "forward_rate_from_curve",
+    "swap_annuity_from_curve",
+    "volatility",
+    "pillars_reached",
+    "hull_white_piecewise_variance",
+    "transition_variances",
+    "caplet_price",
+    "floorlet_price",
+    "bond_put_price",
+    "bond_call_price",
+    "swaption_price",
+    "payer_swaption_value",
+    "receiver_swaption_value",
+    "fit_caplet_black",
+    "fit_caplet_normal",
+    "fit_swaption_black",
+    "fit_swaption_normal",
+    "calibrate_to_instruments",
+    "find_critical_rate",
+    "implicit_critical_rate",
     "generate",
 ];
 const OUTPUTS: &[&str] = &["transition_variances", "generate"];
 const TERMS: &[&str] = &["find_critical_rate", "implicit_critical_rate"];
 const NO_KINDS: &[&str] = &[
-    "B", "zcb_price_volatility", "short_rate_variance", "A", "zcb_price", "theta",
-    "forward_rate_from_curve", "d1_d2", "black_call", "black_put", "bachelier_call",
-    "swap_annuity_from_curve", "volatility", "pillars_reached", "hull_white_piecewise_variance",
+    "B",
+    "zcb_price_volatility",
+    "short_rate_variance",
+    "A",
+    "zcb_price",
+    "theta",
+    "forward_rate_from_curve",
+    "d1_d2",
+    "black_call",
+    "black_put",
+    "bachelier_call",
+    "swap_annuity_from_curve",
+    "volatility",
+    "pillars_reached",
+    "hull_white_piecewise_variance",
     "transition_variances",
 ];
 const CURVES: &[&str] = &[
-    "A", "zcb_price", "theta", "forward_rate_from_curve", "swap_annuity_from_curve", "volatility",
-    "pillars_reached", "hull_white_piecewise_variance", "transition_variances",
+    "A",
+    "zcb_price",
+    "theta",
+    "forward_rate_from_curve",
+    "swap_annuity_from_curve",
+    "volatility",
+    "pillars_reached",
+    "hull_white_piecewise_variance",
+    "transition_variances",
 ];
 const ALPHAS: &[&str] = &[
-    "B", "zcb_price_volatility", "short_rate_variance", "A", "zcb_price", "theta", "transition_variances",
+    "B",
+    "zcb_price_volatility",
+    "short_rate_variance",
+    "A",
+    "zcb_price",
+    "theta",
+    "transition_variances",
 ];
 const RISING: &[&str] = CURVES;
 const OPTIONS: &[&str] = &[
-    "B", "zcb_price_volatility", "short_rate_variance", "A", "zcb_price", "theta",
-    "forward_rate_from_curve", "volatility", "pillars_reached", "hull_white_piecewise_variance",
+    "B",
+    "zcb_price_volatility",
+    "short_rate_variance",
+    "A",
+    "zcb_price",
+    "theta",
+    "forward_rate_from_curve",
+    "volatility",
+    "pillars_reached",
+    "hull_white_piecewise_variance",
 ];
 const LATER: &[&str] = &[
-    "B", "zcb_price_volatility", "short_rate_variance", "A", "zcb_price", "hull_white_piecewise_variance",
+    "B",
+    "zcb_price_volatility",
+    "short_rate_variance",
+    "A",
+    "zcb_price",
+    "hull_white_piecewise_variance",
 ];
 const SIGMAS: &[&str] = &[
-    "zcb_price_volatility", "short_rate_variance", "A", "zcb_price", "theta", "volatility",
-    "pillars_reached", "hull_white_piecewise_variance", "transition_variances",
+    "zcb_price_volatility",
+    "short_rate_variance",
+    "A",
+    "zcb_price",
+    "theta",
+    "volatility",
+    "pillars_reached",
+    "hull_white_piecewise_variance",
+    "transition_variances",
 ];
 const POSITIVE: &[&str] = &[
-    "A", "zcb_price", "theta", "forward_rate_from_curve", "swap_annuity_from_curve", "d1_d2",
-    "black_call", "black_put", "bachelier_call",
+    "A",
+    "zcb_price",
+    "theta",
+    "forward_rate_from_curve",
+    "swap_annuity_from_curve",
+    "d1_d2",
+    "black_call",
+    "black_put",
+    "bachelier_call",
 ];
 const FLOATS: &[&str] = &[
-    "B", "zcb_price_volatility", "short_rate_variance", "A", "zcb_price", "theta",
-    "forward_rate_from_curve", "d1_d2", "black_call", "black_put", "bachelier_call",
-    "swap_annuity_from_curve", "hull_white_piecewise_variance", "transition_variances",
-    "find_critical_rate", "implicit_critical_rate",
+    "B",
+    "zcb_price_volatility",
+    "short_rate_variance",
+    "A",
+    "zcb_price",
+    "theta",
+    "forward_rate_from_curve",
+    "d1_d2",
+    "black_call",
+    "black_put",
+    "bachelier_call",
+    "swap_annuity_from_curve",
+    "hull_white_piecewise_variance",
+    "transition_variances",
+    "find_critical_rate",
+    "implicit_critical_rate",
 ];
 const RISING_OPTIONS: &[&str] = &[
-    "A", "zcb_price", "theta", "forward_rate_from_curve", "volatility", "pillars_reached",
-    "hull_white_piecewise_variance", "transition_variances",
+    "A",
+    "zcb_price",
+    "theta",
+    "forward_rate_from_curve",
+    "volatility",
+    "pillars_reached",
+    "hull_white_piecewise_variance",
+    "transition_variances",
 ];
 const SIGMA_OPTIONS: &[&str] = &[
-    "zcb_price_volatility", "short_rate_variance", "A", "zcb_price", "theta", "forward_rate_from_curve",
-    "d1_d2", "black_call", "black_put", "bachelier_call", "volatility", "pillars_reached",
-    "hull_white_piecewise_variance", "transition_variances",
+    "zcb_price_volatility",
+    "short_rate_variance",
+    "A",
+    "zcb_price",
+    "theta",
+    "forward_rate_from_curve",
+    "d1_d2",
+    "black_call",
+    "black_put",
+    "bachelier_call",
+    "volatility",
+    "pillars_reached",
+    "hull_white_piecewise_variance",
+    "transition_variances",
 ];
 
 /// Exchanges that never show: the product of the two is all that is used of them.
@@ -226,7 +561,10 @@ pub fn all() -> Vec<(usize, Slip)> {
             for field in 1..row.fields.len() {
                 add(Slip::FieldEmpty(field));
                 add(Slip::FieldKept(field));
-                let alike = row.fields.get(field + 1).is_some_and(|next| next.1 == row.fields[field].1);
+                let alike = row
+                    .fields
+                    .get(field + 1)
+                    .is_some_and(|next| next.1 == row.fields[field].1);
                 if alike {
                     add(Slip::FieldsExchanged(field));
                 }
@@ -249,15 +587,24 @@ pub fn described(function: usize, slip: Slip) -> String {
     let row = &FUNCTIONS[function];
     let argument = |place: usize| row.arguments[place].0;
     let what = match slip {
-        Slip::Exchanged(one, other) => format!("{} and {} exchanged", argument(one), argument(other)),
+        Slip::Exchanged(one, other) => {
+            format!("{} and {} exchanged", argument(one), argument(other))
+        }
         Slip::LastDropped(group) => {
-            format!("the last record of {} is not passed on", argument(groups(row.name)[group].0[0]))
+            format!(
+                "the last record of {} is not passed on",
+                argument(groups(row.name)[group].0[0])
+            )
         }
         Slip::OneMore(place) => format!("{} is one more", argument(place)),
         Slip::FieldEmpty(field) => format!("{} is 0 where served", row.fields[field].0),
         Slip::FieldKept(field) => format!("{} is not 0 where refused", row.fields[field].0),
         Slip::FieldsExchanged(field) => {
-            format!("{} and {} exchanged", row.fields[field].0, row.fields[field + 1].0)
+            format!(
+                "{} and {} exchanged",
+                row.fields[field].0,
+                row.fields[field + 1].0
+            )
         }
         Slip::CountMore => "the count is one more".to_string(),
         Slip::AnswerLost => "the answer is always 0".to_string(),
@@ -267,7 +614,10 @@ pub fn described(function: usize, slip: Slip) -> String {
         Slip::LastUnwritten => "the last place is not written".to_string(),
         Slip::InputWritten(place) => format!("{} is written", argument(place)),
         Slip::Judge(name) => {
-            let text = RULE_SLIPS.iter().find(|slip| slip.0 == name).map_or("", |slip| slip.2);
+            let text = RULE_SLIPS
+                .iter()
+                .find(|slip| slip.0 == name)
+                .map_or("", |slip| slip.2);
             format!("judge: {name}: {text}")
         }
     };
@@ -312,7 +662,9 @@ pub fn handed_back(call: &Call, found: &Outcome, slip: Slip) -> Outcome {
         Slip::FieldKept(field) if !served => other.words[from(field + 1) - 1] = 1,
         Slip::FieldsExchanged(field) if served => {
             for place in 0..fields[field].1 {
-                other.words.swap(from(field) + place, from(field + 1) + place);
+                other
+                    .words
+                    .swap(from(field) + place, from(field + 1) + place);
             }
         }
         Slip::CountMore if served => other.words[1] += 1,
@@ -327,7 +679,9 @@ pub fn meddle(call: &Call, written: usize, served: bool, slip: Slip) -> Meddle {
     let out = call.table().position("out");
     match (slip, out) {
         (Slip::InputWritten(place), _) if call.length(place) > 0 => Meddle::Write(place, 0),
-        (Slip::WrittenOnRefusal, Some(out)) if !served && call.length(out) > 0 => Meddle::Write(out, 0),
+        (Slip::WrittenOnRefusal, Some(out)) if !served && call.length(out) > 0 => {
+            Meddle::Write(out, 0)
+        }
         (Slip::WrittenBehind, Some(out)) if served && call.length(out) > written => {
             Meddle::Write(out, written as isize)
         }

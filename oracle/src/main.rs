@@ -52,7 +52,7 @@ fn main() {
         Some("vectors") => calls::vectors(&args[1..]),
         Some("calls") => calls::list(),
         Some("baskets" | "basket-vectors") => baskets::main(&args),
-        Some("library-calls" | "library-call" | "library-slips" | "fixed-calls") => {
+        Some("library-calls" | "library-call" | "library-slips" | "library-names" | "fixed-calls") => {
             call_compare::main(&args)
         }
         #[cfg(plain)]
