@@ -10,6 +10,9 @@ lay-out-requires c κs = search needs
 enum-told : tie.Need-enum-told
 enum-told c = search needs
 
+slice-aggregate-write-refused : tie.Need-slice-aggregate-write-refused
+slice-aggregate-write-refused c = search needs
+
 write-refused-requires : tie.Need-write-refused-requires
 write-refused-requires c κs = search needs
 
@@ -25,6 +28,9 @@ write-all-requires c κs = search needs
 enum-known-laid : tie.Need-enum-known-laid
 enum-known-laid c = search needs
 
+slice-aggregate-write-header : tie.Need-slice-aggregate-write-header
+slice-aggregate-write-header c = search needs
+
 write-header-requires : tie.Need-write-header-requires
 write-header-requires c κs = search needs
 
@@ -38,7 +44,7 @@ write-all-requires-2 : tie.Need-write-all-requires-2
 write-all-requires-2 c κs = search needs
 
 serve-jobs-requires : tie.Need-serve-jobs-requires
-serve-jobs-requires c κs = sym (c .before .before .before .before .before .before .before .lay-out .ensures) ∙ c .before .before .before .before .before .laid .given .1
+serve-jobs-requires c κs = sym (c .before .before .before .before .before .before .before .before .lay-out .ensures) ∙ c .before .before .before .before .before .before .laid .given .1
 
 returns : tie.Need-returns
 returns c = search needs
@@ -52,11 +58,13 @@ serve-file-spec =
     (tie.spec
     lay-out-requires
     enum-told
+    slice-aggregate-write-refused
     write-refused-requires
     array-share-prefix-text
     slice-aggregate-write-all
     write-all-requires
     enum-known-laid
+    slice-aggregate-write-header
     write-header-requires
     array-share-prefix-text-2
     slice-aggregate-write-all-2
