@@ -6,9 +6,8 @@ ghost use lib.ListN.{length};
 ghost use Rattle.refusals.specs.Faults.{curveFaults};
 ghost use Rattle.file_layout.specs.declared.parts.Laid.the-variants.{Parts};
 ghost use Rattle.file_layout.specs.Layout.{layoutOf};
-ghost use Rattle.file_layout.specs.Request.{requestOf, jobsOf};
-ghost use Rattle.file_layout.specs.Lists.{HoldsLists};
-ghost use Rattle.file_jobs.specs.Results.{requestOfLists};
+ghost use Rattle.file_layout.specs.Request.{requestOf};
+ghost use Rattle.file_layout.specs.Lists.{HoldsLists, listOf};
 use file_layout::Laid;
 use file_layout::Layout;
 use refusals::Faults;
@@ -50,83 +49,24 @@ fn serve_jobs(file: &[u8], l: Layout, rounds: u64)
 fn each_round(file: &[u8], l: Layout, floats: &[f64], rounds: u64)
     requires { ⌜ (layoutOf (now file) ≡ Parts l) × HoldsLists (now file) l (now floats) ⌝ }
 {
-    let alpha = file_layout::alpha(file, l.model);
-    let pillars = file_layout::list(file, l, floats, 0);
-    let sigmas = file_layout::list(file, l, floats, 1);
-    let times = file_layout::list(file, l, floats, 2);
-    let factors = file_layout::list(file, l, floats, 3);
-    let payments = file_layout::list(file, l, floats, 4);
-    let accruals = file_layout::list(file, l, floats, 5);
-    let owns = file_layout::list(file, l, floats, 6);
-    let grid = file_layout::list(file, l, floats, 7);
-    let draws = file_layout::list(file, l, floats, 8);
-    let curve = refusals::curve_faults(times, factors);
+    let curve = file_output::file_curve_faults(file, l, floats);
     let mut out = [0u8; 131072];
     let mut left = rounds;
     while left > 0 {
         left -= 1;
-        each_job(
-            file,
-            l,
-            curve,
-            alpha,
-            pillars,
-            sigmas,
-            times,
-            factors,
-            payments,
-            accruals,
-            owns,
-            grid,
-            draws,
-            left == 0,
-            &mut out,
-        );
+        each_job(file, l, floats, curve, left == 0, &mut out);
     }
 }
 
 // One round. A caller has the lists of the file, the curve's faults, and room for a path of 1,024 points.
-fn each_job(
-    file: &[u8],
-    l: Layout,
-    curve: Faults,
-    alpha: f64,
-    pillars: &[f64],
-    sigmas: &[f64],
-    times: &[f64],
-    factors: &[f64],
-    payments: &[f64],
-    accruals: &[f64],
-    owns: &[f64],
-    grid: &[f64],
-    draws: &[f64],
-    written: bool,
-    out: &mut [u8],
-)
-    requires { ⌜ (layoutOf (now file) ≡ Parts l) × (131072 ≤ length (now out)) ⌝ }
-    requires { ⌜ curve ≡ curveFaults (now times) (now factors) ⌝ }
-    requires { ⌜ requestOfLists alpha (now pillars) (now sigmas) (now times) (now factors) (now payments) (now accruals) (now owns) (now grid) (now draws) (jobsOf (now file) (l .jobs)) ≡ requestOf (now file) l ⌝ }
+fn each_job(file: &[u8], l: Layout, floats: &[f64], curve: Faults, written: bool, out: &mut [u8])
+    requires { ⌜ (layoutOf (now file) ≡ Parts l) × HoldsLists (now file) l (now floats) × (131072 ≤ length (now out)) ⌝ }
+    requires { ⌜ curve ≡ curveFaults (listOf (requestOf (now file) l) 2) (listOf (requestOf (now file) l) 3) ⌝ }
 {
     let n_jobs = (l.jobs.length / 40) as usize;
     let mut k = 0;
     while k < n_jobs {
-        let n = file_output::job_lines(
-            file,
-            l,
-            curve,
-            alpha,
-            pillars,
-            sigmas,
-            times,
-            factors,
-            payments,
-            accruals,
-            owns,
-            grid,
-            draws,
-            k,
-            out,
-        );
+        let n = file_output::lines_on(file, l, floats, curve, k, out);
         if written {
             io::write_all(libc::STDOUT_FILENO, &out[..n]);
         }

@@ -1,11 +1,8 @@
 // A run file served: its layout, its lists, and each job's lines as soon as they are worked.
 ghost use mathlib.Core.Path.{_≡_};
-ghost use mathlib.Core.Bool.{cond};
 ghost use Rattle.file_layout.specs.declared.parts.Laid.the-variants.{Parts};
 ghost use Rattle.file_layout.specs.Layout.{layoutOf};
 ghost use Rattle.file_layout.specs.Lists.{HoldsLists};
-ghost use Rattle.file_fields.specs.Text.{Begins};
-ghost use Rattle.file_lines.specs.Lines.{header, refusedLine};
 ghost use Rattle.file_serving.specs.Sending.{fileOf, Due, Done};
 use super::sent;
 use super::sent::Sent;
@@ -33,11 +30,11 @@ fn serve_file(file: &[u8], sent: Sent, due: &mut usize) -> Sent
     let mut text = [0u8; 128];
     match laid {
         Laid::Broken => {
-            let n = first_line(true, &mut text);
+            let n = file_output::first_line(true, &mut text);
             sent::send(sent, due, &text[..n])
         }
         Laid::Parts(l) => {
-            let n = first_line(false, &mut text);
+            let n = file_output::first_line(false, &mut text);
             let first = sent::send(sent, due, &text[..n]);
             if sent::failed(first) {
                 return first;
@@ -45,16 +42,6 @@ fn serve_file(file: &[u8], sent: Sent, due: &mut usize) -> Sent
             serve_jobs(file, l, first, due)
         }
     }
-}
-
-// `refused 1` of a broken file, else the header.
-fn first_line(broken: bool, text: &mut [u8; 128]) -> usize
-    ensures { λ r. ⌜ Begins r (cond broken refusedLine header) (now (text .entry)) (now (text .exit)) ⌝ }
-{
-    if broken {
-        return file_lines::write_refused(text);
-    }
-    file_lines::write_header(text)
 }
 
 // The jobs, on the lists that are read here, once. The layout is that of the file, whose header is sent.
@@ -73,39 +60,13 @@ fn each_job(file: &[u8], l: Layout, floats: &[f64], sent: Sent, due: &mut usize)
     requires { ⌜ (layoutOf (now file) ≡ Parts l) × HoldsLists (now file) l (now floats) × Due (now file) sent (now due) × (now due ≡ 1) ⌝ }
     ensures { λ r. ⌜ Done (now (file .entry)) r ⌝ }
 {
-    let alpha = file_layout::alpha(file, l.model);
-    let pillars = file_layout::list(file, l, floats, 0);
-    let sigmas = file_layout::list(file, l, floats, 1);
-    let times = file_layout::list(file, l, floats, 2);
-    let factors = file_layout::list(file, l, floats, 3);
-    let payments = file_layout::list(file, l, floats, 4);
-    let accruals = file_layout::list(file, l, floats, 5);
-    let owns = file_layout::list(file, l, floats, 6);
-    let grid = file_layout::list(file, l, floats, 7);
-    let draws = file_layout::list(file, l, floats, 8);
-    let curve = refusals::curve_faults(times, factors);
+    let curve = file_output::file_curve_faults(file, l, floats);
     let n_jobs = (l.jobs.length / 40) as usize;
     let mut out = [0u8; 131072];
     let mut last = sent;
     let mut k = 0;
     while k < n_jobs {
-        let n = file_output::job_lines(
-            file,
-            l,
-            curve,
-            alpha,
-            pillars,
-            sigmas,
-            times,
-            factors,
-            payments,
-            accruals,
-            owns,
-            grid,
-            draws,
-            k,
-            &mut out,
-        );
+        let n = file_output::lines_on(file, l, floats, curve, k, &mut out);
         last = sent::send(last, due, &out[..n]);
         if sent::failed(last) {
             return last;

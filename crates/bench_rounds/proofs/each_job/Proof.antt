@@ -8,14 +8,14 @@ use Rattle.bench_rounds.proofs.each_job.Statement.{statement}
 use Rattle.bench_rounds.proofs.each_job.Tie as tie
 
 abbrev Inv-loop : tie.InvT-loop
-Inv-loop file l curve alpha pillars sigmas times factors payments accruals owns grid draws written out₀ n-jobs k₀ out k = (k ≤ n-jobs) × (length out ≡ length out₀)
+Inv-loop file l floats curve written out₀ n-jobs k₀ out k = (k ≤ n-jobs) × (length out ≡ length out₀)
 
 abbrev μ-loop : tie.MeasureT-loop
-μ-loop file l curve alpha pillars sigmas times factors payments accruals owns grid draws written out₀ n-jobs k₀ out k = n-jobs - k
+μ-loop file l floats curve written out₀ n-jobs k₀ out k = n-jobs - k
 
--- the start of the walk, from the ninth list that is lent to it
-abbrev start : tie.After-shared-slice-known9 Inv-loop μ-loop → tie.Start Inv-loop μ-loop
-start c = c .before .before .before .before .before .before .before .before .before
+-- the start of the walk, from the second list that is lent to it
+abbrev start : tie.After-shared-slice-known2 Inv-loop μ-loop → tie.Start Inv-loop μ-loop
+start c = c .before .before
 
 cast-n-jobs : tie.Need-cast-n-jobs Inv-loop μ-loop
 cast-n-jobs c = search needs
@@ -23,10 +23,10 @@ cast-n-jobs c = search needs
 loop-holds : tie.Need-loop-holds Inv-loop μ-loop
 loop-holds c = (search needs, refl)
 
-job-lines-requires : tie.Need-job-lines-requires Inv-loop μ-loop
-job-lines-requires c κs =
-    let s = start (c .before .before .before .before .before .before) in
-    ((s .pre .0 .0, c .before .loop-test .taken, omega (arith, s .pre .0 .1, c .before .before .loop .inv .1)), (s .pre .1 .0, s .pre .1 .1))
+lines-on-requires : tie.Need-lines-on-requires Inv-loop μ-loop
+lines-on-requires c κs =
+    let s = start (c .before .before .before .before .before) in
+    ((s .pre .0 .0, s .pre .0 .1, c .before .loop-test .taken, omega (arith, s .pre .0 .2, c .before .before .loop .inv .1)), s .pre .1)
 
 slice-reshare-prefix-write-all : tie.Need-slice-reshare-prefix-write-all Inv-loop μ-loop
 slice-reshare-prefix-write-all c = search needs
@@ -44,7 +44,7 @@ loop-less : tie.Need-loop-less Inv-loop μ-loop
 loop-less c = search needs
 
 loop-again : tie.Need-loop-again Inv-loop μ-loop
-loop-again c = (omega (arith, c .before .before .before .before .before .loop-test .taken), c .before .before .before .job-lines .kept .1 .1 .1 .1 .1 .1 .1 .1 .1 .1 .1 .1 .1 .1 .0 ∙ c .before .before .before .before .before .before .loop .inv .1)
+loop-again c = (omega (arith, c .before .before .before .before .before .loop-test .taken), c .before .before .before .lines-on .kept .1 .1 .1 .1 .1 .0 ∙ c .before .before .before .before .before .before .loop .inv .1)
 
 same-length : tie.Need-same-length Inv-loop μ-loop
 same-length c = c .before .loop .inv .1
@@ -60,7 +60,7 @@ each-job-spec =
     μ-loop
     cast-n-jobs
     loop-holds
-    job-lines-requires
+    lines-on-requires
     slice-reshare-prefix-write-all
     slice-aggregate-write-all
     write-all-requires

@@ -17,11 +17,18 @@ good c = c .before .before .before
 abbrev start : tie.After-laid → tie.Start
 start c = c .before .before .before .before
 
+-- and from the line of a broken file: where the layout was asked for
+abbrev broken : tie.After-first-line → tie.After-lay-out
+broken c = c .before .before .before .before
+
 lay-out-requires : tie.Need-lay-out-requires
 lay-out-requires c κs = search needs
 
 enum-told : tie.Need-enum-told
 enum-told c = search needs
+
+slice-aggregate-first-line : tie.Need-slice-aggregate-first-line
+slice-aggregate-first-line c = search needs
 
 first-line-requires : tie.Need-first-line-requires
 first-line-requires c κs = search needs
@@ -34,13 +41,17 @@ slice-aggregate-send c = search needs
 
 send-requires : tie.Need-send-requires
 send-requires c κs =
-    let s = c .before .before .before .before .before .before .before .before in
-    let e = sym (c .before .before .before .before .before .before .lay-out .ensures) ∙ c .before .before .before .before .enum-told .given .1 in
-    let j = refusal-due (now (s .args .file)) _ (now (s .args .due)) _ _ (s .pre .1) e (c .before .before .first-line .ensures) in
+    let f = c .before .before .before in
+    let s = broken f .before .before in
+    let e = sym (broken f .lay-out .ensures) ∙ f .before .before .enum-told .given .1 in
+    let j = refusal-due (now (s .args .file)) _ (now (s .args .due)) _ _ (s .pre .1) e (f .first-line .ensures) in
     due-of (now (s .args .file)) (s .args .sent) (now (s .args .due)) _ (s .pre .0) (j .0) (j .1)
 
 enum-known-laid : tie.Need-enum-known-laid
 enum-known-laid c = search needs
+
+slice-aggregate-first-line-2 : tie.Need-slice-aggregate-first-line-2
+slice-aggregate-first-line-2 c = search needs
 
 first-line-requires-2 : tie.Need-first-line-requires-2
 first-line-requires-2 c κs = search needs
@@ -53,10 +64,10 @@ slice-aggregate-send-2 c = search needs
 
 send-requires-2 : tie.Need-send-requires-2
 send-requires-2 c κs =
-    let g = good (c .before .before) in
+    let g = good (c .before .before .before) in
     let s = start g in
     let e = sym (g .before .before .lay-out .ensures) ∙ g .laid .given .1 in
-    let j = header-due (now (s .args .file)) _ (now (s .args .due)) _ _ (s .pre .1) _ e (c .before .before .first-line2 .ensures) in
+    let j = header-due (now (s .args .file)) _ (now (s .args .due)) _ _ (s .pre .1) _ e (c .before .before .before .first-line2 .ensures) in
     due-of (now (s .args .file)) (s .args .sent) (now (s .args .due)) _ (s .pre .0) (j .0) (j .1)
 
 failed-requires : tie.Need-failed-requires
@@ -64,12 +75,12 @@ failed-requires c κs = search needs
 
 returns : tie.Need-returns
 returns c =
-    let s = start (good (c .before .before .before .before .before)) in
+    let s = start (good (c .before .before .before .before .before .before)) in
     (same-file (s .args .sent) (c .before .before .send2 .result) (c .before .before .send2 .ensures .0) ∙ s .pre .0 .0, inl (sym (c .before .failed .ensures) ∙ c .if1 .taken))
 
 serve-jobs-requires : tie.Need-serve-jobs-requires
 serve-jobs-requires c κs =
-    let g = good (c .before .before .before .before .before .before) in
+    let g = good (c .before .before .before .before .before .before .before) in
     let s = start g in
     let e = sym (g .before .before .lay-out .ensures) ∙ g .laid .given .1 in
     let sent = c .before .before .before .send2 .ensures in
@@ -77,8 +88,9 @@ serve-jobs-requires c κs =
 
 returns-2 : tie.Need-returns-2
 returns-2 c =
-    let s = c .before .before .before .before .before .before .before .before .before in
-    let e = sym (c .before .before .before .before .before .before .before .lay-out .ensures) ∙ c .before .before .before .before .before .enum-told .given .1 in
+    let f = c .before .before .before .before in
+    let s = broken f .before .before in
+    let e = sym (broken f .lay-out .ensures) ∙ f .before .before .enum-told .given .1 in
     (same-file (s .args .sent) (c .send .result) (c .send .ensures .0) ∙ s .pre .0 .0, inr (omega (arith, c .send .ensures .1, s .pre .0 .2, s .pre .1, ap length (refused-is (now (s .args .file)) e))))
 
 returns-3 : tie.Need-returns-3
@@ -90,11 +102,13 @@ serve-file-spec =
     (tie.spec
     lay-out-requires
     enum-told
+    slice-aggregate-first-line
     first-line-requires
     array-share-prefix-text
     slice-aggregate-send
     send-requires
     enum-known-laid
+    slice-aggregate-first-line-2
     first-line-requires-2
     array-share-prefix-text-2
     slice-aggregate-send-2
