@@ -7,11 +7,12 @@ use lib.ListN.{length, take, drop, take-append-drop}
 use Rattle.refusals.specs.declared.refusals.Refusal.the-variants as R
 use Rattle.refusals.specs.declared.refusals.Answer.the-variants as A
 use Rattle.refusals.specs.Refusals.{Outcome, served, refused}
+use Rattle.hullwhite_transitions.specs.Written.{storedOf}
 use Rattle.file_fields.specs.Text.{Begins}
 use Rattle.file_output.specs.Pieces.{pieceOf}
 use Rattle.calstwid_exports.specs.declared.reports.CountReport.{CountReport}
 use Rattle.calstwid_exports.specs.Reports.{countReportOf, countTold}
-use Rattle.calstwid_exports.specs.Piece.{pieceOutcome, storedBytes}
+use Rattle.calstwid_exports.specs.Piece.{pieceOutcome}
 
 -- a text at the front, and the rest as it was
 begun : (n : ℕ) (text d out : List ℕ) → Begins n text d out → out ≡ text ++ drop (length text) d
@@ -20,8 +21,8 @@ begun n text d out b =
 
 module _ (file : List ℕ) (k : ℕ) (d : List ℕ) (r : CountReport) where
   -- no room: nothing is written
-  pub short : length d < 131072 → r ≡ countTold (A.Refused R.Size) 0 → (r ≡ countReportOf (pieceOutcome file k (length d))) × (d ≡ storedBytes (pieceOutcome file k (length d)) d)
+  pub short : length d < 131072 → r ≡ countTold (A.Refused R.Size) 0 → (r ≡ countReportOf (pieceOutcome file k (length d))) × (d ≡ storedOf (pieceOutcome file k (length d)) d)
   short h e = rw (lt-ltb _ _ h) (e, refl)
 
-  pub stored : (n : ℕ) (out : List ℕ) → 131072 ≤ length d → Begins n (pieceOf file k) d out → r ≡ countTold A.Served n → (r ≡ countReportOf (pieceOutcome file k (length d))) × (out ≡ storedBytes (pieceOutcome file k (length d)) d)
+  pub stored : (n : ℕ) (out : List ℕ) → 131072 ≤ length d → Begins n (pieceOf file k) d out → r ≡ countTold A.Served n → (r ≡ countReportOf (pieceOutcome file k (length d))) × (out ≡ storedOf (pieceOutcome file k (length d)) d)
   stored n out h b e = rw (le-ltb _ _ h) (e ∙ ap (countTold A.Served) (b .counted), begun n (pieceOf file k) d out b)

@@ -1,3 +1,4 @@
 -- What a program in another language is told of every outcome.
 pub mod Piece
 pub mod Reports
+pub mod OneAnswer

@@ -110,7 +110,7 @@ abbrev pub countTold : Answer → ℕ → CountReport
 countTold A.Served n = record { answer = 0; count = n }
 countTold (A.Refused r) n = record { answer = numberOf r; count = 0 }
 
--- ---- demand 3 of a report. Each call promises it of its own answer; here there is such an answer, of which r is the report, and of it the fact holds. A report has every field of the answer, so the fact is of what the report says.
+-- ---- demand 3 of a report. Each call promises it of its own answer; here there is such an answer, of which r is the report, and of it the fact holds. A report is that of one answer alone (`OneAnswer`), so the fact is of what the report says.
 pub record Told {A R : Type 0} (told : A → R) (r : R) (Fact : A → Type 0) : Type 0 where
   pub answer : A
   pub reported : r ≡ told answer

@@ -2,7 +2,8 @@
 ghost use mathlib.Core.Path.{_≡_};
 ghost use lib.ListN.{length};
 ghost use Rattle.calstwid_exports.specs.Reports.{countReportOf};
-ghost use Rattle.calstwid_exports.specs.Piece.{pieceOutcome, storedBytes};
+ghost use Rattle.hullwhite_transitions.specs.Written.{storedOf};
+ghost use Rattle.calstwid_exports.specs.Piece.{pieceOutcome};
 use super::reports;
 use super::reports::CountReport;
 use refusals::Answer;
@@ -14,7 +15,7 @@ use refusals::Refusal;
 #[no_mangle]
 pub extern "C" fn calstwid_piece(file: &[u8], k: usize, out: &mut [u8]) -> CountReport
     ensures answer { λ r. ⌜ r ≡ countReportOf (pieceOutcome (now (file .entry)) k (length (now (out .entry)))) ⌝ }
-    ensures output { λ r. ⌜ now (out .exit) ≡ storedBytes (pieceOutcome (now (file .entry)) k (length (now (out .entry)))) (now (out .entry)) ⌝ }
+    ensures output { λ r. ⌜ now (out .exit) ≡ storedOf (pieceOutcome (now (file .entry)) k (length (now (out .entry)))) (now (out .entry)) ⌝ }
 {
     if out.len() < 131072 {
         return reports::count_report(Answer::Refused(Refusal::Size), 0);

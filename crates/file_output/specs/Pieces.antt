@@ -1,17 +1,24 @@
 -- The output of every file as the pieces that the program sends one by one: the header or `refused 1`, and then the lines of each job.
-use mathlib.Core.Path.{_≡_, refl, ap}
+use mathlib.Core.Path.{_≡_, refl, sym, ap, subst}
+use mathlib.Core.Bool.{Bool, true, false, cond}
 use mathlib.Core.List.{List, [], _∷_, _++_, append-nil}
 use Prim.Native.Nat.{ℕ, zero, suc, _+_, _*_, _/_, _<_}
 use native.Mathlib.Omega.{arith}
+use lib.Dec.{eqb}
 use lib.ListN.{length, getD}
+use lib.Ieee.{Float}
+use Rattle.ieee.specs.Numbers as Numbers
+use Rattle.refusals.specs.Refusals.{Outcome, served, refused, numberOf}
 use Rattle.file_layout.specs.declared.parts.Layout.{Layout}
 use Rattle.file_layout.specs.declared.parts.Laid.{Laid}
 use Rattle.file_layout.specs.declared.parts.Laid.the-variants.{Parts, Broken}
 use Rattle.file_layout.specs.declared.records.Job.{Job}
 use Rattle.file_layout.specs.Layout.{layoutOf}
 use Rattle.file_layout.specs.Request.{Request, requestOf, jobAt, jobsFrom}
-use Rattle.file_lines.specs.Lines.{header, refusedLine}
-use Rattle.file_output.specs.Output.{jobLines, linesFrom, printed, outputOf}
+use Rattle.file_fields.specs.Fields.{bitsOf, decimalOf, hexOf, ending}
+use Rattle.file_lines.specs.Lines.{header, refusedLine, lineOf}
+use Rattle.file_jobs.specs.Results.{jobResultOf}
+use Rattle.file_output.specs.Output.{resultLine, pointLines, pathLines, pathOf, jobLines, linesFrom, printed, outputOf}
 
 -- the lines of the jobs from job k on, a piece a job
 unfoldable pub jobPieces : Request → ℕ → List Job → List (List ℕ)
@@ -87,3 +94,46 @@ module _ (file : List ℕ) (e : layoutOf file ≡ Broken) where
   pub refused-is : piecesOf file ≡ refusedLine ∷ []
   unfolding piecesOf
   refused-is = rw e refl
+
+-- ---- no piece is empty: who asks for one piece after the other knows by the first that has no bytes that all have come
+behind : (xs ys : List ℕ) → 0 < length ys → 0 < length (xs ++ ys)
+behind [] ys h = h
+behind (x ∷ xs) ys h = omega arith
+
+before : (xs ys : List ℕ) → 0 < length xs → 0 < length (xs ++ ys)
+before [] ys h = absurd (let z : ⊥ = omega arith in z)
+before (x ∷ xs) ys h = omega arith
+
+line-full : (job kind answer bits note : ℕ) → 0 < length (lineOf job kind answer bits note)
+unfolding lineOf
+line-full job kind answer bits note = behind (ending 32 (decimalOf job) ++ ending 32 (decimalOf kind) ++ ending 32 (decimalOf answer) ++ ending 32 (hexOf bits)) (ending 10 (decimalOf note)) (behind (decimalOf note) (10 ∷ []) (omega arith))
+
+path-full : (k : ℕ) (o : Outcome (List Float)) → 0 < length (pathLines k o)
+unfolding pointLines
+path-full k (served []) = line-full k 12 0 (bitsOf Numbers.zero) 0
+path-full k (served (x ∷ xs)) = before (lineOf k 12 0 (bitsOf x) 0) (pointLines k 1 xs) (line-full k 12 0 (bitsOf x) 0)
+path-full k (refused r) = line-full k 12 (numberOf r) (bitsOf Numbers.zero) 0
+
+either-full : (b : Bool) (xs ys : List ℕ) → 0 < length xs → 0 < length ys → 0 < length (cond b xs ys)
+either-full true xs ys h k = h
+either-full false xs ys h k = k
+
+job-full : (q : Request) (k : ℕ) (j : Job) → 0 < length (jobLines q k j)
+unfolding jobLines
+job-full q k j = either-full (eqb (j .kind) 12) (pathLines k (pathOf q)) (resultLine k (j .kind) (jobResultOf q j)) (path-full k (pathOf q)) (line-full k (j .kind) (jobResultOf q j .answer) (bitsOf (jobResultOf q j .value)) (jobResultOf q j .note))
+
+jobs-full : (q : Request) (k i : ℕ) (js : List Job) → i < length (jobPieces q k js) → 0 < length (getD (jobPieces q k js) i [])
+unfolding jobPieces
+jobs-full q k i [] h = absurd (let z : ⊥ = omega arith in z)
+jobs-full q k zero (j ∷ js) h = job-full q k j
+jobs-full q k (suc i) (j ∷ js) h = jobs-full q (suc k) i js (omega arith)
+
+laid-full : (file : List ℕ) (laid : Laid) (k : ℕ) → k < length (piecesIn file laid) → 0 < length (getD (piecesIn file laid) k [])
+laid-full file Broken zero h = omega arith
+laid-full file Broken (suc k) h = absurd (let z : ⊥ = omega arith in z)
+laid-full file (Parts l) zero h = omega arith
+laid-full file (Parts l) (suc k) h = let q = requestOf file l in jobs-full q 0 k (q .jobs) (omega arith)
+
+pub never-empty : (file : List ℕ) (k : ℕ) → k < length (piecesOf file) → 0 < length (pieceOf file k)
+unfolding piecesOf
+never-empty file k h = laid-full file (layoutOf file) k h

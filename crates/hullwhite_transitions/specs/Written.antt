@@ -9,7 +9,7 @@ use Rattle.refusals.specs.Checks.{allOf}
 use Rattle.refusals.specs.Refusals.{Outcome, served, refused}
 
 -- a served list stands at the front of the output, and the rest of it is as it was; a refusal leaves all of it
-abbrev pub storedOf : Outcome (List Float) → List Float → List Float
+abbrev pub storedOf : {A : Type 0} → Outcome (List A) → List A → List A
 storedOf (served xs) out = xs ++ drop (length xs) out
 storedOf (refused r) out = out
 
