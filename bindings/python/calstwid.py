@@ -548,9 +548,11 @@ def _lent(name: str, out) -> tuple:
     """A list to be written where it is."""
     view = None if _is_masked(out) else _view(out)
     if view is None or view.readonly or not _is_doubles(view):
+        view = None  # else an error that is kept would keep the list locked
         raise TypeError(f"{name}: an array('d') or another list of float64 that can be written in place is wanted, not {type(out).__name__}")
     held = (c_double * len(view)).from_buffer(view) if len(view) else (c_double * 1)()
     if not _is_aligned(held):
+        view = held = None
         raise TypeError(f"{name}: a list that is aligned for float64 is wanted")
     return held, len(view)
 

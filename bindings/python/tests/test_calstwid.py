@@ -474,11 +474,12 @@ class Lists(unittest.TestCase):
     def test_kept_errors_lock_nothing(self):
         d = desk()
         lists = [array("d", xs) for xs in (d.pillars, d.sigmas, d.times, d.factors, d.grid, d.draws)]
-        out, payments = array("d", bytes(32)), array("d", d.payments)
+        out, payments, floats = array("d", bytes(32)), array("d", d.payments), array("f", bytes(16))
         tries = [
             (calstwid.Refused, lambda: calstwid.generate_into(0.0, *lists, out)),
             (TypeError, lambda: calstwid.generate_into(0.1, *lists[:-1], [1j], out)),
             (TypeError, lambda: calstwid.generate_into(0.1, *lists, [0.0] * 4)),
+            (TypeError, lambda: calstwid.generate_into(0.1, *lists, floats)),
             (calstwid.Refused, lambda: calstwid.transition_variances_into(0.0, *lists[:2], 4, 0.25, out)),
             (calstwid.Refused, lambda: calstwid.payer_swaption_value(0.0, *lists[:4], payments, d.accruals, None, 0.03, 1, 1, 1)),
             (TypeError, lambda: calstwid.payer_swaption_value(0.1, *lists[:4], payments, d.accruals, None, 0.03, 1, 1, "1")),
@@ -490,7 +491,7 @@ class Lists(unittest.TestCase):
             except error as caught:
                 kept.append(caught)
             # BufferError where one is still lent
-            for one in (*lists, out, payments):
+            for one in (*lists, out, payments, floats):
                 one.append(0.0)
                 one.pop()
         self.assertEqual(len(kept), len(tries))
