@@ -3,11 +3,13 @@
  *
  * Every function here is proved to give a defined value or the first refusal that applies, whatever its numbers are: a NaN, an
  * infinity, a list that is too long. None keeps anything from call to call, takes memory from the heap or prints, so that calls may
- * be made from several threads at once; 128 KB of stack are enough. tools/library/build makes the libraries, for Linux on x86-64;
- * tools/library/header holds this text to their source.
+ * be made from several threads at once. That the heap is not used and how much stack a call takes (76 KB were the most seen, in
+ * calstwid_piece) was measured and is not proved. tools/library/build makes the libraries, for Linux on x86-64; tools/library/header
+ * holds this text to their source.
  *
- * Units. A time is in years from today. A rate, a strike of a rate and a volatility (sigma, or a quoted one) are fractions a year:
- * 0.03 is three percent. A factor is a discount factor, today's price of 1 paid at its time. A bond's strike is a price for 1. An
+ * Units. A time is in years from today. A rate and a strike of a rate are fractions a year: 0.03 is three percent. A volatility is
+ * the standard deviation of a year's move, which grows with the square root of time: of the rate for sigma (mean reversion aside)
+ * and for a normal quote, of the rate's logarithm for a Black quote. A factor is a discount factor, today's price of 1 paid at its time. A bond's strike is a price for 1. An
  * accrual is a fraction of a year. A value is for a notional of 1 except where a notional is an argument. alpha is the model's mean
  * reversion, a year.
  *
@@ -24,6 +26,8 @@
  *   - no pointer is NULL, not even where the length is 0 (any address of the type serves then);
  *   - a list has as many elements as its length says, aligned as C aligns them, each set to a value; a bool is 0 or 1;
  *   - a list that is written (`out`) overlaps no other argument;
+ *   - while a call runs no other thread writes a list that it was given, and two calls at once have no `out` in common: every proof
+ *     assumes it;
  *   - the processor rounds to nearest and keeps subnormal numbers, as a C program starts. One linked with -ffast-math starts
  *     otherwise (seen with gcc and clang), and gets other bits.
  *
@@ -191,8 +195,10 @@ typedef struct calstwid_valuation_report {
 
 /*
  * A fit: the sigma at which the model's price is the quoted one. A residual is the model's price less the quoted one; `residual` is
- * that at sigma. `converged` where it is below 1e-12 in size: halvings, 1 to 200, is then the halving that reached it. Where not,
- * halvings is 200, and sigma the last midpoint. low and high are the last two ends, with their residuals, which differ in sign.
+ * that at sigma, and sigma is the midpoint of `low` and `high`. `converged` where a halving met a midpoint whose residual is below
+ * 1e-12 in size: sigma is this midpoint, low and high are the ends that it halves, and halvings, 1 to 200, is this halving. Where
+ * none did, halvings is 200, and low and high are the ends after halving 200. The first ends, 1e-8 and 2.0, are not tested so. The
+ * residuals at low and high differ in sign (+0.0 and -0.0 do too).
  */
 typedef struct calstwid_fit_report {
     uint64_t answer;
@@ -227,7 +233,7 @@ typedef struct calstwid_basket_report {
 /* a * b + c, rounded once. */
 double calstwid_fused(double a, double b, double c);
 
-/* The square root, rounded once; that of -0.0 is -0.0. */
+/* The square root, rounded once: NaN below 0; that of -0.0 is -0.0. */
 double calstwid_sqrt(double x);
 
 /* The exponential: infinity above 710, +0.0 below -746. By stated steps, so that the bits are the same on every machine. */
@@ -455,7 +461,7 @@ calstwid_critical_rate_report calstwid_find_critical_rate(const double *coeffici
                                                           size_t n_affines, const double *b, size_t n_b);
 
 /*
- * The same with one Newton step behind it. Answers 0, 1, 2, 9, 10, 11, 13.
+ * The same with one Newton step after it. Answers 0, 1, 2, 9, 10, 11, 13.
  */
 calstwid_implicit_rate_report calstwid_implicit_critical_rate(const double *coefficients, size_t n_coefficients,
                                                               const double *affines, size_t n_affines, const double *b, size_t n_b);
@@ -464,7 +470,7 @@ calstwid_implicit_rate_report calstwid_implicit_critical_rate(const double *coef
 
 /*
  * The short rate at each time of the grid, written to the front of `out`, one standard normal draw a step; count is the number of
- * the grid's times. `out` is no shorter than the grid, else 1. Needs the curve at each grid time and 1.0 / 365.0 behind it. An
+ * the grid's times. `out` is no shorter than the grid, else 1. Needs the curve at each grid time and 1.0 / 365.0 after it. An
  * empty grid is served.
  * Answers 0, 1, 2, 3, 4, 5, 6, 7, 8, 13.
  */
@@ -478,7 +484,7 @@ calstwid_count_report calstwid_generate(double alpha, const double *pillars, siz
 /*
  * What the program prints for a run file, piece by piece: piece 0 is the header, or `refused 1` for a file that breaks its layout
  * (one longer than CALSTWID_MAX_FILE_BYTES, or of more than CALSTWID_MAX_JOBS jobs, among others); piece k + 1 is the lines of job
- * k. It is written to the front of `out`, with no 0 behind it; count is its bytes, and 0 behind the last piece. Where `out` is
+ * k. It is written to the front of `out`, with no 0 after it; count is its bytes, and 0 after the last piece. Where `out` is
  * shorter than CALSTWID_PIECE_BYTES the call is refused with 1. Answers 0, 1.
  */
 calstwid_count_report calstwid_piece(const uint8_t *file, size_t n_file, size_t k, uint8_t *out, size_t n_out);

@@ -12,13 +12,17 @@ a notional of 1 except where a notional is an argument. `times` and `factors` ar
 time that a function needs is looked up among them: nothing is interpolated. Where a function says that it needs t + 1/365, it is t + 1.0 / 365.0.
 
 A list of numbers is a list, a tuple, an array('d'), a numpy array of one dimension or anything else that iterates over numbers. An array('d') and
-a numpy array of float64 are read where they are; others are copied. A number may be an int. What is no number raises TypeError.
+a numpy array of float64 are read where they are; others are copied. A number may be an int. What is no number raises TypeError: a complex number,
+a bool and a numpy masked array, whose mask would be lost, are none. An int beyond a float's range raises ValueError.
+
+Other threads run while a call does: meanwhile none may write a list that is read where it is, and two calls at once may not share an `out`.
 
 The library is libcalstwid.so: in the folder that the environment variable CALSTWID_LIB names (or the file that it names), else in target/lib of the
 clone that this file stands in, else beside this file. It counts on the processor as every process starts: rounding to nearest, subnormal numbers kept.
 """
 import ctypes
 import os
+import sys
 from array import array
 from collections.abc import Mapping, Set
 from ctypes import POINTER, Structure, c_bool, c_double, c_size_t, c_uint8, c_uint64
@@ -445,15 +449,30 @@ _piece = _declare("calstwid_piece", _CountReport, file=_BYTES, k=_SIZE, out=_OUT
 # ---- numbers and lists on their way in
 
 
+def _is_masked(x) -> bool:
+    """Whether it is a numpy masked array or numpy's `masked`. Where numpy.ma is not loaded there is none."""
+    numpy_ma = sys.modules.get("numpy.ma")
+    return numpy_ma is not None and isinstance(x, numpy_ma.MaskedArray)
+
+
+def _kind(x) -> Optional[str]:
+    """The letter by which numpy has the sort of an array or of one of its numbers; None of others."""
+    return getattr(getattr(x, "dtype", None), "kind", None)
+
+
 def _number(name: str, x) -> float:
     if type(x) is float:
         return x
-    if isinstance(x, (str, bytes, bytearray)) or (isinstance(x, Complex) and not isinstance(x, Real)):
+    wrong = isinstance(x, (str, bytes, bytearray, bool)) or (isinstance(x, Complex) and not isinstance(x, Real))
+    # float() of numpy's bools, complex numbers and times would give a number
+    if wrong or _kind(x) not in (None, "f", "i", "u") or _is_masked(x):
         raise TypeError(f"{name}: a number is wanted, not {type(x).__name__}")
     try:
         return float(x)
     except TypeError:
         raise TypeError(f"{name}: a number is wanted, not {type(x).__name__}") from None
+    except OverflowError:
+        raise ValueError(f"{name}: a number within a float's range is wanted, and this {type(x).__name__} is beyond it") from None
 
 
 def _view(xs) -> Optional[memoryview]:
@@ -473,16 +492,21 @@ def _is_aligned(held) -> bool:
 
 def _list(name: str, xs) -> tuple:
     """The list's doubles and their count; where there are none, an address all the same."""
-    if isinstance(xs, (str, bytes, bytearray, Mapping, Set)):
+    if isinstance(xs, (str, bytes, bytearray, Mapping, Set)) or _is_masked(xs):
         raise TypeError(f"{name}: a list of numbers is wanted, not {type(xs).__name__}")
     view = _view(xs)
-    if view is not None and (view.ndim != 1 or view.format.lstrip("@=<>!") not in tuple("dfebBhHiIlLqQnN")):
-        raise TypeError(f"{name}: a list of real numbers in one dimension is wanted, not {view.ndim} of format {view.format!r}")
-    if view is None or not _is_doubles(view):
+    if view is None:
+        view = memoryview(_copied(name, xs))
+    elif not _is_doubles(view):
+        dimensions, sort = view.ndim, view.format
+        # a view that an error's frame kept would keep the list locked
+        view.release()
+        if dimensions != 1 or sort.lstrip("@=<>!") not in tuple("dfebBhHiIlLqQnN"):
+            raise TypeError(f"{name}: a list of real numbers in one dimension is wanted, not {dimensions} of format {sort!r}")
         try:
             view = memoryview(array("d", xs))
-        except TypeError as error:
-            raise TypeError(f"{name}: a list of numbers is wanted: {error}") from None
+        except NotImplementedError:
+            raise TypeError(f"{name}: Python does not read a memoryview of format {sort!r}: hand over numbers in the machine's own order") from None
     count = len(view)
     if count == 0:
         return (c_double * 1)(), 0
@@ -491,42 +515,65 @@ def _list(name: str, xs) -> tuple:
     return (held if held is not None and _is_aligned(held) else (c_double * count).from_buffer_copy(view)), count
 
 
+def _copied(name: str, xs) -> array:
+    """The numbers of what is no buffer, each looked at by itself."""
+    try:
+        each = iter(xs)
+    except TypeError:
+        raise TypeError(f"{name}: a list of numbers is wanted, not {type(xs).__name__}") from None
+    return array("d", [_number(name, x) for x in each])
+
+
 def _bools(name: str, xs) -> tuple:
+    if _is_masked(xs):
+        raise TypeError(f"{name}: a list of bools is wanted, not {type(xs).__name__}")
     view = _view(xs)
     if view is not None:
-        if view.ndim != 1 or view.format != "?":
-            raise TypeError(f"{name}: a list of bools in one dimension is wanted, not {view.ndim} of format {view.format!r}")
-        xs = view.tolist()
-    values = list(xs)
+        dimensions, sort = view.ndim, view.format
+        values = view.tolist() if dimensions == 1 and sort == "?" else None
+        view.release()
+        if values is None:
+            raise TypeError(f"{name}: a list of bools in one dimension is wanted, not {dimensions} of format {sort!r}")
+    else:
+        values = list(xs)
     for x in values:
-        if not isinstance(x, bool):
+        # numpy's own bool is one as well, an array of them is none
+        if not isinstance(x, bool) and (_kind(x) != "b" or getattr(x, "ndim", None) != 0 or _is_masked(x)):
             raise TypeError(f"{name}: a list of bools is wanted, not of {type(x).__name__}")
+    values = [bool(x) for x in values]
     return (c_bool * (len(values) or 1))(*values), len(values)
 
 
 def _lent(name: str, out) -> tuple:
     """A list to be written where it is."""
-    view = _view(out)
+    view = None if _is_masked(out) else _view(out)
     if view is None or view.readonly or not _is_doubles(view):
+        view = None  # else an error that is kept would keep the list locked
         raise TypeError(f"{name}: an array('d') or another list of float64 that can be written in place is wanted, not {type(out).__name__}")
     held = (c_double * len(view)).from_buffer(view) if len(view) else (c_double * 1)()
     if not _is_aligned(held):
+        view = held = None
         raise TypeError(f"{name}: a list that is aligned for float64 is wanted")
     return held, len(view)
 
 
 def _writing(function, out, *arguments) -> int:
     """Calls a function that writes to `out`, its last list. The library wants that list apart from all others: one that shares memory is copied."""
-    held, room = _lent("out", out)
-    first = ctypes.addressof(held)
-    last = first + 8 * room
+    held = None
+    try:
+        held, room = _lent("out", out)
+        first = ctypes.addressof(held)
+        last = first + 8 * room
 
-    def apart(one):
-        if isinstance(one, ctypes.Array) and first < ctypes.addressof(one) + ctypes.sizeof(one) and ctypes.addressof(one) < last:
-            return type(one).from_buffer_copy(one)
-        return one
+        def apart(one):
+            if isinstance(one, ctypes.Array) and first < ctypes.addressof(one) + ctypes.sizeof(one) and ctypes.addressof(one) < last:
+                return type(one).from_buffer_copy(one)
+            return one
 
-    return _served(function(*map(apart, arguments), held, room)).count
+        return _served(function(*map(apart, arguments), held, room)).count
+    finally:
+        # an error that a caller keeps has this frame in it, and would keep the lists locked
+        del held, arguments
 
 
 def _length(name: str, n) -> int:
@@ -535,7 +582,7 @@ def _length(name: str, n) -> int:
         raise TypeError(f"{name}: an int is wanted, not {type(n).__name__}")
     n = n.__index__()
     if not 0 <= n < 1 << 64:
-        raise ValueError(f"{name}: {n} is no length")
+        raise ValueError(f"{name}: an int from 0 to 2**64 - 1 is wanted")
     return n
 
 
@@ -838,23 +885,27 @@ def swaption_price(
 
 def _swaption_value(function, alpha, pillars, sigmas, times, factors, payments, accruals, own_dfs, strike, t, notional, side):
     payments, n = _list("payments", payments)
-    report = _served(
-        function(
-            _number("alpha", alpha),
-            *_list("pillars", pillars),
-            *_list("sigmas", sigmas),
-            *_list("times", times),
-            *_list("factors", factors),
-            payments,
-            n,
-            *_list("accruals", accruals),
-            *_list("own_dfs", array("d", bytes(8 * n)) if own_dfs is None else own_dfs),
-            _number("strike", strike),
-            _number("t", t),
-            _number("notional", notional),
-            _number("side", side),
+    try:
+        report = _served(
+            function(
+                _number("alpha", alpha),
+                *_list("pillars", pillars),
+                *_list("sigmas", sigmas),
+                *_list("times", times),
+                *_list("factors", factors),
+                payments,
+                n,
+                *_list("accruals", accruals),
+                *_list("own_dfs", array("d", bytes(8 * n)) if own_dfs is None else own_dfs),
+                _number("strike", strike),
+                _number("t", t),
+                _number("notional", notional),
+                _number("side", side),
+            )
         )
-    )
+    finally:
+        # as in _writing
+        del payments
     return Valuation(report.value, report.stepped, report.rate, _bracket(report))
 
 
@@ -911,7 +962,7 @@ def find_critical_rate(coefficients: Numbers, affines: Numbers, b: Numbers) -> C
 
 
 def implicit_critical_rate(coefficients: Numbers, affines: Numbers, b: Numbers) -> ImplicitRate:
-    """The same with one Newton step behind it."""
+    """The same with one Newton step after it."""
     report = _served(_implicit_critical_rate(*_list("coefficients", coefficients), *_list("affines", affines), *_list("b", b)))
     return ImplicitRate(report.stepped, report.rate, _bracket(report))
 
@@ -1017,7 +1068,7 @@ def generate(
 
 def piece(file: bytes, k: int) -> bytes:
     """Piece k of what the program prints for a run file: 0 is the header, or `refused 1` where the file breaks its layout; k + 1 has the lines of
-    job k; behind the last piece it is empty."""
+    job k; after the last piece it is empty."""
     return _piece_into(file, k, (c_uint8 * PIECE_BYTES)())
 
 

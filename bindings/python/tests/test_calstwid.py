@@ -456,10 +456,73 @@ class Lists(unittest.TestCase):
                 calstwid.bond_call_price(wrong, [1, 2], [1, 1], 1, 2, 0.5, 0)
             with self.assertRaises(TypeError):
                 calstwid.exp(wrong)
-        with self.assertRaises(OverflowError):
+        for wrong in (True, [True, 2], iter([1j, 2]), (x for x in [1, 2j])):
+            with self.assertRaises(TypeError):
+                self.price(wrong, [1, 1])
+        with self.assertRaises(TypeError):
+            calstwid.exp(True)
+        with self.assertRaisesRegex(ValueError, "x: .* beyond it"):
             calstwid.exp(10**400)
+        for huge in ([1, 10**400], iter([1, 10**400])):
+            with self.assertRaisesRegex(ValueError, "times: .* beyond it"):
+                self.price(huge, [1, 1])
+        with self.assertRaisesRegex(ValueError, "k: an int from 0"):
+            calstwid.piece(b"", 10**5000)
         with self.assertRaises(TypeError):
             calstwid.exp()
+
+    def test_kept_errors_lock_nothing(self):
+        d = desk()
+        lists = [array("d", xs) for xs in (d.pillars, d.sigmas, d.times, d.factors, d.grid, d.draws)]
+        out, payments, floats = array("d", bytes(32)), array("d", d.payments), array("f", bytes(16))
+        tries = [
+            (calstwid.Refused, lambda: calstwid.generate_into(0.0, *lists, out)),
+            (TypeError, lambda: calstwid.generate_into(0.1, *lists[:-1], [1j], out)),
+            (TypeError, lambda: calstwid.generate_into(0.1, *lists, [0.0] * 4)),
+            (TypeError, lambda: calstwid.generate_into(0.1, *lists, floats)),
+            (calstwid.Refused, lambda: calstwid.transition_variances_into(0.0, *lists[:2], 4, 0.25, out)),
+            (calstwid.Refused, lambda: calstwid.payer_swaption_value(0.0, *lists[:4], payments, d.accruals, None, 0.03, 1, 1, 1)),
+            (TypeError, lambda: calstwid.payer_swaption_value(0.1, *lists[:4], payments, d.accruals, None, 0.03, 1, 1, "1")),
+        ]
+        kept = []
+        for error, call in tries:
+            try:
+                call()
+            except error as caught:
+                kept.append(caught)
+            # BufferError where one is still lent
+            for one in (*lists, out, payments, floats):
+                one.append(0.0)
+                one.pop()
+        self.assertEqual(len(kept), len(tries))
+
+    def test_numpy_that_is_no_list_of_numbers(self):
+        try:
+            import numpy
+        except ImportError:
+            self.skipTest("numpy is not at hand")
+        masked = numpy.ma.masked_array([1.0, 2.0], [False, True])
+        whole = numpy.ma.masked_array([1.0, 2.0])
+        wrongs = [masked, whole, numpy.ma.masked, [1.0, numpy.ma.masked], [numpy.bool_(True), 2], numpy.array([True, True])]
+        wrongs += [[numpy.complex128(1 + 2j), 2], [1, numpy.complex64(2j)], [numpy.array(1 + 2j), 2]]
+        for wrong in wrongs:
+            with self.assertRaises(TypeError):
+                self.price(wrong, [1, 1])
+        with self.assertRaises(TypeError):
+            self.price((x for x in numpy.ones(2, complex)), [1, 1])
+        with self.assertRaisesRegex(TypeError, "times: .*>d"):
+            self.price(memoryview(numpy.array([1, 2], ">f8")), [1, 1])
+        for wrong in (numpy.ma.masked, numpy.complex128(1j), numpy.array(1j), numpy.bool_(True)):
+            with self.assertRaises(TypeError):
+                calstwid.exp(wrong)
+        d = desk()
+        with self.assertRaises(TypeError):
+            calstwid.generate_into(d.alpha, d.pillars, d.sigmas, d.times, d.factors, d.grid, d.draws, numpy.ma.zeros(4))
+        basket = lambda normals: calstwid.calibrate_to_instruments(0.1, d.times, d.factors, normals, [0.03], [1], [1.5], [0.0075])  # noqa: E731
+        self.assertEqual([basket(one).statuses for one in ([numpy.bool_(True)], numpy.array([True]), [True])], [(True,)] * 3)
+        for wrong in (numpy.ma.masked_array([True]), [numpy.array([True])], [numpy.int64(1)]):
+            with self.assertRaises(TypeError):
+                basket(wrong)
 
     def test_frozen(self):
         d1d2 = calstwid.d1_d2(0.03, 0.03, 0.2, 1)

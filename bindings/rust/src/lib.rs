@@ -1,6 +1,7 @@
 //! Calstwid: Hull-White interest-rate options priced and fitted. Every call answers whatever it is given, with a value or with the first
 //! [`Refusal`] that applies; each is proved to meet its contract where it is written, in Rattle. Nothing here adds to a call's meaning: lists
-//! are lent as they are, and a [`Refusal`] is the number that the library answers.
+//! are lent as they are, and a [`Refusal`] is the number that the library answers. While a call runs nobody may write a list that it reads, or
+//! touch the one that it writes, from another thread either: a borrow sees to both.
 //!
 //! Times are years from today; rates, strikes of rates and volatilities are fractions a year (0.03 is 3 %); alpha is the mean reversion. A value is
 //! for a notional of 1 except where a notional is an argument. A time that a call needs is looked up among the curve's own times: nothing is
@@ -430,7 +431,7 @@ pub fn find_critical_rate(terms: Terms) -> Result<CriticalRate, Refusal> {
     Refusal::unless_served(report.answer, CriticalRate { rate: report.rate, bracket: bracket!(report) })
 }
 
-/// The same with one Newton step behind it.
+/// The same with one Newton step after it.
 pub fn implicit_critical_rate(terms: Terms) -> Result<ImplicitRate, Refusal> {
     let report = call!(calstwid_implicit_critical_rate, [terms.coefficients], [terms.affines], [terms.b]);
     let ffi::ImplicitRateReport { stepped, rate, .. } = report;
@@ -504,7 +505,7 @@ pub fn generate(alpha: f64, pillars: Pillars, curve: Curve, grid: &[f64], draws:
 }
 
 /// Writes piece k of what the program prints for a run file to the front of `out`, and says how many bytes it has: piece 0 is the header, or
-/// `refused 1` where the file breaks its layout; piece k + 1 has the lines of job k; behind the last piece it is 0. Refused by 1 where `out` is shorter than [`PIECE_BYTES`].
+/// `refused 1` where the file breaks its layout; piece k + 1 has the lines of job k; after the last piece it is 0. Refused by 1 where `out` is shorter than [`PIECE_BYTES`].
 pub fn piece(file: &[u8], k: usize, out: &mut [u8]) -> Result<usize, Refusal> {
     count(call!(calstwid_piece, [file], k, mut [out]))
 }

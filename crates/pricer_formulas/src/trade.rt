@@ -1,7 +1,8 @@
-// What is priced, as the numbers that travel together.
+// A swaption as it is dealt, one argument in place of five.
 use super::bond_option::SwaptionType;
 
-// A swaption's own numbers: strike, option time, notional, and a side of 1 or -1.
+// A swaption's own numbers: whether it is a payer or a receiver (`option`), strike, option time, notional, and a side of 1
+// or -1.
 pub struct Trade {
     pub option: SwaptionType,
     pub strike: f64,
