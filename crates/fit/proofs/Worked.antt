@@ -2,10 +2,11 @@
 use mathlib.Core.Path.{_≡_, refl, ap, _∙_}
 use mathlib.Core.List.{List}
 use lib.Ieee.{Float}
+use Rattle.ieee.specs.Rounded.{_⊖_}
 use Rattle.refusals.specs.declared.refusals.Refusal.{Refusal}
 use Rattle.refusals.specs.Refusals.{Outcome, refused, following}
 use Rattle.hullwhite_formulas.specs.declared.instruments.Optionlet.{Optionlet}
-use Rattle.hullwhite_formulas.specs.HullWhite.{bOf, stateDeviationOf, optionletStrikeOf}
+use Rattle.hullwhite_formulas.specs.HullWhite.{bOf, stateDeviationOf, growthOf, optionletStrikeOf}
 use Rattle.hullwhite_terms.specs.declared.swaption.WorkedTerms.{WorkedTerms}
 use Rattle.hullwhite_terms.specs.declared.swaption.WorkedTerms.the-variants as T
 use Rattle.hullwhite_terms.specs.Terms.{curvePartsOf}
@@ -32,10 +33,10 @@ finished {f} {g} same p h =
     h ∙ ap (λ (x : Outcome Fit). following x finishingFit) (p ∙ ap solveOf e)
 
 module _ (quote : Quote) (alpha : Float) (caplet : Optionlet) (pt pS : Float) where
-  pub caplet-fit : {b deviation x market : Float} (cs bs ds ps : List Float) {o q : Outcome Fit} → b ≡ bOf alpha (caplet .start) (caplet .end) → deviation ≡ stateDeviationOf alpha (caplet .start) → x ≡ optionletStrikeOf (caplet .strike) (caplet .start) (caplet .end) → market ≡ capletMarketPriceOf (quote .sort) (caplet .strike) (caplet .start) (caplet .end) (quote .volatility) pt pS
-      → o ≡ solveOf (objectiveOf (I.Caplet (record { b = b; deviation = deviation; «bond_strike» = x; caplet = caplet; «p_t» = pt; «p_end» = pS })) market cs bs ds ps) → q ≡ following o finishingFit
+  pub caplet-fit : {b deviation growth x market : Float} (cs bs ds ps : List Float) {o q : Outcome Fit} → b ≡ bOf alpha (caplet .start) (caplet .end) → deviation ≡ stateDeviationOf alpha (caplet .start) → growth ≡ growthOf (caplet .end ⊖ caplet .start) (caplet .strike) → x ≡ optionletStrikeOf (caplet .strike) (caplet .start) (caplet .end) → market ≡ capletMarketPriceOf (quote .sort) (caplet .strike) (caplet .start) (caplet .end) (quote .volatility) pt pS
+      → o ≡ solveOf (objectiveOf (I.Caplet (record { b = b; deviation = deviation; growth = growth; «bond_strike» = x; «p_t» = pt; «p_end» = pS })) market cs bs ds ps) → q ≡ following o finishingFit
       → q ≡ following (solveOf (capletObjective (quote .sort) alpha (caplet .strike) (caplet .start) (caplet .end) (quote .volatility) pt pS)) finishingFit
-  caplet-fit cs bs ds ps p q r m = finished (caplet-same quote alpha caplet pt pS cs bs ds ps p q r m)
+  caplet-fit cs bs ds ps p q g r m = finished (caplet-same quote alpha caplet pt pS cs bs ds ps p q g r m)
 
 pub swaption-fit : (alpha t pt forward market : Float) (cs bs ps : List Float) {ds : List Float} {ahead : SwaptionAhead} {o q : Outcome Fit} → ds ≡ curvePartsOf forward pt bs ps → ahead ≡ aheadOf alpha t pt
     → o ≡ solveOf (objectiveOf (I.Swaption ahead) market cs bs ds ps) → q ≡ following o finishingFit

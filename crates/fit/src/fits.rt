@@ -120,11 +120,12 @@ pub fn caplet_fitted(
 fn caplet_worked(quote: Quote, alpha: f64, caplet: Optionlet, p_t: f64, p_end: f64) -> Fitted
     ensures { λ r. ⌜ fittedOutcome r ≡ following (solveOf (capletObjective (quote .sort) alpha (caplet .strike) (caplet .start) (caplet .end) (quote .volatility) «p_t» «p_end»)) finishingFit ⌝ }
 {
+    let growth = hullwhite_formulas::growth_of(caplet.end - caplet.start, caplet.strike);
     let ahead = CapletAhead {
         b: hullwhite_formulas::b_of(alpha, caplet.start, caplet.end),
         deviation: hullwhite_formulas::state_deviation_of(alpha, caplet.start),
-        bond_strike: 1.0 / hullwhite_formulas::growth_of(caplet.end - caplet.start, caplet.strike),
-        caplet,
+        growth,
+        bond_strike: 1.0 / growth,
         p_t,
         p_end,
     };
