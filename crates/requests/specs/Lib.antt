@@ -1,0 +1,2 @@
+-- What document 02 asks to be so, request by request.
+pub mod NoPillars
