@@ -94,7 +94,7 @@ pub at-intrinsic-value : (option : SwaptionType) (pt rate a b p : Float) → T (
 unfolding componentOf pricerBondOptionOf intrinsicComponentOf
 at-intrinsic-value option pt rate a b p h = rw (no-deviation, bond-still b h)
 
--- where a B is not, A is NaN, and with it the coupon sum at every rate: rule 9, "A coupon sum or a fit residual that the call reaches is NaN"
+-- where a B is not, A is NaN, and with it the coupon sum at every rate: rule 9, "A critical-rate evaluation .. that is reached is NaN"
 less-nan : (x : Float) → x ⊖ nan ≡ nan
 unfolding sub add neg
 less-nan nan = refl
