@@ -163,7 +163,7 @@ impl Inputs {
                 return arguments(&run, &job);
             }
             let bytes = if rare.is_empty() {
-                generate::generate(self.seed, self.next_file).0
+                generate::generate(self.seed, self.next_file, generate::Pillars::Mostly).0
             } else {
                 generate::of_category(rare, self.seed, self.next_file)
             };
@@ -248,7 +248,8 @@ impl Inputs {
     /// Some pieces of a run file in turn, and one behind the last.
     fn piece(&mut self, function: usize) -> Call {
         while self.pieces.is_empty() {
-            let (file, _) = generate::generate(self.seed ^ 0x7069_6563_6573, self.next_file);
+            let seed = self.seed ^ 0x7069_6563_6573;
+            let (file, _) = generate::generate(seed, self.next_file, generate::Pillars::Mostly);
             self.next_file += 1;
             let count = with_pieces(&file, <[Vec<u8>]>::len) as u64;
             let dice = &mut self.dice;
@@ -316,6 +317,8 @@ fn rare(kind: u64) -> &'static [&'static str] {
             "limit/rungs",
             "limit/mixed-signs",
             "limit/wide-bracket",
+            "limit/no-pillars",
+            "limit/no-pillars",
         ],
         8 | 9 => &[
             OVERFLOWING,

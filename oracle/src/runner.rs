@@ -1,12 +1,12 @@
 //! The comparison runner: generated files through a program and the judge.
 //!
-//! - `generate SEED INDEX` writes one run file;
-//! - `compare PROGRAM N SEED [--detail] [--keep DIR]` compares a program with
-//!   the judge on N files;
+//! - `generate SEED INDEX [--no-pillars]` writes one run file;
+//! - `compare PROGRAM N SEED [--detail] [--no-pillars] [--keep DIR]` compares a
+//!   program with the judge on N files, none of which has pillars if so asked;
 //! - `sensitivity N SEED` tells the judge's slips apart from the judge;
 //! - `fixed DIR N SEED` writes the fixed list.
 
-use crate::generate;
+use crate::generate::{generate, Pillars};
 use crate::judge;
 use crate::slips::{Shows, SHOWS};
 use std::collections::{BTreeMap, BTreeSet};
@@ -28,8 +28,8 @@ const LONGEST: usize = 100_000;
 const KEPT: usize = 10;
 
 const USAGE: &str = "usage:
-  oracle generate SEED INDEX > FILE
-  oracle compare PROGRAM N SEED [--detail] [--keep DIR]
+  oracle generate SEED INDEX [--no-pillars] > FILE
+  oracle compare PROGRAM N SEED [--detail] [--no-pillars] [--keep DIR]
   oracle sensitivity N SEED
   oracle fixed DIR N SEED";
 
@@ -38,7 +38,8 @@ const USAGE: &str = "usage:
 pub fn main(args: &[String]) -> i32 {
     let words: Vec<&str> = args.iter().map(String::as_str).collect();
     let done = match words.as_slice() {
-        ["generate", seed, index] => generate_command(seed, index),
+        ["generate", seed, index] => generate_command(seed, index, Pillars::Mostly),
+        ["generate", seed, index, "--no-pillars"] => generate_command(seed, index, Pillars::Never),
         ["compare", program, count, seed, options @ ..] => {
             compare_command(program, count, seed, options)
         }
@@ -64,8 +65,8 @@ fn failed(what: &str, path: &Path, error: std::io::Error) -> String {
 // generate
 // ---------------------------------------------------------------------------
 
-fn generate_command(seed: &str, index: &str) -> Result<i32, String> {
-    let (bytes, category) = generate::generate(number(seed)?, number(index)?);
+fn generate_command(seed: &str, index: &str, pillars: Pillars) -> Result<i32, String> {
+    let (bytes, category) = generate(number(seed)?, number(index)?, pillars);
     eprintln!("{category}");
     std::io::stdout().write_all(&bytes).map_err(|e| format!("standard output: {e}"))?;
     Ok(0)
@@ -186,6 +187,7 @@ struct Tally {
     /// Files whose layout was refused.
     refused: u64,
     unconverged: u64,
+    unmoved: u64,
     differences: u64,
 }
 
@@ -193,6 +195,7 @@ impl Tally {
     fn add(&mut self, category: &'static str, outcome: &judge::Outcome, different: bool) {
         self.files += 1;
         self.unconverged += u64::from(outcome.unconverged);
+        self.unmoved += u64::from(outcome.unmoved);
         self.differences += u64::from(different);
         self.refused += u64::from(outcome.printed == b"refused 1\n");
         for &(kind, answer) in &outcome.jobs {
@@ -266,6 +269,7 @@ fn print_tally(tally: &Tally, seconds: f64) {
     println!("files {}, layout refused {}", tally.files, tally.refused);
     println!("jobs {}", tally.jobs.values().sum::<u64>());
     println!("unconverged fits {}", tally.unconverged);
+    println!("served in kinds 6 and 7 without pillars {}", tally.unmoved);
     let served: u64 = tally.jobs.iter().filter(|((_, answer), _)| *answer == 0).map(|(_, n)| n).sum();
     println!("served and put to the Rust {served}");
     println!("refused and not put to it {}", tally.jobs.values().sum::<u64>() - served);
@@ -280,6 +284,7 @@ struct Comparison<'a> {
     detail: bool,
     keep: PathBuf,
     seed: u64,
+    pillars: Pillars,
 }
 
 impl Comparison<'_> {
@@ -408,11 +413,12 @@ fn compare_command(
     options: &[&str],
 ) -> Result<i32, String> {
     let (count, seed) = (number(count)?, number(seed)?);
-    let mut work = Comparison { program, detail: false, keep: default_keep(), seed };
+    let mut work = Comparison { program, detail: false, keep: default_keep(), seed, pillars: Pillars::Mostly };
     let mut options = options.iter();
     while let Some(&option) = options.next() {
         match (option, options.as_slice()) {
             ("--detail", _) => work.detail = true,
+            ("--no-pillars", _) => work.pillars = Pillars::Never,
             ("--keep", [folder, ..]) => {
                 work.keep = PathBuf::from(folder);
                 options.next();
@@ -434,7 +440,7 @@ fn compare_command(
 
 /// Compares on one file.
 fn compare_one(work: &Comparison, index: u64, tally: &mut Tally) -> Result<(), String> {
-    let (bytes, category) = generate::generate(work.seed, index);
+    let (bytes, category) = generate(work.seed, index, work.pillars);
     let Some(outcome) = judged(&bytes, None) else {
         eprintln!("seed {} index {index} {category}: the judge itself fell over", work.seed);
         tally.differences += 1;
@@ -514,7 +520,7 @@ fn sensitivity_command(count: &str, seed: &str) -> Result<i32, String> {
         if index > 0 && index % 1000 == 0 {
             eprintln!("{index} files, {left} slips not yet seen in print");
         }
-        let (bytes, category) = generate::generate(seed, index);
+        let (bytes, category) = generate(seed, index, Pillars::Mostly);
         let Some(truth) = judged(&bytes, None) else {
             eprintln!("index {index} {category}: the judge itself fell over");
             return Ok(1);
@@ -611,7 +617,7 @@ fn wanted(feature: &str, size: usize) -> usize {
 fn candidates(count: u64, seed: u64) -> Result<Vec<Candidate>, String> {
     let mut list = Vec::new();
     for index in 0..count {
-        let (bytes, category) = generate::generate(seed, index);
+        let (bytes, category) = generate(seed, index, Pillars::Mostly);
         let Some(outcome) = judged(&bytes, None) else {
             return Err(format!("index {index} {category}: the judge itself fell over"));
         };
