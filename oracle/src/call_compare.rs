@@ -178,6 +178,10 @@ impl Stream {
         if !paired {
             add("unpaired lists".to_string());
         }
+        let pricer = matches!(call_rules::kind(call.name()), Some(6 | 7));
+        if pricer && answer == 0 && call.length(1) == 0 {
+            add("swaption values served without pillars".to_string());
+        }
         let (room, needed) = match call.name() {
             "transition_variances" => (call.length(5), call.size(3)),
             "generate" => (call.length(7), call.length(5) as u64),

@@ -319,6 +319,7 @@ fn rare(kind: u64) -> &'static [&'static str] {
             "limit/wide-bracket",
             "limit/no-pillars",
             "limit/no-pillars",
+            "limit/three-rates",
         ],
         8 | 9 => &[
             OVERFLOWING,
@@ -1240,6 +1241,11 @@ fn lengths(dice: &mut Dice, call: &mut Call, turn: usize) {
             }
             _ => {}
         }
+    }
+    if let (Some(pillars), 3) = (call.table().position("pillars"), turn % 4) {
+        // Times without sigmas, or the reverse, are not the same as no pillars.
+        call.args[pillars + turn / 4 % 2] = Arg::Floats(Vec::new());
+        return;
     }
     let groups = groups(call.name());
     let (places, limit) = groups[turn % groups.len()];

@@ -1121,9 +1121,10 @@ fn limit_no_pillars(dice: &mut Dice) -> Desk {
 
 /// Three coupons whose sum is 1 at three rates, the forward between the upper
 /// two. The search finds the lowest, on the forward's other side, and so a payer
-/// at intrinsic value is worth less than 0.
+/// at intrinsic value is worth less than 0; with all rates negated a receiver.
 fn limit_three_rates(dice: &mut Dice) -> Desk {
-    let forward = dice.between(0.04, 0.1);
+    let sign = dice.sign();
+    let forward = sign * dice.between(0.04, 0.1);
     let shape = Shape { level: forward, ..Shape::FLAT };
     let mut b = Builder::new(shape, dice.log_between(1e-6, 1e-4));
     if dice.one_in(3) {
@@ -1131,8 +1132,9 @@ fn limit_three_rates(dice: &mut Dice) -> Desk {
     }
     let t = dice.pick(&[0.0, 1.0, 2.5]);
     // The sum less 1 is c × (u - u1) × (u - u2) × (u - u3) in u = exp(-rate).
-    let rates = [-dice.between(0.02, 0.1), dice.between(0.005, 0.03), forward + dice.between(0.01, 0.08)];
-    let [u1, u2, u3] = rates.map(|rate| exp(-rate));
+    let beyond = dice.between(0.01, 0.08);
+    let rates = [-dice.between(0.02, 0.1), dice.between(0.005, 0.03), sign * forward + beyond];
+    let [u1, u2, u3] = rates.map(|rate| exp(-sign * rate));
     let c = 1.0 / (u1 * u2 * u3);
     b.coupon(t + 1.0, c * (u1 * u2 + u2 * u3 + u3 * u1));
     b.coupon(t + 2.0, -c * (u1 + u2 + u3));
