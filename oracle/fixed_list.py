@@ -1,13 +1,16 @@
-"""The fixed lists: run files, each with the output that the program prints for it. That is the output which stands beside the file in its
-list, as it was when the list was made, but for the lines that a later request of document 02 has turned. oracle/fixed/turned.txt names those."""
+"""The fixed lists of run files (oracle/fixed) and of calls (oracle/fixed_calls), each entry with its outcome. That is the one which stands
+beside it in its list, as it was when the list was made, but where a later request of document 02 has turned it: `turned.txt` beside the lists
+names each line of an output, and each call, that a request has turned."""
 import os
 import re
 import struct
 
 HERE = os.path.dirname(os.path.realpath(__file__))
 TURNED = os.path.join(HERE, "fixed", "turned.txt")
-# In the order in which they were made: the base's, then one for each request that brought files of its own.
+TURNED_CALLS = os.path.join(HERE, "fixed_calls", "turned.txt")
+# The base's, then one for each request that brought files or calls of its own.
 LISTS = ["base", "A.2"]
+CALL_LISTS = ["edges", "random", "A.2"]
 
 
 def no_pillars(run, old, now):
@@ -17,8 +20,17 @@ def no_pillars(run, old, now):
     return bool(job and not pillars and coupons and re.fullmatch(job[1] + r" (0|8|9|1\d) [0-9a-f]{16} 0", now))
 
 
-# What a request may turn: whether it names this line of a run file's output, and what it can become.
+def no_pillars_call(call, old, now):
+    """A.2 in a call; `old` and `now` are what follows the arrow."""
+    name, _, pillars, sigmas, _, _, payments = (call.split() + [""] * 6)[:7]
+    pricer = name in ("payer_swaption_value", "receiver_swaption_value")
+    lacking = pricer and pillars == sigmas == "[]" and payments != "[]"
+    return lacking and old.split()[0] == "7" and now.split()[0] in ("0", "8", "9", "10", "11", "13")
+
+
+# What a request may turn: whether it names this line of a run file's output, or this call, and whether it can become that.
 REQUESTS = {"A.2": no_pillars}
+CALL_REQUESTS = {"A.2": no_pillars_call}
 
 
 def listed():
@@ -64,3 +76,32 @@ def entries():
         yield entry, run, "".join(line + "\n" for line in lines).encode()
     if turned:
         raise ValueError(f"turned lines of no entry: {sorted(turned)}")
+
+
+def call_file(name):
+    """The lines of a list of calls: declarations, lists that calls share, comments, and calls with their outcomes."""
+    with open(os.path.join(HERE, "fixed_calls", name + ".txt"), encoding="ascii") as file:
+        return file.read().splitlines()
+
+
+def calls():
+    """The lines of all lists of calls, a turned call with its outcome of now."""
+    turned = {}
+    with open(TURNED_CALLS, encoding="ascii") as file:
+        for line in file:
+            request, rest = line.rstrip("\n").split(" ", 1)
+            call, now = rest.split(" -> ")
+            turned[call] = request, now
+    unseen = set(turned)
+    for name in CALL_LISTS:
+        for line in call_file(name):
+            call, _, old = line.partition(" -> ")
+            if call in turned and not line.startswith("function"):
+                request, now = turned[call]
+                if not CALL_REQUESTS[request](call, old, now):
+                    raise ValueError(f"{request} does not turn {line} to {now}")
+                unseen.discard(call)
+                line = f"{call} -> {now}"
+            yield line
+    if unseen:
+        raise ValueError(f"turned calls that no list has: {sorted(unseen)}")
