@@ -332,7 +332,8 @@ impl Case<'_> {
                         5 => self.slips(Slip::EmptyRefused),
                         _ => matches!(kind, 6 | 7 | 10 | 11),
                     };
-                // Of kinds 6 and 7 document 02, A.2: "Refusal 7 no longer covers pillars in those kinds".
+                // Document 02, A.2, of 6 and 7: "Refusal 7 no longer covers pillars in those
+                // kinds".
                 let no_pillars = run.pillars.is_empty()
                     && match kind {
                         6 | 7 => self.slips(Slip::PillarsNeeded),

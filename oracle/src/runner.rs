@@ -420,7 +420,8 @@ fn compare_command(
     options: &[&str],
 ) -> Result<i32, String> {
     let (count, seed) = (number(count)?, number(seed)?);
-    let mut work = Comparison { program, detail: false, keep: default_keep(), seed, pillars: Pillars::Mostly };
+    let (keep, pillars) = (default_keep(), Pillars::Mostly);
+    let mut work = Comparison { program, detail: false, keep, seed, pillars };
     let mut options = options.iter();
     while let Some(&option) = options.next() {
         match (option, options.as_slice()) {
