@@ -126,6 +126,8 @@ def mixed(jobs):
 # (section, name, file). The section says how it is called: in rounds, as a basket, or the whole program.
 CASES = [("kinds", f"kind {kind}, 128 jobs", caplets(kind)) for kind in (1, 2, 3, 4)]
 CASES += [("kinds", f"kind {kind}, 128 jobs, 10 coupons", swaptions(kind, 10, 128)) for kind in (5, 6, 7)]
+# A fixed-rate scenario: the search is run, and no normal function.
+CASES += [("kinds", "kind 6, 128 jobs, 10 coupons, no pillars", swaptions(6, 10, 128, pillar_count=0))]
 CASES += [("kinds", f"kind {kind}, 128 jobs", caplets(kind)) for kind in (8, 9)]
 CASES += [("kinds", f"kind {kind}, 128 jobs, 10 coupons", swaptions(kind, 10, 128)) for kind in (10, 11)]
 CASES += [("kinds", "kind 12, 128 jobs of 64 points", path(64, 128, 8, 128))]

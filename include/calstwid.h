@@ -342,12 +342,14 @@ calstwid_price_report calstwid_swap_annuity_from_curve(const double *times, size
 /* ---- pillars: a volatility holds from its time to the next one, the first from the start too ---- */
 
 /*
- * The volatility at t: that of the last pillar at or before t, else of the first. Answers 0, 1, 2, 4, 5, 6, 7.
+ * The volatility at t: that of the last pillar at or before t, else of the first. No pillars are refused with 7.
+ * Answers 0, 1, 2, 4, 5, 6, 7.
  */
 calstwid_price_report calstwid_volatility(const double *times, size_t n_times, const double *sigmas, size_t n_sigmas, double t);
 
 /*
- * The pillar times at or before t: they are the first `count` of `times`. Answers 0, 1, 2, 4, 5, 6, 7.
+ * The pillar times at or before t: they are the first `count` of `times`. No pillars are refused with 7.
+ * Answers 0, 1, 2, 4, 5, 6, 7.
  */
 calstwid_count_report calstwid_pillars_reached(const double *times, size_t n_times, const double *sigmas, size_t n_sigmas,
                                                double t);
@@ -361,7 +363,7 @@ calstwid_price_report calstwid_hull_white_piecewise_variance(double alpha, const
 
 /*
  * The variance over each of `steps` steps of time_step years, from 0, written to the front of `out`; count is steps. At most
- * CALSTWID_MAX_STEPS, and `out` has room for them, else 1; a time_step that is not above 0 is 5.
+ * CALSTWID_MAX_STEPS, and `out` has room for them, else 1; a time_step that is not above 0 is 5; no pillars are 7.
  * Answers 0, 1, 2, 3, 4, 5, 6, 7, 13.
  */
 calstwid_count_report calstwid_transition_variances(double alpha, const double *times, size_t n_times, const double *sigmas,
@@ -401,7 +403,8 @@ calstwid_swaption_report calstwid_swaption_price(double alpha, const double *tim
 /*
  * The value of a payer and of a receiver swaption, times notional and side, which is 1.0 or -1.0. own_dfs are the coupons' own
  * factors: all 0 where the curve's are to be taken, else all above 0. Need the curve at t, t + 1.0 / 365.0 and the payment times.
- * Answers 0, 1, 2, 3, 4, 5, 6, 7, 8, 9, 10, 11, 13.
+ * No pillars, neither times nor sigmas, are a fixed-rate scenario: the variance is 0, and every bond option is at intrinsic value. No
+ * coupons are refused with 7. Answers 0, 1, 2, 3, 4, 5, 6, 7, 8, 9, 10, 11, 13.
  */
 calstwid_valuation_report calstwid_payer_swaption_value(double alpha, const double *pillars, size_t n_pillars, const double *sigmas,
                                                         size_t n_sigmas, const double *times, size_t n_times, const double *factors,
@@ -471,7 +474,7 @@ calstwid_implicit_rate_report calstwid_implicit_critical_rate(const double *coef
 /*
  * The short rate at each time of the grid, written to the front of `out`, one standard normal draw a step; count is the number of
  * the grid's times. `out` is no shorter than the grid, else 1. Needs the curve at each grid time and 1.0 / 365.0 after it. An
- * empty grid is served.
+ * empty grid is served; no pillars are refused with 7.
  * Answers 0, 1, 2, 3, 4, 5, 6, 7, 8, 13.
  */
 calstwid_count_report calstwid_generate(double alpha, const double *pillars, size_t n_pillars, const double *sigmas,

@@ -737,7 +737,7 @@ def forward_rate_from_curve(times: Numbers, factors: Numbers, t: float) -> float
 
 
 def volatility(times: Numbers, sigmas: Numbers, t: float) -> float:
-    """The sigma at t: that of the last pillar at or before t, else the first."""
+    """The sigma at t: that of the last pillar at or before t, else the first; no pillars are refused."""
     return _served(_volatility(*_list("times", times), *_list("sigmas", sigmas), _number("t", t))).value
 
 
@@ -747,7 +747,7 @@ def pillars_reached(times: Numbers, sigmas: Numbers, t: float) -> int:
 
 
 def hull_white_piecewise_variance(alpha: float, times: Numbers, sigmas: Numbers, start: float, end: float) -> float:
-    """The state variance from start to end, the pillars being `times` and `sigmas`; any finite alpha is taken."""
+    """The state variance from start to end, the pillars being `times` and `sigmas`, 0 without any; any finite alpha is taken."""
     return _served(
         _hull_white_piecewise_variance(
             _number("alpha", alpha), *_list("times", times), *_list("sigmas", sigmas), _number("start", start), _number("end", end)
@@ -923,10 +923,11 @@ def payer_swaption_value(
     notional: float,
     side: float,
 ) -> Valuation:
-    """Kind 6: the payer swaption by the pricer, the sigma being that of the pillars at t.
+    """Kind 6: the payer swaption by the pricer, the variance up to t being that of the pillars.
 
     `own_dfs` has a discount factor of its own for each coupon; None, or 0 for each, means the curve's. `side` is 1 (bought) or -1 (sold).
-    Needs the curve at t, t + 1/365 and the payment times."""
+    Needs the curve at t, t + 1/365 and the payment times. No pillars, neither times nor sigmas, are a fixed-rate scenario: the variance is 0,
+    and every bond option is at intrinsic value."""
     return _swaption_value(
         _payer_swaption_value, alpha, pillars, sigmas, times, factors, payments, accruals, own_dfs, strike, t, notional, side
     )

@@ -106,6 +106,16 @@ FINDINGS = [
         "walks away from them into NaN. The Rust returns NaN. Document 01: 9.",
     ),
     (
+        "payer-below-zero", "An option worth less than 0",
+        run(1e-5, curve=[(1, 0.8), (1 + H, 0.799511), (2, 0.64), (3, 0.512), (4, 0.4096)],
+            coupons=[(2, 3.3145), (3, -3.5714), (4, 0.2531)], jobs=[job(6, 1, 1, 1, 1), job(7, 1, 1, 1, 1)]),
+        ["serves bf788c12f34cbf00", "serves 0000000000000000"],
+        "With a negative coefficient in the middle the sum is 1 at three rates, near -0.18, 0.05 and 0.36, and the forward, 0.22, "
+        "lies between the last two. The search finds the first, below the forward, so that every bond option of the payer is in "
+        "the money; without variance they add up to the swap's worth, which is below 0: -0.006. Document 02, A.2, follows the Rust: "
+        "\"every bond option is at intrinsic value\", and not the swaption.",
+    ),
+    (
         "root-still-moving", "200 halvings are not enough",
         run(1e-300, curve=[(1, 1), (1 + H, 1), (1e300, 0.5)], coupons=[(1e300, 1)], jobs=[job(5, 0.5, 1, 0.01)]),
         ["serves 7ff0000000000000"],
@@ -144,7 +154,8 @@ FINDINGS = [
         "no-pillars", "A path without a volatility schedule panics",
         run(0.1, curve=[(0, 1), (H, 1)], grid=[(0, 0)], jobs=[job(12)]),
         ["panics"],
-        "The lookup reads the first pillar of an empty list. Document 01: 7.",
+        "The lookup reads the first pillar of an empty list. Document 01: 7, and document 02, A.2, leaves it so; a swaption "
+        "without pillars the Rust values at variance 0, as A.2 has it.",
     ),
     (
         "fit-without-coupons", "A swaption fit without coupons comes out as sigma 1e-8",

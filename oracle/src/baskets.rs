@@ -83,7 +83,7 @@ fn fits_alone(ask: &Request, one: &Caplet) -> bool {
 
 /// The caplets of a generated run file, mostly without those that are refused.
 fn from_run_file(dice: &mut Dice, seed: u64, index: u64) -> Option<Request> {
-    let (bytes, _) = generate::generate(seed, index);
+    let (bytes, _) = generate::generate(seed, index, generate::Pillars::Mostly);
     let run = judge::read(&bytes, Slip::Nothing)?;
     let asked: Vec<Caplet> = run
         .jobs

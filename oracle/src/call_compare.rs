@@ -5,14 +5,14 @@
 //! - `library-call LINE` makes the call of a line and compares it;
 //! - `library-slips N SEED` counts which slips N calls tell apart;
 //! - `library-names` prints the names of the functions;
-//! - `fixed-calls DIR OUT N SEED` writes the fixed lists to OUT: the calls of
-//!   DIR/edges.txt with their outcomes anew, and some chosen from N random calls.
+//! - `fixed-calls` reads a list of calls and prints it with their outcomes anew.
 //!
 //! The first three need the library: `oracle/calls` builds and runs them.
 
 use crate::abi::{self, Call, Kind, Outcome, FUNCTIONS};
 use crate::call_inputs::Inputs;
 use crate::call_rules;
+#[cfg(calls)]
 use crate::call_slips::{self, Slip};
 use std::collections::BTreeMap;
 use std::fmt::Write;
@@ -33,10 +33,12 @@ const USAGE: &str = "usage:
 /// Gives the exit code: 0 all well, 1 a difference, 2 a wrong call.
 pub fn main(args: &[String]) -> i32 {
     let words: Vec<&str> = args.iter().map(String::as_str).collect();
+    #[cfg(calls)]
     let number = |word: &str| {
         word.parse::<u64>()
             .map_err(|_| format!("not a number: {word}\n{USAGE}"))
     };
+    #[cfg(calls)]
     let two = |one: &str, other: &str| {
         number(one).and_then(|one| number(other).map(|other| (one, other)))
     };
@@ -66,9 +68,9 @@ pub fn main(args: &[String]) -> i32 {
             FUNCTIONS.iter().for_each(|row| println!("{}", row.name));
             Ok(0)
         }
-        ["fixed-calls", from, to, count, seed] => {
-            two(count, seed).and_then(|(count, seed)| fixed(from, to, count, seed))
-        }
+        ["fixed-calls"] => std::io::read_to_string(std::io::stdin())
+            .map_err(|error| format!("standard input: {error}"))
+            .and_then(|list| fixed(&list)),
         _ => Err(USAGE.to_string()),
     };
     done.unwrap_or_else(|message| {
@@ -177,6 +179,10 @@ impl Stream {
         }
         if !paired {
             add("unpaired lists".to_string());
+        }
+        let pricer = matches!(call_rules::kind(call.name()), Some(6 | 7));
+        if pricer && answer == 0 && call.length(1) == 0 {
+            add("swaption values served without pillars".to_string());
         }
         let (room, needed) = match call.name() {
             "transition_variances" => (call.length(5), call.size(3)),
@@ -530,28 +536,13 @@ fn slips(count: u64, seed: u64) -> i32 {
     i32::from(left > 0)
 }
 
-// ------------------------------------------------------------ the fixed list
+// ------------------------------------------------------------ the fixed lists
 
-/// Lines longer than this are taken only where there is no other example.
-const LONG: usize = 2_000;
-/// Examples of each function and answer, and of each function served.
-const EXAMPLES: usize = 3;
-const SERVED: usize = 14;
-
-fn fixed(from: &str, to: &str, count: u64, seed: u64) -> Result<i32, String> {
-    std::fs::create_dir_all(to).map_err(|error| format!("cannot make {to}: {error}"))?;
-    edges(&format!("{from}/edges.txt"), &format!("{to}/edges.txt"))?;
-    chosen(&format!("{to}/random.txt"), count, seed)
-}
-
-/// The calls of a file, each with the outcome that it must have.
-fn edges(from: &str, to: &str) -> Result<(), String> {
-    let old =
-        std::fs::read_to_string(from).map_err(|error| format!("cannot read {from}: {error}"))?;
+/// The calls of a list, each with the outcome that it must have.
+fn fixed(list: &str) -> Result<i32, String> {
     let mut lists = abi::Lists::new();
     let mut text = declarations();
-    let mut count = 0;
-    for line in old.lines() {
+    for line in list.lines() {
         if line.starts_with("function ") {
             continue;
         }
@@ -562,13 +553,11 @@ fn edges(from: &str, to: &str) -> Result<(), String> {
             let right = expected(&call).map_err(|what| format!("{line}: {what}"))?;
             let asked = line.split(" ->").next().unwrap_or(line);
             write!(text, "{asked} -> {}", call.outcome_text(&right)).unwrap();
-            count += 1;
         }
         text.push('\n');
     }
-    std::fs::write(to, &text).map_err(|error| format!("cannot write {to}: {error}"))?;
-    println!("{to}: {count} calls, {} bytes", text.len());
-    Ok(())
+    print!("{text}");
+    Ok(0)
 }
 
 /// What the functions take and give, for a reader that has no table of them.
@@ -600,77 +589,4 @@ fn declarations() -> String {
         text.push('\n');
     }
     text
-}
-
-/// Of random calls: some of each function and answer, and one for each of the
-/// judge's slips.
-fn chosen(file: &str, count: u64, seed: u64) -> Result<i32, String> {
-    let mut stream = Stream::new(seed);
-    let mut chosen: BTreeMap<u64, String> = BTreeMap::new();
-    let mut have: BTreeMap<(usize, u64), usize> = BTreeMap::new();
-    let mut longer: BTreeMap<(usize, u64), (u64, String)> = BTreeMap::new();
-    let mut slips: Vec<(usize, Slip)> = call_slips::all()
-        .into_iter()
-        .filter(|slip| matches!(slip.1, Slip::Judge(_)))
-        .collect();
-    for index in 0..count {
-        let (call, right) = stream.next();
-        let right = right.map_err(|what| format!("call {index}: {what}\n  {}", call.text()))?;
-        let answer = answer(&call, &right);
-        let wanted = if answer == 0 { SERVED } else { EXAMPLES };
-        let examples = have.entry((call.function, answer)).or_default();
-        let told: Vec<usize> = (0..slips.len())
-            .filter(|place| match slips[*place] {
-                (function, Slip::Judge(name)) => {
-                    function == call.function
-                        && catch_unwind(AssertUnwindSafe(|| {
-                            call_slips::judge_differs(&call, &right, name)
-                        }))
-                        .unwrap_or(true)
-                }
-                _ => false,
-            })
-            .collect();
-        if *examples >= wanted && told.is_empty() {
-            continue;
-        }
-        let line = format!("{} -> {}", call.text(), call.outcome_text(&right));
-        // A curve of 2,048 points takes much room; the edges have some.
-        if line.len() > 10 * LONG && answer != 1 {
-            continue;
-        }
-        if line.len() > LONG && told.is_empty() {
-            let best = longer
-                .entry((call.function, answer))
-                .or_insert_with(|| (index, line.clone()));
-            if line.len() < best.1.len() {
-                *best = (index, line);
-            }
-            continue;
-        }
-        *examples += 1;
-        for place in told.iter().rev() {
-            slips.remove(*place);
-        }
-        chosen.insert(index, line);
-    }
-    for (key, (index, line)) in longer {
-        if have.get(&key).copied().unwrap_or(0) == 0 {
-            chosen.insert(index, line);
-        }
-    }
-    let mut text = declarations();
-    chosen.values().for_each(|line| {
-        text += line;
-        text.push('\n');
-    });
-    std::fs::write(file, &text).map_err(|error| format!("cannot write {file}: {error}"))?;
-    for (function, slip) in &slips {
-        println!(
-            "told by no call: {}",
-            call_slips::described(*function, *slip)
-        );
-    }
-    println!("{file}: {} calls, {} bytes", chosen.len(), text.len());
-    Ok(0)
 }

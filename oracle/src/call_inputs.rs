@@ -163,7 +163,7 @@ impl Inputs {
                 return arguments(&run, &job);
             }
             let bytes = if rare.is_empty() {
-                generate::generate(self.seed, self.next_file).0
+                generate::generate(self.seed, self.next_file, generate::Pillars::Mostly).0
             } else {
                 generate::of_category(rare, self.seed, self.next_file)
             };
@@ -248,7 +248,8 @@ impl Inputs {
     /// Some pieces of a run file in turn, and one behind the last.
     fn piece(&mut self, function: usize) -> Call {
         while self.pieces.is_empty() {
-            let (file, _) = generate::generate(self.seed ^ 0x7069_6563_6573, self.next_file);
+            let seed = self.seed ^ 0x7069_6563_6573;
+            let (file, _) = generate::generate(seed, self.next_file, generate::Pillars::Mostly);
             self.next_file += 1;
             let count = with_pieces(&file, <[Vec<u8>]>::len) as u64;
             let dice = &mut self.dice;
@@ -316,6 +317,9 @@ fn rare(kind: u64) -> &'static [&'static str] {
             "limit/rungs",
             "limit/mixed-signs",
             "limit/wide-bracket",
+            "limit/no-pillars",
+            "limit/no-pillars",
+            "limit/three-rates",
         ],
         8 | 9 => &[
             OVERFLOWING,
@@ -1237,6 +1241,11 @@ fn lengths(dice: &mut Dice, call: &mut Call, turn: usize) {
             }
             _ => {}
         }
+    }
+    if let (Some(pillars), 3) = (call.table().position("pillars"), turn % 4) {
+        // Times without sigmas, or the reverse, are not the same as no pillars.
+        call.args[pillars + turn / 4 % 2] = Arg::Floats(Vec::new());
+        return;
     }
     let groups = groups(call.name());
     let (places, limit) = groups[turn % groups.len()];

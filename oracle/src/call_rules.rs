@@ -1,5 +1,5 @@
 //! What a call of the library must give: the refusals by the judge's reading of
-//! document 01, and where it serves, the bits of the Rust.
+//! documents 01 and 02, and where it serves, the bits of the Rust.
 //!
 //! Kinds 1 to 12 and the basket are judged by `judge.rs` and put to the Rust by
 //! `confront.rs`; here stand rule 1 of every call, the rules of the calls that
@@ -54,7 +54,7 @@ pub fn judged(call: &Call, slip: &str) -> Result<Outcome, String> {
     match call.name() {
         "calibrate_to_instruments" => Ok(basket(call)),
         "find_critical_rate" | "implicit_critical_rate" => critical_rate(call, slip),
-        _ if kind(call.name()).is_some() => job(call),
+        _ if kind(call.name()).is_some() => job(call, slip),
         _ => no_kind(call, slip),
     }
 }
@@ -94,6 +94,8 @@ fn breaks_rule_1(call: &Call, slip: &str) -> bool {
         let paired = match slip {
             "longer-second-passes" => lengths.windows(2).all(|two| two[0] <= two[1]),
             "shorter-second-passes" => lengths.windows(2).all(|two| two[0] >= two[1]),
+            "sigmas-without-times" if lengths[0] == 0 => true,
+            "times-without-sigmas" if lengths[1] == 0 => true,
             _ => lengths.iter().all(|length| *length == lengths[0]),
         };
         if !paired || lengths.iter().any(|length| *length > limit_of(*limit)) {
@@ -197,18 +199,18 @@ pub fn as_job(call: &Call, kind: u64) -> (Run, Job) {
     (run, job)
 }
 
-fn job(call: &Call) -> Result<Outcome, String> {
+fn job(call: &Call, slip: &str) -> Result<Outcome, String> {
     let (run, job) = as_job(call, kind(call.name()).unwrap());
     let case = Case {
         run: &run,
         job,
         n: Numbers {
-            slip: Slip::Nothing,
+            slip: crate::slips::named(slip).unwrap_or(Slip::Nothing),
         },
     };
     let mut trace = Trace::default();
     let answer = case.answer(&mut trace);
-    if answer.code == 0 {
+    if answer.code == 0 && slip.is_empty() {
         confront::job(&case, &answer, &trace)?;
     }
     Ok(job_outcome(call, job.kind, &answer))
@@ -549,7 +551,7 @@ fn breaks(call: &Call, used: &Used, rule: u64, slip: &str) -> bool {
                     .iter()
                     .any(|number| *number < 0.0 || (*number == 0.0 && slip != "zeros-pass"))
         }
-        7 => used.pillars == Some(0),
+        7 => used.pillars == Some(0) && slip != "no-pillars-pass",
         _ => {
             let Some(place) = call.table().position("times") else {
                 return false;
@@ -745,6 +747,7 @@ fn slipped(call: &Call, slip: &str) -> Option<Vec<f64>> {
                 .rev()
                 .fold(0.0, |sum, coupon| coupon.1.mul_add(factor(coupon.0), sum))]
         }
+        ("volatility", "no-pillars-pass") if call.length(0) == 0 => vec![0.0],
         ("volatility", "pillar-before") => {
             let pillars = pairs(call, 0);
             let found = pillars

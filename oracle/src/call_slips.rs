@@ -134,6 +134,52 @@ const RULE_SLIPS: &[(&str, &[&str], &str)] = &[
         "rule 6 looks at the forward",
     ),
     (
+        "no-pillars-refused",
+        PRICER,
+        "no pillars are refused by 7, as before document 02, A.2",
+    ),
+    ("no-coupons-searched", PRICER, "no coupons pass rule 7"),
+    (
+        "7-for-both-alone",
+        PRICER,
+        "7 only where there are neither coupons nor pillars",
+    ),
+    (
+        "no-pillars-move",
+        PRICER,
+        "no pillars are a volatility of 0.01",
+    ),
+    (
+        "no-pillars-1e-9",
+        PRICER,
+        "no pillars are a volatility of 1e-9",
+    ),
+    (
+        "no-pillars-swap-intrinsic",
+        PRICER,
+        "without pillars the sum of the bond options is cut off at 0",
+    ),
+    (
+        "sigmas-without-times",
+        PRICER,
+        "sigmas without pillar times pass for no pillars",
+    ),
+    (
+        "times-without-sigmas",
+        PRICER,
+        "pillar times without sigmas pass for no pillars",
+    ),
+    (
+        "no-pillars-path",
+        &["generate"],
+        "no pillars are served, at a volatility of 0",
+    ),
+    (
+        "no-pillars-pass",
+        &["volatility", "pillars_reached", "transition_variances"],
+        "no pillars pass rule 7",
+    ),
+    (
         "empty-variance-refused",
         &["hull_white_piecewise_variance"],
         "no pillars are refused by 7",
@@ -396,6 +442,7 @@ const LISTS: &[&str] = &[
     "generate",
 ];
 const OUTPUTS: &[&str] = &["transition_variances", "generate"];
+const PRICER: &[&str] = &["payer_swaption_value", "receiver_swaption_value"];
 const TERMS: &[&str] = &["find_critical_rate", "implicit_critical_rate"];
 const NO_KINDS: &[&str] = &[
     "B",

@@ -2,7 +2,8 @@
 //!
 //! Everything here is worked out with the four operations, square roots and
 //! fused steps, which round alike on every machine, so a seed gives the same
-//! bytes everywhere. Each file belongs to a category, named "group/variant":
+//! bytes everywhere. Each file belongs to a category, named "group/variant"; of
+//! every category that is no damaged file some have no pillars, or all if asked:
 //!
 //! - desk:    realistic books, every kind of job;
 //! - fit:     files of fits, converging or, with scaled curves, not;
@@ -1054,6 +1055,99 @@ fn limit_empty_lists(dice: &mut Dice) -> Desk {
         }
     }
     desk
+}
+
+/// A schedule without pillars, at which kinds 6 and 7 do not move: swaptions on
+/// both sides of the money, at option time 0 too, with own factors, B up to
+/// infinity, and now and then a fault of another list.
+fn limit_no_pillars(dice: &mut Dice) -> Desk {
+    let coupons = dice.range(1, 6);
+    let grid = dice.below(3);
+    let (mut b, start) = market(dice, coupons, grid);
+    b.desk.pillars.clear();
+    let own = dice.one_in(3);
+    if own {
+        b.own_factors(dice);
+    }
+    match dice.below(8) {
+        0 => {
+            // 1 - exp(-alpha × T) rounds up by so much that B is above T, and infinite; or B is
+            // so large that its square is.
+            let (alpha, far) = if dice.one_in(2) {
+                (dice.pick(&[TINY, 2.0 * TINY, 3.0 * TINY, 1e-322, 1e-320, 1e-318]), f64::MAX)
+            } else {
+                let far = dice.log_between(1e150, 1e160);
+                (dice.between(0.1, 10.0) / far, far)
+            };
+            b.desk.alpha = alpha;
+            b.pin(far, dice.between(0.2, 1.5));
+            b.desk.coupons.push((far, 1.0, if own { 0.5 } else { 0.0 }));
+        }
+        1 => b.desk.alpha = dice.wild(),
+        2 => b.desk.alpha = dice.pick(&[TINY, 1e-310, 1e-300, 1e-16, 1e-12, 1e14, 1e300]),
+        _ => {}
+    }
+    for _ in 0..3 {
+        for kind in [6, 7] {
+            let t = if dice.one_in(4) { 0.0 } else { swaption_time(dice, start) };
+            add_swaption(&mut b, dice, kind, t);
+        }
+    }
+    // The same terms as a payer and as a receiver.
+    let mut both = b.desk.jobs[0];
+    both.kind = 7;
+    b.desk.jobs.push(both);
+    for kind in 1..=12 {
+        if dice.one_in(6) {
+            add_job(&mut b, dice, kind, start);
+        }
+    }
+    let mut desk = b.finish();
+    match dice.below(8) {
+        0 => spoil_alpha(dice, &mut desk),
+        1 => spoil_curve(dice, &mut desk),
+        2 => spoil_coupons(dice, &mut desk),
+        3 => {
+            for job in &mut desk.jobs {
+                if dice.one_in(2) {
+                    spoil_job(dice, job);
+                }
+            }
+        }
+        _ => {}
+    }
+    desk
+}
+
+/// Three coupons whose sum is 1 at three rates, the forward between the upper
+/// two. The search finds the lowest, on the forward's other side, and so a payer
+/// at intrinsic value is worth less than 0; with all rates negated a receiver.
+fn limit_three_rates(dice: &mut Dice) -> Desk {
+    let sign = dice.sign();
+    let forward = sign * dice.between(0.04, 0.1);
+    let shape = Shape { level: forward, ..Shape::FLAT };
+    let mut b = Builder::new(shape, dice.log_between(1e-6, 1e-4));
+    if dice.one_in(3) {
+        b.desk.pillars = vec![(0.0, dice.pick(&[0.0, 1e-4, 0.01]))];
+    }
+    let t = dice.pick(&[0.0, 1.0, 2.5]);
+    // The sum less 1 is c × (u - u1) × (u - u2) × (u - u3) in u = exp(-rate).
+    let beyond = dice.between(0.01, 0.08);
+    let rates = [-dice.between(0.02, 0.1), dice.between(0.005, 0.03), sign * forward + beyond];
+    let [u1, u2, u3] = rates.map(|rate| exp(-sign * rate));
+    let c = 1.0 / (u1 * u2 * u3);
+    b.coupon(t + 1.0, c * (u1 * u2 + u2 * u3 + u3 * u1));
+    b.coupon(t + 2.0, -c * (u1 + u2 + u3));
+    b.coupon(t + 3.0, c - 1.0);
+    if dice.one_in(4) {
+        b.own_factors(dice);
+    }
+    b.need_forward(t);
+    for kind in [6, 7] {
+        b.job(kind, 1.0, t, dice.pick(&[1.0, 1e6]), dice.sign());
+    }
+    b.job(5, 1.0, t, 1e-4, 0.0);
+    b.finish()
 }
 
 /// Very small or very large mean reversion.
@@ -2692,6 +2786,8 @@ const CATEGORIES: &[(&str, u32, Maker)] = &[
     ("limit/negative-zero", 15, Contents(limit_negative_zero)),
     ("limit/no-variance", 20, Contents(limit_no_variance)),
     ("limit/empty-lists", 28, Contents(limit_empty_lists)),
+    ("limit/no-pillars", 30, Contents(limit_no_pillars)),
+    ("limit/three-rates", 12, Contents(limit_three_rates)),
     ("limit/alpha", 20, Contents(limit_alpha)),
     ("limit/bond-slope", 20, Contents(limit_bond_slope)),
     ("limit/rungs", 20, Contents(limit_rungs)),
@@ -2747,14 +2843,25 @@ const CATEGORIES: &[(&str, u32, Maker)] = &[
     ("layout/bit", 12, Bytes(layout_bit)),
 ];
 
+/// Which files have pillars.
+#[derive(Clone, Copy, PartialEq)]
+pub enum Pillars {
+    /// One in eight of those that would have some; damaged files all have.
+    Mostly,
+    /// No file has; there are no damaged ones then.
+    Never,
+}
+
 /// The run file of a seed and an index, with its category.
-pub fn generate(seed: u64, index: u64) -> (Vec<u8>, &'static str) {
+pub fn generate(seed: u64, index: u64, pillars: Pillars) -> (Vec<u8>, &'static str) {
     let mut dice = Dice::new(seed, index);
-    let total: u32 = CATEGORIES.iter().map(|c| c.1).sum();
+    let wanted = |maker: Maker| pillars == Pillars::Mostly || matches!(maker, Contents(_));
+    let rows = || CATEGORIES.iter().filter(|row| wanted(row.2));
+    let total: u32 = rows().map(|row| row.1).sum();
     let mut place = dice.below(total as usize) as u32;
-    for &(name, weight, maker) in CATEGORIES {
+    for &(name, weight, maker) in rows() {
         if place < weight {
-            return (make(&mut dice, maker), name);
+            return (make(&mut dice, maker, pillars), name);
         }
         place -= weight;
     }
@@ -2764,13 +2871,16 @@ pub fn generate(seed: u64, index: u64) -> (Vec<u8>, &'static str) {
 /// The run file of a category, a seed and an index.
 pub fn of_category(category: &str, seed: u64, index: u64) -> Vec<u8> {
     let row = CATEGORIES.iter().find(|row| row.0 == category).expect("a category's name");
-    make(&mut Dice::new(seed, index), row.2)
+    make(&mut Dice::new(seed, index), row.2, Pillars::Mostly)
 }
 
-fn make(dice: &mut Dice, maker: Maker) -> Vec<u8> {
+fn make(dice: &mut Dice, maker: Maker, pillars: Pillars) -> Vec<u8> {
     match maker {
         Contents(build) => {
-            let desk = build(dice);
+            let mut desk = build(dice);
+            if pillars == Pillars::Never || dice.one_in(8) {
+                desk.pillars.clear();
+            }
             if dice.one_in(10) {
                 desk.bytes_with_gaps(dice)
             } else {

@@ -1,6 +1,6 @@
-//! The judge: what document 01 says the program prints for a run file.
+//! The judge: what documents 01 and 02 say the program prints for a run file.
 //!
-//! Layout, refusals and arithmetic are written here from document 01, apart
+//! Layout, refusals and arithmetic are written here from the two documents, apart
 //! from any other program. Every accepted job is then put to the cut-out Rust
 //! (`confront.rs`); a single differing bit stops the oracle. With a slip the
 //! judge makes that one mistake and asks the Rust nothing.
@@ -20,6 +20,8 @@ pub struct Outcome {
     pub jobs: Vec<(u64, u32)>,
     /// Served fits that did not converge.
     pub unconverged: u32,
+    /// Served jobs of kinds 6 and 7 without pillars.
+    pub unmoved: u32,
 }
 
 /// The six lists of a run file.
@@ -324,9 +326,20 @@ impl Case<'_> {
             }
             7 => {
                 let no_coupons = run.coupons.is_empty()
-                    && (matches!(kind, 6 | 7 | 10 | 11)
-                        || (kind == 5 && self.slips(Slip::EmptyRefused)));
-                no_coupons || (matches!(kind, 6 | 7 | 12) && run.pillars.is_empty())
+                    && match kind {
+                        6 | 7 if self.slips(Slip::CouponsNotNeeded) => false,
+                        6 | 7 if self.slips(Slip::EmptyBoth) => run.pillars.is_empty(),
+                        5 => self.slips(Slip::EmptyRefused),
+                        _ => matches!(kind, 6 | 7 | 10 | 11),
+                    };
+                // Document 02, A.2, of 6 and 7: "Refusal 7 no longer covers pillars in those
+                // kinds".
+                let no_pillars = run.pillars.is_empty()
+                    && match kind {
+                        6 | 7 => self.slips(Slip::PillarsNeeded),
+                        _ => kind == 12 && !self.slips(Slip::PathUnmoved),
+                    };
+                no_coupons || no_pillars
             }
             _ => unreachable!(),
         }
@@ -405,14 +418,20 @@ impl Case<'_> {
         {
             Some(pillar) => pillar.1,
             None if self.slips(Slip::VolatilityFirstZero) => 0.0,
+            None if self.run.pillars.is_empty() => 0.0, // only with the slip that lets it in
             None => self.run.pillars[0].1,
         }
     }
 
-    /// `hull_white_piecewise_variance` from start to end.
+    /// `hull_white_piecewise_variance` from start to end; 0 where there are no
+    /// pillars.
     pub fn variance(&self, start: f64, end: f64) -> f64 {
         let alpha = self.run.alpha;
-        let pillars = &self.run.pillars;
+        let pillars: &[(f64, f64)] = match self.run.pillars.as_slice() {
+            [] if self.slips(Slip::NoPillarsMove) => &[(0.0, 0.01)],
+            [] if self.slips(Slip::NoPillarsTouch) => &[(0.0, 1e-9)],
+            pillars => pillars,
+        };
         let mut variance = 0.0;
         for (place, pillar) in pillars.iter().enumerate() {
             let whole = place == 0 && !self.slips(Slip::FirstPillar);
@@ -816,6 +835,9 @@ impl Case<'_> {
             value = self
                 .n
                 .plain(Slip::PricerTotalFused, part, term.coefficient, value);
+        }
+        if self.slips(Slip::OptionOnSwap) && self.run.pillars.is_empty() && value < 0.0 {
+            value = 0.0;
         }
         if self.slips(Slip::SideFirst) {
             return Ok((value * (notional * side), search));
@@ -1276,6 +1298,7 @@ pub fn judge(bytes: &[u8], slip: Option<&str>) -> Outcome {
         detail: Vec::new(),
         jobs: Vec::new(),
         unconverged: 0,
+        unmoved: 0,
     };
     let header: &[u8] = b"job kind answer value note\n";
     let Some(run) = read(bytes, slip) else {
@@ -1311,6 +1334,9 @@ pub fn judge(bytes: &[u8], slip: Option<&str>) -> Outcome {
         outcome.jobs.push((job.kind, answer.code));
         if answer.code == 0 && matches!(job.kind, 8..=11) && !answer.fit.converged {
             outcome.unconverged += 1;
+        }
+        if answer.code == 0 && matches!(job.kind, 6 | 7) && run.pillars.is_empty() {
+            outcome.unmoved += 1;
         }
     }
     outcome

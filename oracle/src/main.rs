@@ -38,7 +38,7 @@ oracle slips                                            the names of the slips
 oracle call NAME ARGUMENT..                             one call of the Rust
 oracle vectors NAME COUNT SEED                          calls with random arguments
 oracle calls                                            the names of the calls
-oracle fixed-calls DIR OUT N SEED                       the fixed lists of calls of the library
+oracle fixed-calls < LIST                               a list of calls of the library with its outcomes anew
 ";
 
 fn main() {

@@ -1,12 +1,11 @@
 //! The comparison runner: generated files through a program and the judge.
 //!
-//! - `generate SEED INDEX` writes one run file;
-//! - `compare PROGRAM N SEED [--detail] [--keep DIR]` compares a program with
-//!   the judge on N files;
-//! - `sensitivity N SEED` tells the judge's slips apart from the judge;
-//! - `fixed DIR N SEED` writes the fixed list.
+//! - `generate SEED INDEX [--no-pillars]` writes one run file;
+//! - `compare PROGRAM N SEED [--detail] [--no-pillars] [--keep DIR]` compares a
+//!   program with the judge on N files, none of which has pillars if so asked;
+//! - `sensitivity N SEED` tells the judge's slips apart from the judge.
 
-use crate::generate;
+use crate::generate::{generate, Pillars};
 use crate::judge;
 use crate::slips::{Shows, SHOWS};
 use std::collections::{BTreeMap, BTreeSet};
@@ -21,29 +20,25 @@ use std::time::{Duration, Instant};
 /// How long a program may work on one file.
 const PATIENCE: Duration = Duration::from_secs(60);
 
-/// The longest entry of the fixed list.
-const LONGEST: usize = 100_000;
-
 /// How many differences are kept as files.
 const KEPT: usize = 10;
 
 const USAGE: &str = "usage:
-  oracle generate SEED INDEX > FILE
-  oracle compare PROGRAM N SEED [--detail] [--keep DIR]
-  oracle sensitivity N SEED
-  oracle fixed DIR N SEED";
+  oracle generate SEED INDEX [--no-pillars] > FILE
+  oracle compare PROGRAM N SEED [--detail] [--no-pillars] [--keep DIR]
+  oracle sensitivity N SEED";
 
 /// Runs a subcommand and gives the exit code: 0 all well, 1 a difference,
 /// 2 a wrong call.
 pub fn main(args: &[String]) -> i32 {
     let words: Vec<&str> = args.iter().map(String::as_str).collect();
     let done = match words.as_slice() {
-        ["generate", seed, index] => generate_command(seed, index),
+        ["generate", seed, index] => generate_command(seed, index, Pillars::Mostly),
+        ["generate", seed, index, "--no-pillars"] => generate_command(seed, index, Pillars::Never),
         ["compare", program, count, seed, options @ ..] => {
             compare_command(program, count, seed, options)
         }
         ["sensitivity", count, seed] => sensitivity_command(count, seed),
-        ["fixed", folder, count, seed] => fixed_command(folder, count, seed),
         _ => Err(USAGE.to_string()),
     };
     done.unwrap_or_else(|message| {
@@ -64,8 +59,8 @@ fn failed(what: &str, path: &Path, error: std::io::Error) -> String {
 // generate
 // ---------------------------------------------------------------------------
 
-fn generate_command(seed: &str, index: &str) -> Result<i32, String> {
-    let (bytes, category) = generate::generate(number(seed)?, number(index)?);
+fn generate_command(seed: &str, index: &str, pillars: Pillars) -> Result<i32, String> {
+    let (bytes, category) = generate(number(seed)?, number(index)?, pillars);
     eprintln!("{category}");
     std::io::stdout().write_all(&bytes).map_err(|e| format!("standard output: {e}"))?;
     Ok(0)
@@ -186,6 +181,7 @@ struct Tally {
     /// Files whose layout was refused.
     refused: u64,
     unconverged: u64,
+    unmoved: u64,
     differences: u64,
 }
 
@@ -193,6 +189,7 @@ impl Tally {
     fn add(&mut self, category: &'static str, outcome: &judge::Outcome, different: bool) {
         self.files += 1;
         self.unconverged += u64::from(outcome.unconverged);
+        self.unmoved += u64::from(outcome.unmoved);
         self.differences += u64::from(different);
         self.refused += u64::from(outcome.printed == b"refused 1\n");
         for &(kind, answer) in &outcome.jobs {
@@ -205,6 +202,19 @@ impl Tally {
         entry.0 += 1;
         entry.1 += u64::from(different);
     }
+}
+
+/// The kinds of the served fits in a printed answer, with their convergence.
+fn served_fits(printed: &[u8]) -> Vec<(u64, bool)> {
+    let text = String::from_utf8_lossy(printed);
+    let mut fits = Vec::new();
+    for line in text.lines().skip(1) {
+        let fields: Vec<&str> = line.split(' ').collect();
+        if let [_, kind @ ("8" | "9" | "10" | "11"), "0", _, note] = fields[..] {
+            fits.push((kind.parse().unwrap_or(0), note != "0"));
+        }
+    }
+    fits
 }
 
 /// A table of counts: a row a kind, a column an answer.
@@ -266,6 +276,7 @@ fn print_tally(tally: &Tally, seconds: f64) {
     println!("files {}, layout refused {}", tally.files, tally.refused);
     println!("jobs {}", tally.jobs.values().sum::<u64>());
     println!("unconverged fits {}", tally.unconverged);
+    println!("served in kinds 6 and 7 without pillars {}", tally.unmoved);
     let served: u64 = tally.jobs.iter().filter(|((_, answer), _)| *answer == 0).map(|(_, n)| n).sum();
     println!("served and put to the Rust {served}");
     println!("refused and not put to it {}", tally.jobs.values().sum::<u64>() - served);
@@ -280,6 +291,7 @@ struct Comparison<'a> {
     detail: bool,
     keep: PathBuf,
     seed: u64,
+    pillars: Pillars,
 }
 
 impl Comparison<'_> {
@@ -408,11 +420,13 @@ fn compare_command(
     options: &[&str],
 ) -> Result<i32, String> {
     let (count, seed) = (number(count)?, number(seed)?);
-    let mut work = Comparison { program, detail: false, keep: default_keep(), seed };
+    let (keep, pillars) = (default_keep(), Pillars::Mostly);
+    let mut work = Comparison { program, detail: false, keep, seed, pillars };
     let mut options = options.iter();
     while let Some(&option) = options.next() {
         match (option, options.as_slice()) {
             ("--detail", _) => work.detail = true,
+            ("--no-pillars", _) => work.pillars = Pillars::Never,
             ("--keep", [folder, ..]) => {
                 work.keep = PathBuf::from(folder);
                 options.next();
@@ -434,7 +448,7 @@ fn compare_command(
 
 /// Compares on one file.
 fn compare_one(work: &Comparison, index: u64, tally: &mut Tally) -> Result<(), String> {
-    let (bytes, category) = generate::generate(work.seed, index);
+    let (bytes, category) = generate(work.seed, index, work.pillars);
     let Some(outcome) = judged(&bytes, None) else {
         eprintln!("seed {} index {index} {category}: the judge itself fell over", work.seed);
         tally.differences += 1;
@@ -514,7 +528,7 @@ fn sensitivity_command(count: &str, seed: &str) -> Result<i32, String> {
         if index > 0 && index % 1000 == 0 {
             eprintln!("{index} files, {left} slips not yet seen in print");
         }
-        let (bytes, category) = generate::generate(seed, index);
+        let (bytes, category) = generate(seed, index, Pillars::Mostly);
         let Some(truth) = judged(&bytes, None) else {
             eprintln!("index {index} {category}: the judge itself fell over");
             return Ok(1);
@@ -549,206 +563,4 @@ fn print_sensitivity(shown: &[Shown]) -> bool {
     let none = shown.len() - printed - detail;
     println!("{} slips: {printed} printed, {detail} in detail alone, {none} not shown", shown.len());
     well
-}
-
-// ---------------------------------------------------------------------------
-// fixed
-// ---------------------------------------------------------------------------
-
-/// A generated file with the judge's answer.
-struct Candidate {
-    index: u64,
-    category: &'static str,
-    bytes: Vec<u8>,
-    outcome: judge::Outcome,
-}
-
-impl Candidate {
-    fn size(&self) -> usize {
-        self.bytes.len() + self.outcome.printed.len()
-    }
-
-    /// What the file is an example of.
-    fn features(&self) -> BTreeSet<String> {
-        let mut features = BTreeSet::new();
-        features.insert(format!("category {}", self.category));
-        for (kind, answer) in &self.outcome.jobs {
-            features.insert(format!("kind {kind} answer {answer}"));
-        }
-        if self.outcome.jobs.is_empty() {
-            features.insert("no jobs".to_string());
-        }
-        for (kind, converged) in served_fits(&self.outcome.printed) {
-            features.insert(format!("fit {kind} converged {converged}"));
-        }
-        features
-    }
-}
-
-/// The kinds of the served fits in a printed answer, with their convergence.
-fn served_fits(printed: &[u8]) -> Vec<(u64, bool)> {
-    let text = String::from_utf8_lossy(printed);
-    let mut fits = Vec::new();
-    for line in text.lines().skip(1) {
-        let fields: Vec<&str> = line.split(' ').collect();
-        if let [_, kind @ ("8" | "9" | "10" | "11"), "0", _, note] = fields[..] {
-            fits.push((kind.parse().unwrap_or(0), note != "0"));
-        }
-    }
-    fits
-}
-
-/// How many examples of a feature the list holds at least, if there are.
-fn wanted(feature: &str, size: usize) -> usize {
-    if feature.starts_with("category") {
-        // Few of the large files: the list is to stay small.
-        return if size > 8192 { 1 } else { 5 };
-    }
-    6
-}
-
-/// All files of a seed with their answers, the small ones first.
-fn candidates(count: u64, seed: u64) -> Result<Vec<Candidate>, String> {
-    let mut list = Vec::new();
-    for index in 0..count {
-        let (bytes, category) = generate::generate(seed, index);
-        let Some(outcome) = judged(&bytes, None) else {
-            return Err(format!("index {index} {category}: the judge itself fell over"));
-        };
-        list.push(Candidate { index, category, bytes, outcome });
-    }
-    list.sort_by_key(|c| (c.size(), c.index));
-    Ok(list)
-}
-
-/// Takes the files that add an example of something, the small ones first.
-fn choose(list: &[Candidate]) -> BTreeSet<usize> {
-    let mut chosen = BTreeSet::new();
-    let mut have: BTreeMap<String, usize> = BTreeMap::new();
-    for (place, candidate) in list.iter().enumerate() {
-        let features = candidate.features();
-        let size = candidate.size();
-        if size > LONGEST {
-            continue;
-        }
-        let useful = |f: &String| have.get(f).copied().unwrap_or(0) < wanted(f, size);
-        if features.iter().any(useful) {
-            chosen.insert(place);
-            for feature in features {
-                *have.entry(feature).or_default() += 1;
-            }
-        }
-    }
-    chosen
-}
-
-/// Adds a file for each slip that no chosen file shows; returns how many
-/// slips the list shows in print.
-fn choose_for_slips(list: &[Candidate], chosen: &mut BTreeSet<usize>) -> usize {
-    let mut told = 0;
-    for &(slip, _, can_show) in judge::SLIPS {
-        if !can_show {
-            continue;
-        }
-        let shows = |place: &usize| match judged(&list[*place].bytes, Some(slip)) {
-            Some(outcome) => outcome.printed != list[*place].outcome.printed,
-            None => true,
-        };
-        if chosen.iter().any(shows) {
-            told += 1;
-        } else if let Some(place) = (0..list.len()).find(|p| list[*p].size() <= LONGEST && shows(p)) {
-            chosen.insert(place);
-            told += 1;
-        }
-    }
-    told
-}
-
-fn fixed_command(folder: &str, count: &str, seed: &str) -> Result<i32, String> {
-    let (count, seed) = (number(count)?, number(seed)?);
-    let list = candidates(count, seed)?;
-    let mut chosen = choose(&list);
-    let told = choose_for_slips(&list, &mut chosen);
-    let mut entries: Vec<&Candidate> = chosen.iter().map(|&place| &list[place]).collect();
-    entries.sort_by_key(|c| c.index);
-    let folder = Path::new(folder);
-    std::fs::create_dir_all(folder).map_err(|e| failed("cannot make", folder, e))?;
-    write_file(&folder.join("list.bin"), &fixed_bytes(&entries))?;
-    write_file(&folder.join("index.txt"), fixed_index(&entries).as_bytes())?;
-    let readme = fixed_readme(&entries, count, seed, told);
-    write_file(&folder.join("README.md"), readme.as_bytes())?;
-    println!("{} entries in {}", entries.len(), folder.display());
-    Ok(0)
-}
-
-/// The list for a program: lengths, run files and answers.
-fn fixed_bytes(entries: &[&Candidate]) -> Vec<u8> {
-    let mut out = Vec::new();
-    for entry in entries {
-        for part in [&entry.bytes, &entry.outcome.printed] {
-            out.extend((part.len() as u32).to_le_bytes());
-            out.extend(part);
-        }
-    }
-    out.extend(u32::MAX.to_le_bytes());
-    out
-}
-
-/// One line an entry: its number, the file's index, category, kinds and answers.
-fn fixed_index(entries: &[&Candidate]) -> String {
-    let mut text = String::from("entry index category kind:answer ..\n");
-    for (place, entry) in entries.iter().enumerate() {
-        text += &format!("{place} {} {}", entry.index, entry.category);
-        if entry.outcome.printed == b"refused 1\n" {
-            text += " refused";
-        }
-        for (kind, answer) in &entry.outcome.jobs {
-            text += &format!(" {kind}:{answer}");
-        }
-        text.push('\n');
-    }
-    text
-}
-
-fn fixed_readme(entries: &[&Candidate], count: u64, seed: u64, told: usize) -> String {
-    let mut tally = Tally::default();
-    for entry in entries {
-        tally.add(entry.category, &entry.outcome, false);
-    }
-    let bytes: usize = entries.iter().map(|e| e.size() + 8).sum::<usize>() + 4;
-    let mut text = format!(
-        "# The fixed list of run files\n\n\
-         {} run files with the oracle's answers, to be replayed where neither rustc nor the\n\
-         Rust is at hand. `list.bin` ({bytes} bytes) holds, for each entry, a u32 length and the\n\
-         run file, then a u32 length and the output that the program prints for it; a u32 of\n\
-         0xffffffff ends the list. All numbers are little-endian. `index.txt` names for each\n\
-         entry the generated file's index, its category, and each job's kind and answer.\n\n\
-         ## How it was made\n\n\
-         `oracle fixed DIR {count} {seed}`: files 0 to {} of seed {seed} are generated and judged by\n\
-         the cut-out Rust. Taken are, the smallest first, files that add an example of a pair of\n\
-         kind and answer, of a category, or of a converged or unconverged fit, until there are\n\
-         six examples of each (five of a category; one of a category of large files); then one\n\
-         file for each of the oracle's slips that no file taken so far tells apart in print. The\n\
-         list tells {told} slips apart.\n\n\
-         `oracle/make-fixed-list` makes the list again in target/oracle/fixed and compares it with\n\
-         this folder byte by byte; `oracle/make-fixed-list --write` replaces this folder's files.\n\n\
-         ## What it holds\n\n\
-         Jobs by kind and answer:\n\n```\n{}```\n\n\
-         A dot is a pair that the rules do not give.\n\n",
-        entries.len(),
-        count - 1,
-        answer_table(&tally.jobs),
-    );
-    text += &format!("Files whose layout is refused: {}.\n\n", tally.refused);
-    text += "Served fits:\n\n```\nkind converged unconverged\n";
-    for kind in 8..=11 {
-        let of = |state: bool| tally.fits.get(&(kind, state)).copied().unwrap_or(0);
-        text += &format!("{kind:>4} {:>9} {:>11}\n", of(true), of(false));
-    }
-    text += "```\n\nFiles by category:\n\n```\n";
-    for (name, (files, _)) in &tally.categories {
-        text += &format!("{name:28} {files:>4}\n");
-    }
-    text += "```\n";
-    text
 }

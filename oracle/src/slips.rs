@@ -67,6 +67,8 @@ slips! {
     VolatilityBefore, "volatility-before", Printed, "volatility: the last pillar before t instead of at or before t";
     VolatilityFirstZero, "volatility-zero-before-first", Printed, "volatility: 0 before the first pillar";
     FirstPillar, "first-pillar-own-time", Printed, "variance: the first pillar starts at its own time";
+    NoPillarsMove, "no-pillars-move", Printed, "variance: no pillars are a volatility of 0.01";
+    NoPillarsTouch, "no-pillars-1e-9", Printed, "variance: no pillars are a volatility of 1e-9";
     AlphaClosed, "alpha-1e-12-closed", Printed, "variance: the plain span for |alpha| <= 1e-12; shows at alpha = 1e-12";
     IntrinsicOpen, "intrinsic-open", Printed, "pricer: intrinsic below 1e-12 instead of up to it; shows where a bond volatility is exactly 1e-12";
     IntrinsicInModel, "intrinsic-in-model", Printed, "kinds 1 to 5: intrinsic where the bond volatility is at most 1e-12";
@@ -88,6 +90,7 @@ slips! {
     OwnOrder, "own-ratio-first", Printed, "kinds 6, 7: component × (own / forward) instead of (component × own) / forward";
     OwnIgnored, "own-ignored", Printed, "kinds 6, 7: own factors are not used";
     SideFirst, "side-first", Never, "kinds 6, 7: value × (notional × side): a product with 1 or -1 is exact";
+    OptionOnSwap, "no-pillars-swap-intrinsic", Printed, "kinds 6, 7 without pillars: the sum of the bond options is cut off at 0, as if the swap were at intrinsic value and not each bond option; shows where the coupon sum is 1 at several rates";
     NewtonInModel, "newton-in-kind-5", Printed, "kinds 5, 10, 11 price after a Newton step";
     NoNewton, "no-newton", Printed, "kinds 6, 7 price at the rate before the Newton step";
     SwapEnd, "swap-ends-latest", Printed, "a fitted swap ends at its latest payment instead of the last listed";
@@ -136,6 +139,10 @@ slips! {
     SideAny, "side-any", Printed, "a side is any number";
     UnusedFields, "unused-fields-checked", Printed, "rule 2 looks at unused fields of a job";
     PillarsAlways, "pillars-always-checked", Printed, "rules 2, 4 and 6 look at pillars in every kind";
+    PillarsNeeded, "no-pillars-refused", Printed, "kinds 6 and 7 without pillars are refused with 7, as before document 02, A.2";
+    CouponsNotNeeded, "no-coupons-searched", Printed, "kinds 6 and 7 without coupons are not refused with 7";
+    EmptyBoth, "7-for-both-alone", Printed, "kinds 6 and 7 are refused with 7 only where there are neither coupons nor pillars";
+    PathUnmoved, "no-pillars-path", Printed, "kind 12 without pillars is served, at a volatility of 0";
     EmptyRefused, "empty-model-refused", Printed, "kind 5 with no coupons is refused with 7";
     EmptyUnchecked, "empty-model-unchecked", Printed, "kind 5 with no coupons is served before rules 2 to 6";
     EmptyNeedsTime, "empty-model-needs-time", Printed, "kind 5 with no coupons needs its option time on the curve";

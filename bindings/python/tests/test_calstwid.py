@@ -117,13 +117,13 @@ class Files(unittest.TestCase):
 
     def test_fixed_run_files(self):
         seen = calls = 0
-        for data, expected in entries():
-            self.assertEqual(calstwid.run_file(data), expected, f"entry {seen}")
+        for entry, data, expected in entries():
+            self.assertEqual(calstwid.run_file(data), expected, entry)
             if expected != b"refused 1\n":
-                self.assertEqual(RunFile(data).printed(), expected.decode(), f"entry {seen}")
+                self.assertEqual(RunFile(data).printed(), expected.decode(), entry)
                 calls += 1
             seen += 1
-        self.assertEqual(seen, 570)
+        self.assertEqual(seen, 699)
         self.assertGreater(calls, 300)
 
     def test_files_that_break_their_layout(self):
@@ -191,6 +191,28 @@ class Desk(Refusals):
         self.assertNotEqual(value, 10713.537784161801)
         self.refused(6, calstwid.payer_swaption_value, *self.pricer, [0.9, 0.0, 0.85, 0.8], 0.031, 1.0, 1e6, 1.0)
         self.refused(1, calstwid.payer_swaption_value, *self.pricer, own[:3], 0.031, 1.0, 1e6, 1.0)
+
+    def test_fixed_rate_scenario(self):
+        """Document 02, A.2: no pillars are no movement in kinds 6 and 7; the numbers of examples/fixed-rate.run and fixed-rate-own-factors.run."""
+        d = self.desk
+        both = calstwid.payer_swaption_value, calstwid.receiver_swaption_value
+
+        def values(own, strike):
+            return [value(d.alpha, [], [], *self.pricer[3:], own, strike, 1.0, 1e6, 1.0).value for value in both]
+
+        self.assertEqual(values(None, 0.025) + values(None, 0.035), [19654.453823508105, 0.0, 0.0, 16378.78749646876])
+        own = [0.945, 0.918, 0.892, 0.867]
+        self.assertEqual(values(own, 0.025) + values(own, 0.035), [19796.2211782985, 0.0, 0.0, 16496.32682373106])
+        for value in both:
+            rest = *self.pricer[3:], None, 0.031, 1.0, 1e6, 1.0
+            self.assertEqual(value(d.alpha, [], [], *rest), value(d.alpha, [0.5, 1.0], [0.0, 0.0], *rest))
+            self.refused(1, value, d.alpha, [], [0.01], *rest)
+            self.refused(1, value, d.alpha, [0.5], [], *rest)
+            self.refused(7, value, d.alpha, [], [], *self.curve[1:], [], [], None, 0.031, 1.0, 1e6, 1.0)
+        self.refused(7, calstwid.generate, d.alpha, [], [], *self.curve[1:], [], [])
+        self.refused(7, calstwid.transition_variances, d.alpha, [], [], 1, 0.25)
+        self.refused(7, calstwid.pillars_reached, [], [], 1.0)
+        self.assertEqual(calstwid.hull_white_piecewise_variance(d.alpha, [], [], 0.0, 1.0), 0.0)
 
     def test_basket(self):
         kinds, strikes, starts, ends = [False, True], [0.03, 0.03], [1.0, 1.0], [1.5, 1.5]
@@ -337,7 +359,8 @@ class TurnedDown(Refusals):
         self.refused(4, caplet, 0.5, [2.0, 1.0], [0.94, 0.97], 0.03, 1.0, 2.0, 0.01)
         self.refused(5, caplet, 0.5, *small, 0.03, 2.0, 1.0, 0.01)
         self.refused(6, payer, 0.5, *pillars, *small, *coupons, [0.0], 0.03, 1.0, 1.0, 2.0)
-        self.refused(7, payer, 0.5, [], [], *small, *coupons, [0.0], 0.03, 1.0, 1.0, 1.0)
+        self.refused(7, payer, 0.5, *pillars, *small, [], [], [], 0.03, 1.0, 1.0, 1.0)
+        self.refused(7, calstwid.volatility, [], [], 1.0)
         self.refused(8, caplet, 0.5, *small, 0.03, 1.0, 1.5, 0.01)
         self.refused(8, caplet, 0.5, [], [], 0.03, 1.0, 1.5, 0.01)
         self.refused(9, calstwid.swaption_price, 0.5, *small, [2.0, 2.0], [1.0, 0.0], -1.0, 1.0, 0.01)

@@ -26,7 +26,8 @@ pub struct Curve<'a> {
     pub factors: &'a [f64],
 }
 
-/// The model's volatility: strictly rising times and the sigma from each on, at most 64. Before the first time the first sigma holds.
+/// The model's volatility: strictly rising times and the sigma from each on, at most 64. Before the first time the first sigma holds. Without any,
+/// [`payer_swaption_value`] and [`receiver_swaption_value`] value a fixed-rate scenario, and calls that look a sigma up are refused.
 #[derive(Clone, Copy, Debug)]
 pub struct Pillars<'a> {
     pub times: &'a [f64],
@@ -362,8 +363,20 @@ pub fn swaption_price(alpha: f64, curve: Curve, coupons: Coupons, strike: f64, t
     Refusal::unless_served(report.answer, Swaption { value: report.value, rate: report.rate, bracket: bracket!(report) })
 }
 
-/// Kind 6: the payer swaption by the pricer, the sigma being that of the pillars at t. `own_dfs` has a discount factor of its own for each coupon; 0
-/// for all means the curve's. `side` is 1 (bought) or -1 (sold). Needs the curve at t, t + 1/365 and the payment times.
+/// Kind 6: the payer swaption by the pricer, the variance up to t being that of the pillars. `own_dfs` has a discount factor of its own for each
+/// coupon; 0 for all means the curve's. `side` is 1 (bought) or -1 (sold). Needs the curve at t, t + 1/365 and the payment times. No pillars, neither
+/// times nor sigmas, are a fixed-rate scenario: the variance is 0, and every bond option is at intrinsic value.
+///
+/// ```
+/// use calstwid::{payer_swaption_value, Coupons, Curve, Pillars};
+///
+/// let curve = Curve { times: &[1.0, 1.0 + 1.0 / 365.0, 2.0], factors: &[0.97, 0.9699, 0.94] };
+/// let coupons = Coupons { payments: &[2.0], accruals: &[1.0] };
+/// let none = Pillars { times: &[], sigmas: &[] };
+/// let payer = payer_swaption_value(0.1, none, curve, coupons, &[0.0], 0.02, 1.0, 100.0, 1.0)?;
+/// assert!((payer.value - 100.0 * (0.97 - 1.02 * 0.94)).abs() < 1e-10); // what the swap is worth
+/// # Ok::<(), calstwid::Refusal>(())
+/// ```
 #[allow(clippy::too_many_arguments)]
 pub fn payer_swaption_value(
     alpha: f64,

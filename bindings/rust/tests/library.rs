@@ -148,9 +148,10 @@ fn examples() {
     assert!(seen >= 15);
 }
 
-#[test]
-fn fixed_run_files() {
-    let list = std::fs::read(root().join("oracle/fixed/list.bin")).unwrap();
+/// The run files of a fixed list, each with what is printed for it now: lines that a request has turned stand in `turned.txt`.
+fn fixed_list(name: &str) -> usize {
+    let list = std::fs::read(root().join(format!("oracle/fixed/{name}.bin"))).unwrap();
+    let turned = std::fs::read_to_string(root().join("oracle/fixed/turned.txt")).unwrap();
     let mut at = 0;
     let mut part = || {
         let size = u32::from_le_bytes(list[at..at + 4].try_into().unwrap());
@@ -162,10 +163,22 @@ fn fixed_run_files() {
     };
     let mut seen = 0;
     while let Some(run) = part() {
-        held(&format!("entry {seen}"), run, part().unwrap());
+        let entry = format!("{name} {seen} ");
+        let mut lines: Vec<&str> = std::str::from_utf8(part().unwrap()).unwrap().lines().collect();
+        for row in turned.lines().filter_map(|row| row.strip_prefix(&entry)) {
+            let (old, now) = row.split_once(' ').unwrap().1.split_once(" -> ").unwrap();
+            let place = lines.iter().position(|line| *line == old).unwrap();
+            lines.splice(place..=place, now.split(" / "));
+        }
+        held(&entry, run, (lines.join("\n") + "\n").as_bytes());
         seen += 1;
     }
-    assert_eq!(seen, 570);
+    seen
+}
+
+#[test]
+fn fixed_run_files() {
+    assert_eq!((fixed_list("base"), fixed_list("A.2")), (570, 129));
 }
 
 #[test]
@@ -334,7 +347,7 @@ fn refusals() {
         caplet(0.5, Curve { times: &[2.0, 1.0], factors: &[0.94, 0.97] }, 1.0, 2.0, 0.01),
         caplet(0.5, small, 2.0, 1.0, 0.01),
         payer(pillars, 2.0),
-        payer(Pillars { times: &[], sigmas: &[] }, 1.0),
+        volatility(Pillars { times: &[], sigmas: &[] }, 1.0),
         caplet(0.5, small, 1.0, 1.5, 0.01),
         swaption_price(0.5, small, twice, -1.0, 1.0, 0.01).map(|it| it.value),
         swaption_price(0.5, small, coupons, -3.0, 1.0, 0.01).map(|it| it.value),
@@ -351,6 +364,34 @@ fn refusals() {
     assert_eq!(caplet(0.5, Curve { times: &[], factors: &[] }, 1.0, 2.0, 0.01), Err(Refusal::OffCurve));
     let error: Box<dyn std::error::Error> = Refusal::MeanReversion.into();
     assert_eq!(error.to_string(), "refused 3: alpha is zero or negative");
+}
+
+/// Document 02, A.2: no pillars are no movement in kinds 6 and 7; the numbers of examples/fixed-rate.run and fixed-rate-own-factors.run.
+#[test]
+fn fixed_rate_scenario() {
+    let desk = RunFile::desk();
+    let (alpha, curve, coupons, none) = (desk.alpha, desk.curve(), desk.coupons(), Pillars { times: &[], sigmas: &[] });
+    let both = |pillars, own: &[f64], strike| {
+        let payer = payer_swaption_value(alpha, pillars, curve, coupons, own, strike, 1.0, 1e6, 1.0).unwrap();
+        (payer, receiver_swaption_value(alpha, pillars, curve, coupons, own, strike, 1.0, 1e6, 1.0).unwrap())
+    };
+    let values = |own: &[f64]| [0.025, 0.035].map(|strike| both(none, own, strike)).map(|(payer, receiver)| (payer.value, receiver.value));
+    assert_eq!(values(&[0.0; 4]), [(19654.453823508105, 0.0), (0.0, 16378.78749646876)]);
+    assert_eq!(values(&[0.945, 0.918, 0.892, 0.867]), [(19796.2211782985, 0.0), (0.0, 16496.32682373106)]);
+    let still = Pillars { times: &[0.5, 1.0], sigmas: &[0.0; 2] };
+    assert_eq!(both(none, &[0.0; 4], 0.031), both(still, &[0.0; 4], 0.031));
+
+    let payer = |pillars, coupons: Coupons| {
+        let own = vec![0.0; coupons.payments.len()];
+        payer_swaption_value(alpha, pillars, curve, coupons, &own, 0.031, 1.0, 1e6, 1.0).map(|it| it.value)
+    };
+    assert_eq!(payer(none, Coupons { payments: &[], accruals: &[] }), Err(Refusal::Empty));
+    assert_eq!(payer(Pillars { times: &[], sigmas: &[0.01] }, coupons), Err(Refusal::Size));
+    assert_eq!(payer(Pillars { times: &[0.5], sigmas: &[] }, coupons), Err(Refusal::Size));
+    assert_eq!(generate(alpha, none, curve, &[], &[], &mut []), Err(Refusal::Empty));
+    assert_eq!(transition_variances(alpha, none, 1, 0.25, &mut [0.0]), Err(Refusal::Empty));
+    assert_eq!(pillars_reached(none, 1.0), Err(Refusal::Empty));
+    assert_eq!(hull_white_piecewise_variance(alpha, none, 0.0, 1.0), Ok(0.0));
 }
 
 #[test]

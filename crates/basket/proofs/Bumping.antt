@@ -27,7 +27,7 @@ use Rattle.basket.proofs.Literals.{bump-is}
 use Rattle.refusals.proofs.Walks.{next, longer}
 
 -- ---- one entry's bumped fit
-module _ (alpha : Float) (xs fs : List Float) (quote : Quote) (caplet : Optionlet) (sigma : Float) (fitted : Fitted) (h : fittedOutcome fitted ≡ capletFitted (quote .sort) alpha xs fs (caplet .strike) (caplet .start) (caplet .end) (quote .volatility ⊕ ofBits binary64 0x3eb0_c6f7_a0b5_ed8d)) where
+module _ (alpha : Float) (xs fs : List Float) (quote : Quote) (caplet : Optionlet) (sigma : Float) (fitted : Fitted) (h : fittedOutcome fitted ≡ capletFitted (quote .«vol_type») alpha xs fs (caplet .strike) (caplet .start) (caplet .end) (quote .volatility ⊕ ofBits binary64 0x3eb0_c6f7_a0b5_ed8d)) where
   pub bump-refused : {r : Refusal} → fitted ≡ F.Refused r → fittedOutcome fitted ≡ bumpOf alpha xs fs (entryOf quote caplet) sigma
   unfolding bumpOf
   bump-refused e = rw (← bump-is, ← h, e)

@@ -16,17 +16,17 @@ use Rattle.math_bisection.specs.Result.{fittedOutcome}
 use Rattle.hullwhite_formulas.specs.declared.instruments.Optionlet.{Optionlet}
 use Rattle.fit_objective.specs.declared.market.Quote.{Quote}
 use Rattle.fit.specs.Fits.{capletFitted}
-use Rattle.basket_entries.specs.Entries.{quoteTypeOf, entriesOf}
+use Rattle.basket_entries.specs.Entries.{volatilityTypeOf, entriesOf}
 use Rattle.basket_entries.proofs.Walks.{from, entryAt, next-entry, no-entries}
 use Rattle.basket.specs.Basket.{statusOf, countOf, Records, withFit, fitsOf}
 use Rattle.refusals.proofs.Walks.{longer}
 
 -- ---- one entry's fit, as the code takes it apart
-module _ (alpha : Float) (xs fs : List Float) {quote asked : Quote} {caplet named : Optionlet} (q : quote ≡ asked) (k : caplet ≡ named) (fitted : Fitted) (h : fittedOutcome fitted ≡ capletFitted (quote .sort) alpha xs fs (caplet .strike) (caplet .start) (caplet .end) (quote .volatility)) where
-  pub fit-served : {fit : Fit} → fitted ≡ F.Served fit → capletFitted (asked .sort) alpha xs fs (named .strike) (named .start) (named .end) (asked .volatility) ≡ served fit
+module _ (alpha : Float) (xs fs : List Float) {quote asked : Quote} {caplet named : Optionlet} (q : quote ≡ asked) (k : caplet ≡ named) (fitted : Fitted) (h : fittedOutcome fitted ≡ capletFitted (quote .«vol_type») alpha xs fs (caplet .strike) (caplet .start) (caplet .end) (quote .volatility)) where
+  pub fit-served : {fit : Fit} → fitted ≡ F.Served fit → capletFitted (asked .«vol_type») alpha xs fs (named .strike) (named .start) (named .end) (asked .volatility) ≡ served fit
   fit-served e = rw (← q, ← k, ← h, e)
 
-  pub fit-refused : {r : Refusal} → fitted ≡ F.Refused r → capletFitted (asked .sort) alpha xs fs (named .strike) (named .start) (named .end) (asked .volatility) ≡ refused r
+  pub fit-refused : {r : Refusal} → fitted ≡ F.Refused r → capletFitted (asked .«vol_type») alpha xs fs (named .strike) (named .start) (named .end) (asked .volatility) ≡ refused r
   fit-refused e = rw (← q, ← k, ← h, e)
 
 -- ---- an outcome with some records before its own
@@ -69,7 +69,7 @@ module _ {alpha : Float} {xs fs : List Float} {ns : List Bool} {ks ts ends vs : 
     here : from ns ks ts ends vs i ≡ entryAt ns ks ts ends vs i ∷ from ns ks ts ends vs (i + 1)
     here = next-entry ns ks ts ends vs i (f .strikes) (f .starts) (f .ended) (f .quoted) h
 
-    pub turn : {fit : Fit} {status : Float} → status ≡ statusOf (fit .converged) → capletFitted (quoteTypeOf (getD ns i false)) alpha xs fs (getD ks i nan) (getD ts i nan) (getD ends i nan) (getD vs i nan) ≡ served fit
+    pub turn : {fit : Fit} {status : Float} → status ≡ statusOf (fit .converged) → capletFitted (volatilityTypeOf (getD ns i false)) alpha xs fs (getD ks i nan) (getD ts i nan) (getD ends i nan) (getD vs i nan) ≡ served fit
         → Fitting alpha xs fs ns ks ts ends vs (i + 1) (set ss i (fit .sigma)) (set cs i status) (set hs i (countOf (fit .halvings))) (set rs i (fit .residual))
     unfolding fitsOf
     turn {fit} {status} p q =
@@ -90,7 +90,7 @@ module _ {alpha : Float} {xs fs : List Float} {ns : List Bool} {ks ts ends vs : 
           fitted = f .fitted ∙ rw (here, q) (behind-fit ss cs hs rs i fit status (fitsOf alpha xs fs (from ns ks ts ends vs (i + 1))) p a b c e);
         }
 
-    pub stop : {r : Refusal} → capletFitted (quoteTypeOf (getD ns i false)) alpha xs fs (getD ks i nan) (getD ts i nan) (getD ends i nan) (getD vs i nan) ≡ refused r → fitsOf alpha xs fs (entriesOf ns ks ts ends vs) ≡ refused r
+    pub stop : {r : Refusal} → capletFitted (volatilityTypeOf (getD ns i false)) alpha xs fs (getD ks i nan) (getD ts i nan) (getD ends i nan) (getD vs i nan) ≡ refused r → fitsOf alpha xs fs (entriesOf ns ks ts ends vs) ≡ refused r
     unfolding fitsOf
     stop q = f .fitted ∙ rw (here, q)
 

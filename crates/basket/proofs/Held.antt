@@ -17,7 +17,7 @@ use Rattle.math_bisection.specs.Result.{finishingFit}
 use Rattle.math_bisection.specs.Solve.{solveOf}
 use Rattle.math_bisection.specs.Demand3.{Assured}
 use Rattle.math_bisection.proofs.Demand3.{demand3}
-use Rattle.fit_objective.specs.declared.market.QuoteType.{QuoteType}
+use Rattle.fit_objective.specs.declared.market.VolatilityType.{VolatilityType}
 use Rattle.fit_objective.specs.Objective.{capletObjective}
 use Rattle.fit_objective.proofs.Finished.{finished-served, finished-wanting}
 use Rattle.fit.specs.Fits.{capletFitted}
@@ -69,7 +69,7 @@ module _ (alpha : Float) (xs fs : List Float) (e : Entry) (vol : Float) where
       never (b .pt) (b .pS) (w .sigma) (w .there)
 
 -- so its halvings are a number that a float holds
-pub halvings-in : (quote : QuoteType) (alpha : Float) (xs fs : List Float) (strike t S vol : Float) (fit : Fit) → capletFitted quote alpha xs fs strike t S vol ≡ served fit → fit .halvings ≤ 200
+pub halvings-in : (quote : VolatilityType) (alpha : Float) (xs fs : List Float) (strike t S vol : Float) (fit : Fit) → capletFitted quote alpha xs fs strike t S vol ≡ served fit → fit .halvings ≤ 200
 halvings-in quote alpha xs fs strike t S vol fit h = halvings-within alpha xs fs (record { quote = quote; strike = strike; start = t; end = S; vol = vol }) vol fit h
 
 pub in-float : (n : ℕ) → n ≤ 200 → T (inFloat binary64 (pos n))

@@ -6,14 +6,14 @@ use lib.ListN.{getD}
 use lib.Ieee.{Float, nan}
 use Rattle.hullwhite_formulas.specs.declared.instruments.Optionlet.{Optionlet}
 use Rattle.fit_objective.specs.declared.market.Quote.{Quote}
-use Rattle.basket_entries.specs.Entries.{Entry, quoteTypeOf}
+use Rattle.basket_entries.specs.Entries.{Entry, volatilityTypeOf}
 
 abbrev pub entryOf : Quote → Optionlet → Entry
-entryOf quote caplet = record { quote = quote .sort; strike = caplet .strike; start = caplet .start; end = caplet .end; vol = quote .volatility }
+entryOf quote caplet = record { quote = quote .«vol_type»; strike = caplet .strike; start = caplet .start; end = caplet .end; vol = quote .volatility }
 
 -- at place i of the lent lists
 abbrev pub lentQuote : List Bool → List Float → ℕ → Quote
-lentQuote ns vs i = record { sort = quoteTypeOf (getD ns i false); volatility = getD vs i nan }
+lentQuote ns vs i = record { «vol_type» = volatilityTypeOf (getD ns i false); volatility = getD vs i nan }
 
 abbrev pub lentCaplet : List Float → List Float → List Float → ℕ → Optionlet
 lentCaplet ks ts ends i = record { strike = getD ks i nan; start = getD ts i nan; end = getD ends i nan }

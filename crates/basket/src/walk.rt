@@ -33,7 +33,7 @@ fn lent_quote(normals: &[bool], vols: &[f64], i: usize) -> Quote
     ensures { λ r. ⌜ r ≡ lentQuote (now (normals .entry)) (now (vols .entry)) i ⌝ }
 {
     Quote {
-        sort: basket_entries::quote_type_of(normals[i]),
+        vol_type: basket_entries::volatility_type_of(normals[i]),
         volatility: vols[i],
     }
 }
@@ -103,9 +103,9 @@ fn bumped(
     requires { ⌜ inOrder true (now times) ≡ true ⌝ }
     ensures { λ r. ⌜ fittedOutcome r ≡ bumpOf alpha (now (times .entry)) (now (factors .entry)) (entryOf quote caplet) sigma ⌝ }
 {
-    let sort = quote.sort;
+    let vol_type = quote.vol_type;
     let moved = Quote {
-        sort,
+        vol_type,
         volatility: quote.volatility + 1e-6,
     };
     let fitted = fit::caplet_fitted(moved, alpha, times, factors, caplet);

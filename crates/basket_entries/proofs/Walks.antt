@@ -10,9 +10,9 @@ use lib.Seq.{drop-cons}
 use lib.Ieee.{Float, nan, le}
 use Rattle.ieee.specs.Numbers as Numbers
 use Rattle.refusals.proofs.Walks.{next, done}
-use Rattle.fit_objective.specs.declared.market.QuoteType.{QuoteType}
+use Rattle.fit_objective.specs.declared.market.VolatilityType.{VolatilityType}
 use Rattle.fit.specs.Fits.{strikeWrong}
-use Rattle.basket_entries.specs.Entries.{Entry, quoteTypeOf, entriesOf, timesWrong, domainWrong}
+use Rattle.basket_entries.specs.Entries.{Entry, volatilityTypeOf, entriesOf, timesWrong, domainWrong}
 
 -- ---- the list of quotes from place i on
 next-quote : (ns : List Bool) (i : ℕ) → i < length ns → drop i ns ≡ getD ns i false ∷ drop (i + 1) ns
@@ -41,7 +41,7 @@ module _ (ts ends : List Float) (i : ℕ) where
 
 -- ---- rule 6
 module _ (ns : List Bool) (ks vs : List Float) (i : ℕ) where
-  module _ {wrong : Bool} {quote : QuoteType} (q : quote ≡ quoteTypeOf (getD ns i false)) (w : wrong ≡ strikeWrong quote (getD ks i nan)) where
+  module _ {wrong : Bool} {quote : VolatilityType} (q : quote ≡ volatilityTypeOf (getD ns i false)) (w : wrong ≡ strikeWrong quote (getD ks i nan)) where
     pub domain-turn : i < length ns → i < length ks → i < length vs → (le (getD vs i nan) Numbers.zero || wrong) ≡ false → domainWrong (drop i ns) (drop i ks) (drop i vs) ≡ domainWrong (drop (i + 1) ns) (drop (i + 1) ks) (drop (i + 1) vs)
     unfolding domainWrong
     domain-turn h k l e = rw (next-quote ns i h, next ks i k, next vs i l, ← q, ← w, e)
@@ -68,7 +68,7 @@ module _ (ns : List Bool) (ks ts ends vs : List Float) where
   from i = entriesOf (drop i ns) (drop i ks) (drop i ts) (drop i ends) (drop i vs)
 
   abbrev pub entryAt : ℕ → Entry
-  entryAt i = record { quote = quoteTypeOf (getD ns i false); strike = getD ks i nan; start = getD ts i nan; end = getD ends i nan; vol = getD vs i nan }
+  entryAt i = record { quote = volatilityTypeOf (getD ns i false); strike = getD ks i nan; start = getD ts i nan; end = getD ends i nan; vol = getD vs i nan }
 
   -- of lists of one length
   pub next-entry : (i : ℕ) → length ks ≡ length ns → length ts ≡ length ns → length ends ≡ length ns → length vs ≡ length ns → i < length ns → from i ≡ entryAt i ∷ from (i + 1)

@@ -12,21 +12,21 @@ use Rattle.refusals.specs.declared.refusals.Refusal.the-variants as R
 use Rattle.refusals.specs.Refusals.{Rule, rule}
 use Rattle.refusals.specs.Checks.{allOf}
 use Rattle.refusals.specs.Faults.{curveFaults}
-use Rattle.fit_objective.specs.declared.market.QuoteType.{QuoteType}
-use Rattle.fit_objective.specs.declared.market.QuoteType.the-variants as Q
+use Rattle.fit_objective.specs.declared.market.VolatilityType.{VolatilityType}
+use Rattle.fit_objective.specs.declared.market.VolatilityType.the-variants as Q
 use Rattle.fit.specs.Fits.{strikeWrong}
 
 pub record Entry : Type 0 where
-  pub quote : QuoteType
+  pub quote : VolatilityType
   pub strike : Float
   pub start : Float
   pub end : Float
   pub vol : Float
 
 -- how the type of a quote is lent: true is a normal one
-abbrev pub quoteTypeOf : Bool → QuoteType
-quoteTypeOf false = Q.Black
-quoteTypeOf true = Q.Normal
+abbrev pub volatilityTypeOf : Bool → VolatilityType
+volatilityTypeOf false = Q.Black
+volatilityTypeOf true = Q.Normal
 
 -- the lent lists as entries, as far as the shortest goes
 unfoldable pub entriesOf : List Bool → List Float → List Float → List Float → List Float → List Entry
@@ -35,7 +35,7 @@ entriesOf (n ∷ ns) [] ts ends vs = []
 entriesOf (n ∷ ns) (k ∷ ks) [] ends vs = []
 entriesOf (n ∷ ns) (k ∷ ks) (t ∷ ts) [] vs = []
 entriesOf (n ∷ ns) (k ∷ ks) (t ∷ ts) (e ∷ ends) [] = []
-entriesOf (n ∷ ns) (k ∷ ks) (t ∷ ts) (e ∷ ends) (v ∷ vs) = record { quote = quoteTypeOf n; strike = k; start = t; end = e; vol = v } ∷ entriesOf ns ks ts ends vs
+entriesOf (n ∷ ns) (k ∷ ks) (t ∷ ts) (e ∷ ends) (v ∷ vs) = record { quote = volatilityTypeOf n; strike = k; start = t; end = e; vol = v } ∷ entriesOf ns ks ts ends vs
 
 -- ---- rules 1 to 7
 
@@ -58,7 +58,7 @@ unfoldable pub domainWrong : List Bool → List Float → List Float → Bool
 domainWrong [] ks vs = false
 domainWrong (n ∷ ns) [] vs = false
 domainWrong (n ∷ ns) (k ∷ ks) [] = false
-domainWrong (n ∷ ns) (k ∷ ks) (v ∷ vs) = (le v zero || strikeWrong (quoteTypeOf n) k) || domainWrong ns ks vs
+domainWrong (n ∷ ns) (k ∷ ks) (v ∷ vs) = (le v zero || strikeWrong (volatilityTypeOf n) k) || domainWrong ns ks vs
 
 -- a line a rule, each over all entries
 abbrev pub basketRules : Faults → Float → Bool → Bool → Bool → Bool → List Rule

@@ -4,6 +4,6 @@ mod rules;
 pub use rules::basket_rules;
 pub use rules::domain_wrong;
 pub use rules::numbers_wrong;
-pub use rules::quote_type_of;
 pub use rules::size_wrong;
 pub use rules::times_wrong;
+pub use rules::volatility_type_of;

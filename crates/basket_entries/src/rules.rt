@@ -1,21 +1,21 @@
 // Rules 1 to 7 over all entries of a basket.
 ghost use mathlib.Core.Path.{_≡_};
 ghost use Rattle.refusals.specs.Refusals.{firstOf};
-ghost use Rattle.basket_entries.specs.Entries.{quoteTypeOf, sizeWrong, numbersWrong, timesWrong, domainWrong, basketRules};
-use fit::QuoteType;
+ghost use Rattle.basket_entries.specs.Entries.{volatilityTypeOf, sizeWrong, numbersWrong, timesWrong, domainWrong, basketRules};
+use fit::VolatilityType;
 use refusals::Answer;
 use refusals::Faults;
 use refusals::Refusal;
 use refusals::Test;
 
 // How the type of a quote is lent: true is a normal one.
-pub fn quote_type_of(normal: bool) -> QuoteType
-    ensures { λ r. ⌜ r ≡ quoteTypeOf normal ⌝ }
+pub fn volatility_type_of(normal: bool) -> VolatilityType
+    ensures { λ r. ⌜ r ≡ volatilityTypeOf normal ⌝ }
 {
     if normal {
-        QuoteType::Normal
+        VolatilityType::Normal
     } else {
-        QuoteType::Black
+        VolatilityType::Black
     }
 }
 
@@ -71,8 +71,8 @@ pub fn domain_wrong(normals: &[bool], strikes: &[f64], vols: &[f64]) -> bool
         if vols.len() <= i {
             return false;
         }
-        let sort = quote_type_of(normals[i]);
-        if (vols[i] <= 0.0) | fit::strike_wrong(sort, strikes[i]) {
+        let vol_type = volatility_type_of(normals[i]);
+        if (vols[i] <= 0.0) | fit::strike_wrong(vol_type, strikes[i]) {
             return true;
         }
         i += 1;

@@ -1,13 +1,13 @@
 // Kinds 8 to 11: the volatility of a caplet or a swaption, fitted to a quote.
 ghost use mathlib.Core.Path.{_≡_};
-ghost use Rattle.fit_objective.specs.declared.market.QuoteType.the-variants as QuoteType;
+ghost use Rattle.fit_objective.specs.declared.market.VolatilityType.the-variants as VolatilityType;
 ghost use Rattle.fit.specs.Fits.{capletFitOutcome, swaptionFitOutcome};
 ghost use Rattle.fit.specs.Demand3.{CapletFitHolds, CapletFitNeverNoBracket, SwaptionFitHolds, SwaptionFitNoBracketExactly};
 ghost use Rattle.calstwid_exports.specs.Reports.{Told, fitReportOf, fitTold};
 use super::reports;
 use super::reports::FitReport;
 use fit::Quote;
-use fit::QuoteType;
+use fit::VolatilityType;
 use hullwhite_formulas::Optionlet;
 
 // Kind 8.
@@ -21,12 +21,12 @@ pub extern "C" fn calstwid_fit_caplet_black(
     end: f64,
     vol: f64,
 ) -> FitReport
-    ensures answer { λ r. ⌜ r ≡ fitReportOf (capletFitOutcome QuoteType.Black alpha (now (times .entry)) (now (factors .entry)) strike start end vol) ⌝ }
-    ensures held { λ r. ⌜ Told fitTold r (CapletFitHolds QuoteType.Black alpha (now (times .entry)) (now (factors .entry)) strike start end vol) ⌝ }
-    ensures bracket { λ r. ⌜ Told fitTold r (CapletFitNeverNoBracket QuoteType.Black alpha (now (times .entry)) (now (factors .entry)) strike start end vol) ⌝ }
+    ensures answer { λ r. ⌜ r ≡ fitReportOf (capletFitOutcome VolatilityType.Black alpha (now (times .entry)) (now (factors .entry)) strike start end vol) ⌝ }
+    ensures held { λ r. ⌜ Told fitTold r (CapletFitHolds VolatilityType.Black alpha (now (times .entry)) (now (factors .entry)) strike start end vol) ⌝ }
+    ensures bracket { λ r. ⌜ Told fitTold r (CapletFitNeverNoBracket VolatilityType.Black alpha (now (times .entry)) (now (factors .entry)) strike start end vol) ⌝ }
 {
     let quote = Quote {
-        sort: QuoteType::Black,
+        vol_type: VolatilityType::Black,
         volatility: vol,
     };
     let caplet = Optionlet { strike, start, end };
@@ -44,12 +44,12 @@ pub extern "C" fn calstwid_fit_caplet_normal(
     end: f64,
     vol: f64,
 ) -> FitReport
-    ensures answer { λ r. ⌜ r ≡ fitReportOf (capletFitOutcome QuoteType.Normal alpha (now (times .entry)) (now (factors .entry)) strike start end vol) ⌝ }
-    ensures held { λ r. ⌜ Told fitTold r (CapletFitHolds QuoteType.Normal alpha (now (times .entry)) (now (factors .entry)) strike start end vol) ⌝ }
-    ensures bracket { λ r. ⌜ Told fitTold r (CapletFitNeverNoBracket QuoteType.Normal alpha (now (times .entry)) (now (factors .entry)) strike start end vol) ⌝ }
+    ensures answer { λ r. ⌜ r ≡ fitReportOf (capletFitOutcome VolatilityType.Normal alpha (now (times .entry)) (now (factors .entry)) strike start end vol) ⌝ }
+    ensures held { λ r. ⌜ Told fitTold r (CapletFitHolds VolatilityType.Normal alpha (now (times .entry)) (now (factors .entry)) strike start end vol) ⌝ }
+    ensures bracket { λ r. ⌜ Told fitTold r (CapletFitNeverNoBracket VolatilityType.Normal alpha (now (times .entry)) (now (factors .entry)) strike start end vol) ⌝ }
 {
     let quote = Quote {
-        sort: QuoteType::Normal,
+        vol_type: VolatilityType::Normal,
         volatility: vol,
     };
     let caplet = Optionlet { strike, start, end };
@@ -68,12 +68,12 @@ pub extern "C" fn calstwid_fit_swaption_black(
     t: f64,
     vol: f64,
 ) -> FitReport
-    ensures answer { λ r. ⌜ r ≡ fitReportOf (swaptionFitOutcome QuoteType.Black alpha (now (times .entry)) (now (factors .entry)) (now (payments .entry)) (now (accruals .entry)) strike t vol) ⌝ }
-    ensures held { λ r. ⌜ Told fitTold r (SwaptionFitHolds QuoteType.Black alpha (now (times .entry)) (now (factors .entry)) (now (payments .entry)) (now (accruals .entry)) strike t vol) ⌝ }
-    ensures bracket { λ r. ⌜ Told fitTold r (SwaptionFitNoBracketExactly QuoteType.Black alpha (now (times .entry)) (now (factors .entry)) (now (payments .entry)) (now (accruals .entry)) strike t vol) ⌝ }
+    ensures answer { λ r. ⌜ r ≡ fitReportOf (swaptionFitOutcome VolatilityType.Black alpha (now (times .entry)) (now (factors .entry)) (now (payments .entry)) (now (accruals .entry)) strike t vol) ⌝ }
+    ensures held { λ r. ⌜ Told fitTold r (SwaptionFitHolds VolatilityType.Black alpha (now (times .entry)) (now (factors .entry)) (now (payments .entry)) (now (accruals .entry)) strike t vol) ⌝ }
+    ensures bracket { λ r. ⌜ Told fitTold r (SwaptionFitNoBracketExactly VolatilityType.Black alpha (now (times .entry)) (now (factors .entry)) (now (payments .entry)) (now (accruals .entry)) strike t vol) ⌝ }
 {
     let quote = Quote {
-        sort: QuoteType::Black,
+        vol_type: VolatilityType::Black,
         volatility: vol,
     };
     reports::fit_report(fit::fit_swaption(
@@ -100,12 +100,12 @@ pub extern "C" fn calstwid_fit_swaption_normal(
     t: f64,
     vol: f64,
 ) -> FitReport
-    ensures answer { λ r. ⌜ r ≡ fitReportOf (swaptionFitOutcome QuoteType.Normal alpha (now (times .entry)) (now (factors .entry)) (now (payments .entry)) (now (accruals .entry)) strike t vol) ⌝ }
-    ensures held { λ r. ⌜ Told fitTold r (SwaptionFitHolds QuoteType.Normal alpha (now (times .entry)) (now (factors .entry)) (now (payments .entry)) (now (accruals .entry)) strike t vol) ⌝ }
-    ensures bracket { λ r. ⌜ Told fitTold r (SwaptionFitNoBracketExactly QuoteType.Normal alpha (now (times .entry)) (now (factors .entry)) (now (payments .entry)) (now (accruals .entry)) strike t vol) ⌝ }
+    ensures answer { λ r. ⌜ r ≡ fitReportOf (swaptionFitOutcome VolatilityType.Normal alpha (now (times .entry)) (now (factors .entry)) (now (payments .entry)) (now (accruals .entry)) strike t vol) ⌝ }
+    ensures held { λ r. ⌜ Told fitTold r (SwaptionFitHolds VolatilityType.Normal alpha (now (times .entry)) (now (factors .entry)) (now (payments .entry)) (now (accruals .entry)) strike t vol) ⌝ }
+    ensures bracket { λ r. ⌜ Told fitTold r (SwaptionFitNoBracketExactly VolatilityType.Normal alpha (now (times .entry)) (now (factors .entry)) (now (payments .entry)) (now (accruals .entry)) strike t vol) ⌝ }
 {
     let quote = Quote {
-        sort: QuoteType::Normal,
+        vol_type: VolatilityType::Normal,
         volatility: vol,
     };
     reports::fit_report(fit::fit_swaption(

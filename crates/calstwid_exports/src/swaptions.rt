@@ -2,7 +2,7 @@
 ghost use mathlib.Core.Path.{_≡_};
 ghost use Rattle.hullwhite_swaptions.specs.Model.{modelOutcome};
 ghost use Rattle.hullwhite_swaptions.specs.Demand3.{ModelRootLocated, ModelNoBracketExactly};
-ghost use Rattle.pricer_formulas.specs.declared.bond_option.SwaptionType.the-variants as Swaption;
+ghost use Rattle.pricer_formulas.specs.declared.bond_option.SwaptionType.the-variants.{Payer, Receiver};
 ghost use Rattle.pricer.specs.Pricer.{pricerOutcome};
 ghost use Rattle.pricer.specs.Demand3.{PricerRootLocated, PricerNoBracketExactly};
 ghost use Rattle.calstwid_exports.specs.Reports.{Told, swaptionReportOf, swaptionTold, valuationReportOf, valuationTold};
@@ -56,7 +56,7 @@ pub extern "C" fn calstwid_payer_swaption_value(
     notional: f64,
     side: f64,
 ) -> ValuationReport
-    ensures answer { λ r. ⌜ r ≡ valuationReportOf (pricerOutcome Swaption.Payer alpha (now (pillars .entry)) (now (sigmas .entry)) (now (times .entry)) (now (factors .entry)) (now (payments .entry)) (now (accruals .entry)) (now («own_dfs» .entry)) strike t notional side) ⌝ }
+    ensures answer { λ r. ⌜ r ≡ valuationReportOf (pricerOutcome Payer alpha (now (pillars .entry)) (now (sigmas .entry)) (now (times .entry)) (now (factors .entry)) (now (payments .entry)) (now (accruals .entry)) (now («own_dfs» .entry)) strike t notional side) ⌝ }
     ensures rooted { λ r. ⌜ Told valuationTold r (PricerRootLocated alpha (now (pillars .entry)) (now (sigmas .entry)) (now (times .entry)) (now (factors .entry)) (now (payments .entry)) (now (accruals .entry)) (now («own_dfs» .entry)) strike t notional side) ⌝ }
     ensures bracket { λ r. ⌜ Told valuationTold r (PricerNoBracketExactly alpha (now (pillars .entry)) (now (sigmas .entry)) (now (times .entry)) (now (factors .entry)) (now (payments .entry)) (now (accruals .entry)) (now («own_dfs» .entry)) strike t notional side) ⌝ }
 {
@@ -96,7 +96,7 @@ pub extern "C" fn calstwid_receiver_swaption_value(
     notional: f64,
     side: f64,
 ) -> ValuationReport
-    ensures answer { λ r. ⌜ r ≡ valuationReportOf (pricerOutcome Swaption.Receiver alpha (now (pillars .entry)) (now (sigmas .entry)) (now (times .entry)) (now (factors .entry)) (now (payments .entry)) (now (accruals .entry)) (now («own_dfs» .entry)) strike t notional side) ⌝ }
+    ensures answer { λ r. ⌜ r ≡ valuationReportOf (pricerOutcome Receiver alpha (now (pillars .entry)) (now (sigmas .entry)) (now (times .entry)) (now (factors .entry)) (now (payments .entry)) (now (accruals .entry)) (now («own_dfs» .entry)) strike t notional side) ⌝ }
     ensures rooted { λ r. ⌜ Told valuationTold r (PricerRootLocated alpha (now (pillars .entry)) (now (sigmas .entry)) (now (times .entry)) (now (factors .entry)) (now (payments .entry)) (now (accruals .entry)) (now («own_dfs» .entry)) strike t notional side) ⌝ }
     ensures bracket { λ r. ⌜ Told valuationTold r (PricerNoBracketExactly alpha (now (pillars .entry)) (now (sigmas .entry)) (now (times .entry)) (now (factors .entry)) (now (payments .entry)) (now (accruals .entry)) (now («own_dfs» .entry)) strike t notional side) ⌝ }
 {

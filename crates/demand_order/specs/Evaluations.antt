@@ -34,7 +34,7 @@ use Rattle.hullwhite_jamshidian.specs.PricedSum.{modelSumOf}
 use Rattle.pricer_formulas.specs.declared.bond_option.SwaptionType.{SwaptionType}
 use Rattle.pricer_formulas.specs.Newton.{flatLimit, sumsOf, stepped}
 use Rattle.pricer_formulas.specs.Components.{componentsOf}
-use Rattle.fit_objective.specs.declared.market.QuoteType.{QuoteType}
+use Rattle.fit_objective.specs.declared.market.VolatilityType.{VolatilityType}
 use Rattle.fit_objective.specs.Market.{swaptionMarketPriceOf}
 use Rattle.fit_objective.specs.Objective.{valueAlone, swaptionObjective}
 use Rattle.basket_entries.specs.Entries.{Entry, entriesOf, basketRulesOn}
@@ -277,7 +277,7 @@ module _ (alpha : Float) (payments accruals : List Float) (strike t pt pPlus : F
   unfolding priceAt
   price-in-order = as-its-search (criticalOutcome (criticalOf pricedSum)) _ ∙ search-in-order pricedSum
 
-  pub objective-in-order : (quote : QuoteType) (vol : Float) → answerOf (swaptionObjective quote alpha payments accruals strike t vol pt pPlus ps sigma) ≡ firstRefused (searchAnswers pricedSum)
+  pub objective-in-order : (quote : VolatilityType) (vol : Float) → answerOf (swaptionObjective quote alpha payments accruals strike t vol pt pPlus ps sigma) ≡ firstRefused (searchAnswers pricedSum)
   unfolding swaptionObjective
   objective-in-order quote vol = go (priceAt alpha payments accruals strike t pt pPlus ps sigma) ∙ price-in-order
     where

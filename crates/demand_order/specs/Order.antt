@@ -23,7 +23,7 @@ use Rattle.hullwhite_transitions.specs.Transition.{transitionRules}
 use Rattle.hullwhite_swaptions.specs.Model.{modelRules}
 use Rattle.pricer_critical_rate.specs.Find.{searchRules}
 use Rattle.pricer.specs.Pricer.{pricerRules}
-use Rattle.fit_objective.specs.declared.market.QuoteType.{QuoteType}
+use Rattle.fit_objective.specs.declared.market.VolatilityType.{VolatilityType}
 use Rattle.fit.specs.Fits.{capletRules, swaptionRules}
 use Rattle.basket_entries.specs.Entries.{basketRules}
 
@@ -118,10 +118,10 @@ pub pricer-rules : (curve schedule coupons own : Faults) (later empty : Bool) (a
     → InOrder (pricerRules curve schedule coupons own later empty alpha strike t notional side)
 pricer-rules curve schedule coupons own later empty alpha strike t notional side = tt
 
-pub caplet-rules : (curve : Faults) (quote : QuoteType) (alpha strike t S vol : Float) → InOrder (capletRules curve quote alpha strike t S vol)
+pub caplet-rules : (curve : Faults) (quote : VolatilityType) (alpha strike t S vol : Float) → InOrder (capletRules curve quote alpha strike t S vol)
 caplet-rules curve quote alpha strike t S vol = tt
 
-pub swaption-rules : (curve coupons : Faults) (later empty : Bool) (quote : QuoteType) (alpha strike t vol : Float) → InOrder (swaptionRules curve coupons later empty quote alpha strike t vol)
+pub swaption-rules : (curve coupons : Faults) (later empty : Bool) (quote : VolatilityType) (alpha strike t vol : Float) → InOrder (swaptionRules curve coupons later empty quote alpha strike t vol)
 swaption-rules curve coupons later empty quote alpha strike t vol = tt
 
 pub basket-rules : (curve : Faults) (alpha : Float) (size numbers times domain : Bool) → InOrder (basketRules curve alpha size numbers times domain)

@@ -36,7 +36,7 @@ use Rattle.pricer.specs.Pricer as Pricer
 use Rattle.math_bisection.specs.declared.result.Fit.{Fit}
 use Rattle.math_bisection.specs.Result.{finishingFit}
 use Rattle.math_bisection.specs.Solve.{solveOf}
-use Rattle.fit_objective.specs.declared.market.QuoteType.{QuoteType}
+use Rattle.fit_objective.specs.declared.market.VolatilityType.{VolatilityType}
 use Rattle.fit_objective.specs.Objective.{capletObjective, swaptionObjective}
 use Rattle.fit.specs.Fits.{capletRules, swaptionRulesOn, capletFitted, capletFitOutcome, swaptionFitted, swaptionFitOutcome}
 use Rattle.basket_entries.specs.Entries.{Entry}
@@ -174,7 +174,7 @@ implicit-rate-met cs affs bs =
 fit-only : (fit : Fit) → Only finished (finishingFit fit)
 fit-only fit = let e = fit .ends in finishing-only (finite (fit .sigma) && finite (fit .residual) && finite (e .low) && finite (e .high) && finite (e .«low_residual») && finite (e .«high_residual»)) fit
 
-module _ (quote : QuoteType) (alpha : Float) (ts fs : List Float) (strike t S vol : Float) where
+module _ (quote : VolatilityType) (alpha : Float) (ts fs : List Float) (strike t S vol : Float) where
   abbrev pub capletSolved : List Float → Outcome Fit
   capletSolved ps = solveOf (capletObjective quote alpha strike t S vol (nth 0 ps) (nth 1 ps))
 
@@ -193,7 +193,7 @@ module _ (quote : QuoteType) (alpha : Float) (ts fs : List Float) (strike t S vo
       (ap (λ (o : Outcome Fit). unless (capletRules (curveFaults ts fs) quote alpha strike t S vol) o) caplet-looked)
 
 -- ---- kinds 10 and 11
-module _ (quote : QuoteType) (alpha : Float) (ts fs payments accruals : List Float) (strike t vol : Float) where
+module _ (quote : VolatilityType) (alpha : Float) (ts fs payments accruals : List Float) (strike t vol : Float) where
   abbrev pub swaptionSolved : List Float → Outcome Fit
   swaptionSolved ps = solveOf (swaptionObjective quote alpha payments accruals strike t vol (nth 0 ps) (nth 1 ps) (drop 2 ps))
 

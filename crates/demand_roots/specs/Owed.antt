@@ -18,8 +18,8 @@ use Rattle.pricer.specs.Pricer as Pricers
 use Rattle.pricer.specs.Demand3 as PricerSum
 use Rattle.pricer_formulas.specs.declared.bond_option.SwaptionType.{SwaptionType}
 use Rattle.pricer_formulas.specs.declared.bond_option.SwaptionType.the-variants.{Payer, Receiver}
-use Rattle.fit_objective.specs.declared.market.QuoteType.{QuoteType}
-use Rattle.fit_objective.specs.declared.market.QuoteType.the-variants.{Black, Normal}
+use Rattle.fit_objective.specs.declared.market.VolatilityType.{VolatilityType}
+use Rattle.fit_objective.specs.declared.market.VolatilityType.the-variants.{Black, Normal}
 use Rattle.math_bisection.specs.declared.result.Fit.{Fit}
 use Rattle.fit.specs.Fits.{capletFitOutcome, swaptionFitOutcome}
 use Rattle.fit.specs.Demand3 as Fits
@@ -73,7 +73,7 @@ module _ (q : Request) (j : Job) where
       }
 
   -- kinds 8 and 9: a fit without a search
-  abbrev pub capletOwed : QuoteType → Owed
+  abbrev pub capletOwed : VolatilityType → Owed
   capletOwed quote = record {
     Given = Fit;
     outcome = capletFitOutcome quote (q .alpha) (q .curveTimes) (q .curveFactors) (j .a) (j .b) (j .c) (j .d);
@@ -84,7 +84,7 @@ module _ (q : Request) (j : Job) where
   }
 
   -- kinds 10 and 11: a fit with a search at every sigma that it tries; 10 where one of those wants a bracket
-  abbrev pub swaptionOwed : QuoteType → Owed
+  abbrev pub swaptionOwed : VolatilityType → Owed
   swaptionOwed quote = record {
     Given = Fit;
     outcome = swaptionFitOutcome quote (q .alpha) (q .curveTimes) (q .curveFactors) (q .payments) (q .accruals) (j .a) (j .b) (j .c);

@@ -16,8 +16,8 @@ use Rattle.hullwhite_swaptions.proofs.Demand3 as Swaptions
 use Rattle.pricer.proofs.Demand3 as Pricers
 use Rattle.pricer_formulas.specs.declared.bond_option.SwaptionType.{SwaptionType}
 use Rattle.pricer_formulas.specs.declared.bond_option.SwaptionType.the-variants.{Payer, Receiver}
-use Rattle.fit_objective.specs.declared.market.QuoteType.{QuoteType}
-use Rattle.fit_objective.specs.declared.market.QuoteType.the-variants.{Black, Normal}
+use Rattle.fit_objective.specs.declared.market.VolatilityType.{VolatilityType}
+use Rattle.fit_objective.specs.declared.market.VolatilityType.the-variants.{Black, Normal}
 use Rattle.math_bisection.specs.declared.result.Fit.{Fit}
 use Rattle.fit.proofs.Demand3.{caplet-held, caplet-never-so, swaption-held, swaption-refused-so}
 use Rattle.file_layout.specs.declared.records.Job.{Job}
@@ -104,13 +104,13 @@ module _ (q : Request) (j : Job) where
     so = Pricers.refused-so option (q .alpha) (q .pillarTimes) (q .pillarSigmas) (q .curveTimes) (q .curveFactors) (q .payments) (q .accruals) (q .owns) (j .a) (j .b) (j .c) (j .d) refl;
   }
 
-  caplet-kept : (quote : QuoteType) → Kept (capletOwed q j quote)
+  caplet-kept : (quote : VolatilityType) → Kept (capletOwed q j quote)
   caplet-kept quote = record {
     facts = λ v e. caplet-held quote (q .alpha) (q .curveTimes) (q .curveFactors) (j .a) (j .b) (j .c) (j .d) refl v e;
     so = (caplet-never-so quote (q .alpha) (q .curveTimes) (q .curveFactors) (j .a) (j .b) (j .c) (j .d) refl, λ w. absurd w);
   }
 
-  swaption-kept : (quote : QuoteType) → Kept (swaptionOwed q j quote)
+  swaption-kept : (quote : VolatilityType) → Kept (swaptionOwed q j quote)
   swaption-kept quote = record {
     facts = λ v e. swaption-held quote (q .alpha) (q .curveTimes) (q .curveFactors) (q .payments) (q .accruals) (j .a) (j .b) (j .c) refl v e;
     so = swaption-refused-so quote (q .alpha) (q .curveTimes) (q .curveFactors) (q .payments) (q .accruals) (j .a) (j .b) (j .c) refl;
@@ -146,10 +146,10 @@ module _ (q : Request) (j : Job) where
       either (eqb (j .kind) 5) (record { is = priced (modelOwed q j .value) (modelOwed q j .outcome); kept = model-kept q j })
       (either (eqb (j .kind) 6) (pricer Payer) (pricer Receiver))
 
-  caplet : (quote : QuoteType) → Tells (capletOwed q j quote) (resultOfFit (capletOwed q j quote .outcome))
+  caplet : (quote : VolatilityType) → Tells (capletOwed q j quote) (resultOfFit (capletOwed q j quote .outcome))
   caplet quote = record { is = fitted (capletOwed q j quote .outcome); kept = caplet-kept q j quote }
 
-  swaption : (quote : QuoteType) → Tells (swaptionOwed q j quote) (resultOfFit (swaptionOwed q j quote .outcome))
+  swaption : (quote : VolatilityType) → Tells (swaptionOwed q j quote) (resultOfFit (swaptionOwed q j quote .outcome))
   swaption quote = record { is = fitted (swaptionOwed q j quote .outcome); kept = swaption-kept q j quote }
 
   fits : Tells (fitsOwed q j) (fitResult q j)

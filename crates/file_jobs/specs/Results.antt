@@ -14,7 +14,7 @@ use Rattle.pricer_formulas.specs.declared.bond_option.SwaptionType.the-variants
 use Rattle.pricer_value.specs.Value as Pricer
 use Rattle.pricer.specs.Pricer.{pricerOutcome}
 use Rattle.math_bisection.specs.declared.result.Fit.{Fit}
-use Rattle.fit_objective.specs.declared.market.QuoteType.the-variants.{Black, Normal}
+use Rattle.fit_objective.specs.declared.market.VolatilityType.the-variants.{Black, Normal}
 use Rattle.fit.specs.Fits.{capletFitOutcome, swaptionFitOutcome}
 use Rattle.file_layout.specs.declared.records.Job.{Job}
 use Rattle.file_layout.specs.Request.{Request}

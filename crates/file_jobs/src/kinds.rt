@@ -9,7 +9,7 @@ use super::results::JobResult;
 use super::results::Worked;
 use file_layout::Job;
 use fit::Quote;
-use fit::QuoteType;
+use fit::VolatilityType;
 use hullwhite_formulas::Optionlet;
 use hullwhite_options::BondOption;
 use hullwhite_options::OptionType;
@@ -170,21 +170,21 @@ fn fit_work(
     };
     if j.kind == 8 {
         let quote = Quote {
-            sort: QuoteType::Black,
+            vol_type: VolatilityType::Black,
             volatility: j.d,
         };
         return Worked::Fit(fit::fit_caplet_on(curve, quote, alpha, times, factors, caplet));
     }
     if j.kind == 9 {
         let quote = Quote {
-            sort: QuoteType::Normal,
+            vol_type: VolatilityType::Normal,
             volatility: j.d,
         };
         return Worked::Fit(fit::fit_caplet_on(curve, quote, alpha, times, factors, caplet));
     }
     if j.kind == 10 {
         let quote = Quote {
-            sort: QuoteType::Black,
+            vol_type: VolatilityType::Black,
             volatility: j.c,
         };
         return Worked::Fit(fit::fit_swaption_on(
@@ -200,7 +200,7 @@ fn fit_work(
         ));
     }
     let quote = Quote {
-        sort: QuoteType::Normal,
+        vol_type: VolatilityType::Normal,
         volatility: j.c,
     };
     Worked::Fit(fit::fit_swaption_on(

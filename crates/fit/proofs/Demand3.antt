@@ -15,7 +15,7 @@ use Rattle.math_bisection.specs.declared.result.Fit.{Fit}
 use Rattle.math_bisection.specs.Result.{finishingFit}
 use Rattle.math_bisection.specs.Solve.{solveOf}
 use Rattle.math_bisection.proofs.Demand3.{demand3}
-use Rattle.fit_objective.specs.declared.market.QuoteType.{QuoteType}
+use Rattle.fit_objective.specs.declared.market.VolatilityType.{VolatilityType}
 use Rattle.fit_objective.specs.Objective.{capletObjective, swaptionObjective}
 use Rattle.fit_objective.proofs.Searches.{value-there, root-there, want-there, unbracketed-there, bracket-wanted}
 use Rattle.fit_objective.proofs.Finished.{finished-served, finished-wanting}
@@ -23,7 +23,7 @@ use Rattle.fit.specs.Fits.{capletRules, swaptionRulesOn, capletFitted, c
 use Rattle.fit.specs.Demand3.{CapletFitAssured, FitBegun, RootAt, SwaptionFitAssured, FitWantsBracket}
 
 -- ---- caplets
-module _ (quote : QuoteType) (alpha : Float) (ts fs : List Float) (strike t S vol : Float) where
+module _ (quote : VolatilityType) (alpha : Float) (ts fs : List Float) (strike t S vol : Float) where
   abbrev fitOn : Float → Float → Outcome Fit
   fitOn pt pS = following (solveOf (capletObjective quote alpha strike t S vol pt pS)) finishingFit
 
@@ -70,7 +70,7 @@ module _ (quote : QuoteType) (alpha : Float) (ts fs : List Float) (strike t S vo
         never (b .pt) (b .pS) (w .sigma) (w .there)
 
 -- ---- swaptions
-module _ (quote : QuoteType) (alpha : Float) (ts fs payments accruals : List Float) (strike t vol : Float) where
+module _ (quote : VolatilityType) (alpha : Float) (ts fs payments accruals : List Float) (strike t vol : Float) where
   abbrev objectiveFrom : Float → Float → List Float → Float → Outcome Float
   objectiveFrom pt pPlus ps = swaptionObjective quote alpha payments accruals strike t vol pt pPlus ps
 

@@ -18,15 +18,15 @@ use Rattle.refusals.specs.Checks.{inOrder}
 use Rattle.refusals.specs.Faults.{curveFaults, couponFaults}
 use Rattle.refusals.proofs.Outcomes.{neither}
 use Rattle.refusals.proofs.CurveLaws.{curve-rises}
-use Rattle.fit_objective.specs.declared.market.QuoteType.{QuoteType}
+use Rattle.fit_objective.specs.declared.market.VolatilityType.{VolatilityType}
 use Rattle.fit.specs.Fits.{capletRules, swaptionRules, swaptionRulesOn, capletFitted, capletFitOutcome, swaptionFitted, swaptionFitOutcome}
 
 -- ---- a caplet
-pub caplet-rules-on : {curve curve' : Faults} (quote : QuoteType) (alpha strike t S vol : Float) {answer : Answer} → curve ≡ curve'
+pub caplet-rules-on : {curve curve' : Faults} (quote : VolatilityType) (alpha strike t S vol : Float) {answer : Answer} → curve ≡ curve'
     → answer ≡ firstOf (capletRules curve quote alpha strike t S vol) → answer ≡ firstOf (capletRules curve' quote alpha strike t S vol)
 caplet-rules-on quote alpha strike t S vol p h = rw (← p) h
 
-module _ (quote : QuoteType) (alpha : Float) (ts fs : List Float) (strike t S vol : Float) {answer : Answer} (h : answer ≡ firstOf (capletRules (curveFaults ts fs) quote alpha strike t S vol)) where
+module _ (quote : VolatilityType) (alpha : Float) (ts fs : List Float) (strike t S vol : Float) {answer : Answer} (h : answer ≡ firstOf (capletRules (curveFaults ts fs) quote alpha strike t S vol)) where
   pub caplet-turned-down : {q : Refusal} → answer ≡ A.Refused q → refused q ≡ capletFitOutcome quote alpha ts fs strike t S vol
   unfolding capletFitOutcome
   caplet-turned-down e = rw (← h, e)
@@ -40,11 +40,11 @@ module _ (quote : QuoteType) (alpha : Float) (ts fs : List Float) (strike t S vo
   caplet-rises e = let none = none-applies (capletRules (curveFaults ts fs) quote alpha strike t S vol) .0 (sym h ∙ e) in curve-rises ts fs (none .1 .1 .1 .0)
 
 -- ---- a swaption
-pub swaption-rules-on : {curve curve' coupons coupons' : Faults} {later later' empty empty' : Bool} (quote : QuoteType) (alpha strike t vol : Float) {answer : Answer} → curve ≡ curve' → coupons ≡ coupons' → later ≡ later' → empty ≡ empty'
+pub swaption-rules-on : {curve curve' coupons coupons' : Faults} {later later' empty empty' : Bool} (quote : VolatilityType) (alpha strike t vol : Float) {answer : Answer} → curve ≡ curve' → coupons ≡ coupons' → later ≡ later' → empty ≡ empty'
     → answer ≡ firstOf (swaptionRules curve coupons later empty quote alpha strike t vol) → answer ≡ firstOf (swaptionRules curve' coupons' later' empty' quote alpha strike t vol)
 swaption-rules-on quote alpha strike t vol p q r s h = rw (← p, ← q, ← r, ← s) h
 
-module _ (quote : QuoteType) (alpha : Float) (ts fs payments accruals : List Float) (strike t vol : Float) {answer : Answer} (h : answer ≡ firstOf (swaptionRulesOn quote alpha ts fs payments accruals strike t vol)) where
+module _ (quote : VolatilityType) (alpha : Float) (ts fs payments accruals : List Float) (strike t vol : Float) {answer : Answer} (h : answer ≡ firstOf (swaptionRulesOn quote alpha ts fs payments accruals strike t vol)) where
   pub swaption-turned-down : {q : Refusal} → answer ≡ A.Refused q → refused q ≡ swaptionFitOutcome quote alpha ts fs payments accruals strike t vol
   unfolding swaptionFitOutcome
   swaption-turned-down e = rw (← h, e)

@@ -2,10 +2,11 @@
 use mathlib.Core.Path.{_≡_, refl, ap, _∙_}
 use mathlib.Core.List.{List}
 use lib.Ieee.{Float}
+use Rattle.ieee.specs.Rounded.{_⊖_}
 use Rattle.refusals.specs.declared.refusals.Refusal.{Refusal}
 use Rattle.refusals.specs.Refusals.{Outcome, refused, following}
 use Rattle.hullwhite_formulas.specs.declared.instruments.Optionlet.{Optionlet}
-use Rattle.hullwhite_formulas.specs.HullWhite.{bOf, stateDeviationOf, optionletStrikeOf}
+use Rattle.hullwhite_formulas.specs.HullWhite.{bOf, stateDeviationOf, growthOf, optionletStrikeOf}
 use Rattle.hullwhite_terms.specs.declared.swaption.WorkedTerms.{WorkedTerms}
 use Rattle.hullwhite_terms.specs.declared.swaption.WorkedTerms.the-variants as T
 use Rattle.hullwhite_terms.specs.Terms.{curvePartsOf}
@@ -16,7 +17,7 @@ use Rattle.hullwhite_jamshidian.specs.Ahead.{aheadOf}
 use Rattle.math_bisection.specs.declared.result.Fit.{Fit}
 use Rattle.math_bisection.specs.Result.{finishingFit}
 use Rattle.math_bisection.specs.Solve.{solveOf}
-use Rattle.fit_objective.specs.declared.market.QuoteType.{QuoteType}
+use Rattle.fit_objective.specs.declared.market.VolatilityType.{VolatilityType}
 use Rattle.fit_objective.specs.declared.market.Quote.{Quote}
 use Rattle.fit_objective.specs.declared.objective.Instrument.the-variants as I
 use Rattle.fit_objective.specs.Market.{capletMarketPriceOf, swaptionMarketPriceOf}
@@ -32,10 +33,10 @@ finished {f} {g} same p h =
     h ∙ ap (λ (x : Outcome Fit). following x finishingFit) (p ∙ ap solveOf e)
 
 module _ (quote : Quote) (alpha : Float) (caplet : Optionlet) (pt pS : Float) where
-  pub caplet-fit : {b deviation x market : Float} (cs bs ds ps : List Float) {o q : Outcome Fit} → b ≡ bOf alpha (caplet .start) (caplet .end) → deviation ≡ stateDeviationOf alpha (caplet .start) → x ≡ optionletStrikeOf (caplet .strike) (caplet .start) (caplet .end) → market ≡ capletMarketPriceOf (quote .sort) (caplet .strike) (caplet .start) (caplet .end) (quote .volatility) pt pS
-      → o ≡ solveOf (objectiveOf (I.Caplet (record { b = b; deviation = deviation; «bond_strike» = x; caplet = caplet; «p_t» = pt; «p_end» = pS })) market cs bs ds ps) → q ≡ following o finishingFit
-      → q ≡ following (solveOf (capletObjective (quote .sort) alpha (caplet .strike) (caplet .start) (caplet .end) (quote .volatility) pt pS)) finishingFit
-  caplet-fit cs bs ds ps p q r m = finished (caplet-same quote alpha caplet pt pS cs bs ds ps p q r m)
+  pub caplet-fit : {b deviation growth x market : Float} (cs bs ds ps : List Float) {o q : Outcome Fit} → b ≡ bOf alpha (caplet .start) (caplet .end) → deviation ≡ stateDeviationOf alpha (caplet .start) → growth ≡ growthOf (caplet .end ⊖ caplet .start) (caplet .strike) → x ≡ optionletStrikeOf (caplet .strike) (caplet .start) (caplet .end) → market ≡ capletMarketPriceOf (quote .«vol_type») (caplet .strike) (caplet .start) (caplet .end) (quote .volatility) pt pS
+      → o ≡ solveOf (objectiveOf (I.Caplet (record { b = b; deviation = deviation; growth = growth; «bond_strike» = x; «p_t» = pt; «p_end» = pS })) market cs bs ds ps) → q ≡ following o finishingFit
+      → q ≡ following (solveOf (capletObjective (quote .«vol_type») alpha (caplet .strike) (caplet .start) (caplet .end) (quote .volatility) pt pS)) finishingFit
+  caplet-fit cs bs ds ps p q g r m = finished (caplet-same quote alpha caplet pt pS cs bs ds ps p q g r m)
 
 pub swaption-fit : (alpha t pt forward market : Float) (cs bs ps : List Float) {ds : List Float} {ahead : SwaptionAhead} {o q : Outcome Fit} → ds ≡ curvePartsOf forward pt bs ps → ahead ≡ aheadOf alpha t pt
     → o ≡ solveOf (objectiveOf (I.Swaption ahead) market cs bs ds ps) → q ≡ following o finishingFit
@@ -43,7 +44,7 @@ pub swaption-fit : (alpha t pt forward market : Float) (cs bs ps : List Float) {
 swaption-fit alpha t pt forward market cs bs ps d h = finished (swaption-same alpha t pt forward market cs bs ps d h)
 
 -- the call, by what its terms came to, `r` with the lists beside it
-module _ (quote : QuoteType) (alpha : Float) (ts fs payments accruals : List Float) (strike t vol : Float) (r : WorkedTerms) (cs bs ps : List Float) (is : termsOutcome r cs bs ps ≡ termsOf alpha ts fs payments accruals strike t) where
+module _ (quote : VolatilityType) (alpha : Float) (ts fs payments accruals : List Float) (strike t vol : Float) (r : WorkedTerms) (cs bs ps : List Float) (is : termsOutcome r cs bs ps ≡ termsOf alpha ts fs payments accruals strike t) where
   abbrev on : SwaptionTerms → Outcome Fit
   on w = following (solveOf (objectiveOn alpha t w (swaptionMarketPriceOf quote strike t vol accruals (w .pt) (w .factors)))) finishingFit
 

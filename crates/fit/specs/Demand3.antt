@@ -18,12 +18,12 @@ use Rattle.math_bisection.specs.declared.result.Fitted.{Fitted}
 use Rattle.math_bisection.specs.Result.{fittedOutcome}
 use Rattle.math_bisection.specs.Tried.{triedOf}
 use Rattle.math_bisection.specs.Demand3.{Assured}
-use Rattle.fit_objective.specs.declared.market.QuoteType.{QuoteType}
+use Rattle.fit_objective.specs.declared.market.VolatilityType.{VolatilityType}
 use Rattle.fit_objective.specs.Objective.{capletObjective, swaptionObjective}
 use Rattle.fit.specs.Fits.{capletRules, swaptionRulesOn}
 
 -- ---- caplets
-module _ (quote : QuoteType) (alpha : Float) (ts fs : List Float) (strike t S vol : Float) where
+module _ (quote : VolatilityType) (alpha : Float) (ts fs : List Float) (strike t S vol : Float) where
   pub record CapletFitAssured (fit : Fit) : Type 0 where
     pub passed : firstOf (capletRules (curveFaults ts fs) quote alpha strike t S vol) ≡ A.Served
     pub pt : Float
@@ -40,7 +40,7 @@ module _ (quote : QuoteType) (alpha : Float) (ts fs : List Float) (strike t S vo
   CapletFitNeverNoBracket r = fittedOutcome r ≡ refused R.NoBracket → ⊥
 
 -- ---- swaptions
-module _ (quote : QuoteType) (alpha : Float) (ts fs payments accruals : List Float) (strike t vol : Float) where
+module _ (quote : VolatilityType) (alpha : Float) (ts fs payments accruals : List Float) (strike t vol : Float) where
   -- a fit that is begun, and with it its searches, on "terms that rules 1 to 8 let through"
   abbrev pub FitBegun : Type 0
   FitBegun = Begun (swaptionRulesOn quote alpha ts fs payments accruals strike t vol) ts fs payments t

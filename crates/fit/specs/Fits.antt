@@ -17,18 +17,18 @@ use Rattle.hullwhite_terms.specs.Swaption.{withFactors}
 use Rattle.math_bisection.specs.declared.result.Fit.{Fit}
 use Rattle.math_bisection.specs.Result.{finishingFit}
 use Rattle.math_bisection.specs.Solve.{solveOf}
-use Rattle.fit_objective.specs.declared.market.QuoteType.{QuoteType}
-use Rattle.fit_objective.specs.declared.market.QuoteType.the-variants as Q
+use Rattle.fit_objective.specs.declared.market.VolatilityType.{VolatilityType}
+use Rattle.fit_objective.specs.declared.market.VolatilityType.the-variants as Q
 use Rattle.fit_objective.specs.Objective.{capletObjective, swaptionObjective}
 
 -- "a Black strike is not above 0"; a normal one may have any sign
-abbrev pub strikeWrong : QuoteType → Float → Bool
+abbrev pub strikeWrong : VolatilityType → Float → Bool
 strikeWrong Q.Black strike = le strike zero
 strikeWrong Q.Normal strike = false
 
 -- ---- rules 1 to 7, a line a rule. "a fit's option time is 0" is refused as one below it
 
-abbrev pub capletRules : Faults → QuoteType → Float → Float → Float → Float → Float → List Rule
+abbrev pub capletRules : Faults → VolatilityType → Float → Float → Float → Float → Float → List Rule
 capletRules curve quote alpha strike t S vol =
     rule R.Size (curve .size)
     ∷ rule R.NotFinite (curve .«not_finite» || not (finite alpha && finite strike && finite t && finite S && finite vol))
@@ -39,7 +39,7 @@ capletRules curve quote alpha strike t S vol =
     ∷ []
 
 -- `later`: every payment time is above the option time; `empty`: there are no coupons
-abbrev pub swaptionRules : Faults → Faults → Bool → Bool → QuoteType → Float → Float → Float → Float → List Rule
+abbrev pub swaptionRules : Faults → Faults → Bool → Bool → VolatilityType → Float → Float → Float → Float → List Rule
 swaptionRules curve coupons later empty quote alpha strike t vol =
     rule R.Size (curve .size || coupons .size)
     ∷ rule R.NotFinite (curve .«not_finite» || coupons .«not_finite» || not (finite alpha && finite strike && finite t && finite vol))
@@ -50,28 +50,28 @@ swaptionRules curve coupons later empty quote alpha strike t vol =
     ∷ rule R.Empty empty
     ∷ []
 
-abbrev pub swaptionRulesOn : QuoteType → Float → List Float → List Float → List Float → List Float → Float → Float → Float → List Rule
+abbrev pub swaptionRulesOn : VolatilityType → Float → List Float → List Float → List Float → List Float → Float → Float → Float → List Rule
 swaptionRulesOn quote alpha ts fs payments accruals strike t vol =
     swaptionRules (curveFaults ts fs) (couponFaults payments accruals) (allOf (Above t) payments) (eqb (length payments) 0) quote alpha strike t vol
 
 -- ---- the fits: "8 to 12 in the order of its evaluations", then 13
 
 -- a caplet that the rules let through: the factors at its start and its end, and the bisection
-unfoldable pub capletFitted : QuoteType → Float → List Float → List Float → Float → Float → Float → Float → Outcome Fit
+unfoldable pub capletFitted : VolatilityType → Float → List Float → List Float → Float → Float → Float → Float → Outcome Fit
 capletFitted quote alpha ts fs strike t S vol =
     needing (factorAt ts fs t) (λ pt.
     needing (factorAt ts fs S) (λ pS.
     following (solveOf (capletObjective quote alpha strike t S vol pt pS)) finishingFit))
 
-unfoldable pub capletFitOutcome : QuoteType → Float → List Float → List Float → Float → Float → Float → Float → Outcome Fit
+unfoldable pub capletFitOutcome : VolatilityType → Float → List Float → List Float → Float → Float → Float → Float → Outcome Fit
 capletFitOutcome quote alpha ts fs strike t S vol = unless (capletRules (curveFaults ts fs) quote alpha strike t S vol) (capletFitted quote alpha ts fs strike t S vol)
 
 -- a swaption that the rules let through: the factors at t, t + h and the payment times, and the bisection
-unfoldable pub swaptionFitted : QuoteType → Float → List Float → List Float → List Float → List Float → Float → Float → Float → Outcome Fit
+unfoldable pub swaptionFitted : VolatilityType → Float → List Float → List Float → List Float → List Float → Float → Float → Float → Outcome Fit
 swaptionFitted quote alpha ts fs payments accruals strike t vol =
     withFactors ts fs payments t (λ pt pPlus ps.
     following (solveOf (swaptionObjective quote alpha payments accruals strike t vol pt pPlus ps)) finishingFit)
 
-unfoldable pub swaptionFitOutcome : QuoteType → Float → List Float → List Float → List Float → List Float → Float → Float → Float → Outcome Fit
+unfoldable pub swaptionFitOutcome : VolatilityType → Float → List Float → List Float → List Float → List Float → Float → Float → Float → Outcome Fit
 swaptionFitOutcome quote alpha ts fs payments accruals strike t vol =
     unless (swaptionRulesOn quote alpha ts fs payments accruals strike t vol) (swaptionFitted quote alpha ts fs payments accruals strike t vol)

@@ -16,7 +16,7 @@ use curve::Found;
 use fit_objective::CapletAhead;
 use fit_objective::Instrument;
 use fit_objective::Quote;
-use fit_objective::QuoteType;
+use fit_objective::VolatilityType;
 use hullwhite_formulas::Optionlet;
 use hullwhite_terms::WorkedTerms;
 use math_bisection::Fitted;
@@ -33,10 +33,10 @@ pub fn fit_caplet(
     factors: &[f64],
     caplet: Optionlet,
 ) -> Fitted
-    ensures answer { λ r. ⌜ fittedOutcome r ≡ capletFitOutcome (quote .sort) alpha (now (times .entry)) (now (factors .entry)) (caplet .strike) (caplet .start) (caplet .end) (quote .volatility) ⌝ }
-    ensures held { λ r. ⌜ CapletFitHolds (quote .sort) alpha (now (times .entry)) (now (factors .entry)) (caplet .strike) (caplet .start) (caplet .end) (quote .volatility) r ⌝ }
-    ensures bracket { λ r. ⌜ CapletFitNeverNoBracket (quote .sort) alpha (now (times .entry)) (now (factors .entry)) (caplet .strike) (caplet .start) (caplet .end) (quote .volatility) r ⌝ }
-    ensures report { λ r. ⌜ reported noFit (fittedOutcome r) ≡ reported noFit (capletFitOutcome (quote .sort) alpha (now (times .entry)) (now (factors .entry)) (caplet .strike) (caplet .start) (caplet .end) (quote .volatility)) ⌝ }
+    ensures answer { λ r. ⌜ fittedOutcome r ≡ capletFitOutcome (quote .«vol_type») alpha (now (times .entry)) (now (factors .entry)) (caplet .strike) (caplet .start) (caplet .end) (quote .volatility) ⌝ }
+    ensures held { λ r. ⌜ CapletFitHolds (quote .«vol_type») alpha (now (times .entry)) (now (factors .entry)) (caplet .strike) (caplet .start) (caplet .end) (quote .volatility) r ⌝ }
+    ensures bracket { λ r. ⌜ CapletFitNeverNoBracket (quote .«vol_type») alpha (now (times .entry)) (now (factors .entry)) (caplet .strike) (caplet .start) (caplet .end) (quote .volatility) r ⌝ }
+    ensures report { λ r. ⌜ reported noFit (fittedOutcome r) ≡ reported noFit (capletFitOutcome (quote .«vol_type») alpha (now (times .entry)) (now (factors .entry)) (caplet .strike) (caplet .start) (caplet .end) (quote .volatility)) ⌝ }
 {
     let curve = refusals::curve_faults(times, factors);
     fit_caplet_on(curve, quote, alpha, times, factors, caplet)
@@ -53,10 +53,10 @@ pub fn fit_caplet_on(
     caplet: Optionlet,
 ) -> Fitted
     requires { ⌜ curve ≡ curveFaults (now times) (now factors) ⌝ }
-    ensures answer { λ r. ⌜ fittedOutcome r ≡ capletFitOutcome (quote .sort) alpha (now (times .entry)) (now (factors .entry)) (caplet .strike) (caplet .start) (caplet .end) (quote .volatility) ⌝ }
-    ensures held { λ r. ⌜ CapletFitHolds (quote .sort) alpha (now (times .entry)) (now (factors .entry)) (caplet .strike) (caplet .start) (caplet .end) (quote .volatility) r ⌝ }
-    ensures bracket { λ r. ⌜ CapletFitNeverNoBracket (quote .sort) alpha (now (times .entry)) (now (factors .entry)) (caplet .strike) (caplet .start) (caplet .end) (quote .volatility) r ⌝ }
-    ensures report { λ r. ⌜ reported noFit (fittedOutcome r) ≡ reported noFit (capletFitOutcome (quote .sort) alpha (now (times .entry)) (now (factors .entry)) (caplet .strike) (caplet .start) (caplet .end) (quote .volatility)) ⌝ }
+    ensures answer { λ r. ⌜ fittedOutcome r ≡ capletFitOutcome (quote .«vol_type») alpha (now (times .entry)) (now (factors .entry)) (caplet .strike) (caplet .start) (caplet .end) (quote .volatility) ⌝ }
+    ensures held { λ r. ⌜ CapletFitHolds (quote .«vol_type») alpha (now (times .entry)) (now (factors .entry)) (caplet .strike) (caplet .start) (caplet .end) (quote .volatility) r ⌝ }
+    ensures bracket { λ r. ⌜ CapletFitNeverNoBracket (quote .«vol_type») alpha (now (times .entry)) (now (factors .entry)) (caplet .strike) (caplet .start) (caplet .end) (quote .volatility) r ⌝ }
+    ensures report { λ r. ⌜ reported noFit (fittedOutcome r) ≡ reported noFit (capletFitOutcome (quote .«vol_type») alpha (now (times .entry)) (now (factors .entry)) (caplet .strike) (caplet .start) (caplet .end) (quote .volatility)) ⌝ }
 {
     let answer = caplet_rules(curve, quote, alpha, caplet);
     if let Answer::Refused(refusal) = answer {
@@ -66,25 +66,25 @@ pub fn fit_caplet_on(
 }
 
 // Whether a strike is one that the quote's formula cannot take.
-pub fn strike_wrong(quote: QuoteType, strike: f64) -> bool
+pub fn strike_wrong(quote: VolatilityType, strike: f64) -> bool
     ensures { λ r. ⌜ r ≡ strikeWrong quote strike ⌝ }
 {
     match quote {
-        QuoteType::Black => strike <= 0.0,
-        QuoteType::Normal => false,
+        VolatilityType::Black => strike <= 0.0,
+        VolatilityType::Normal => false,
     }
 }
 
 fn caplet_rules(curve: Faults, quote: Quote, alpha: f64, caplet: Optionlet) -> Answer
-    ensures { λ r. ⌜ r ≡ firstOf (capletRules curve (quote .sort) alpha (caplet .strike) (caplet .start) (caplet .end) (quote .volatility)) ⌝ }
+    ensures { λ r. ⌜ r ≡ firstOf (capletRules curve (quote .«vol_type») alpha (caplet .strike) (caplet .start) (caplet .end) (quote .volatility)) ⌝ }
 {
     let finite = math_elementary::is_finite(alpha)
         & math_elementary::is_finite(caplet.strike)
         & math_elementary::is_finite(caplet.start)
         & math_elementary::is_finite(caplet.end)
         & math_elementary::is_finite(quote.volatility);
-    let sort = quote.sort;
-    let wrong = strike_wrong(sort, caplet.strike);
+    let vol_type = quote.vol_type;
+    let wrong = strike_wrong(vol_type, caplet.strike);
     let mut answer = refusals::and_rule(Answer::Served, Refusal::Size, curve.size);
     answer = refusals::and_rule(answer, Refusal::NotFinite, curve.not_finite | !finite);
     answer = refusals::and_rule(answer, Refusal::MeanReversion, alpha <= 0.0);
@@ -105,7 +105,7 @@ pub fn caplet_fitted(
     caplet: Optionlet,
 ) -> Fitted
     requires { ⌜ inOrder true (now times) ≡ true ⌝ }
-    ensures { λ r. ⌜ fittedOutcome r ≡ capletFitted (quote .sort) alpha (now (times .entry)) (now (factors .entry)) (caplet .strike) (caplet .start) (caplet .end) (quote .volatility) ⌝ }
+    ensures { λ r. ⌜ fittedOutcome r ≡ capletFitted (quote .«vol_type») alpha (now (times .entry)) (now (factors .entry)) (caplet .strike) (caplet .start) (caplet .end) (quote .volatility) ⌝ }
 {
     let Found::At(p_t) = curve::factor(times, factors, caplet.start) else {
         return Fitted::Refused(Refusal::OffCurve);
@@ -118,13 +118,14 @@ pub fn caplet_fitted(
 
 // What does not depend on sigma, once; then the bisection.
 fn caplet_worked(quote: Quote, alpha: f64, caplet: Optionlet, p_t: f64, p_end: f64) -> Fitted
-    ensures { λ r. ⌜ fittedOutcome r ≡ following (solveOf (capletObjective (quote .sort) alpha (caplet .strike) (caplet .start) (caplet .end) (quote .volatility) «p_t» «p_end»)) finishingFit ⌝ }
+    ensures { λ r. ⌜ fittedOutcome r ≡ following (solveOf (capletObjective (quote .«vol_type») alpha (caplet .strike) (caplet .start) (caplet .end) (quote .volatility) «p_t» «p_end»)) finishingFit ⌝ }
 {
+    let growth = hullwhite_formulas::growth_of(caplet.end - caplet.start, caplet.strike);
     let ahead = CapletAhead {
         b: hullwhite_formulas::b_of(alpha, caplet.start, caplet.end),
         deviation: hullwhite_formulas::state_deviation_of(alpha, caplet.start),
-        bond_strike: 1.0 / hullwhite_formulas::growth_of(caplet.end - caplet.start, caplet.strike),
-        caplet,
+        growth,
+        bond_strike: 1.0 / growth,
         p_t,
         p_end,
     };
@@ -146,10 +147,10 @@ pub fn fit_swaption(
     strike: f64,
     t: f64,
 ) -> Fitted
-    ensures answer { λ r. ⌜ fittedOutcome r ≡ swaptionFitOutcome (quote .sort) alpha (now (times .entry)) (now (factors .entry)) (now (payments .entry)) (now (accruals .entry)) strike t (quote .volatility) ⌝ }
-    ensures held { λ r. ⌜ SwaptionFitHolds (quote .sort) alpha (now (times .entry)) (now (factors .entry)) (now (payments .entry)) (now (accruals .entry)) strike t (quote .volatility) r ⌝ }
-    ensures bracket { λ r. ⌜ SwaptionFitNoBracketExactly (quote .sort) alpha (now (times .entry)) (now (factors .entry)) (now (payments .entry)) (now (accruals .entry)) strike t (quote .volatility) r ⌝ }
-    ensures report { λ r. ⌜ reported noFit (fittedOutcome r) ≡ reported noFit (swaptionFitOutcome (quote .sort) alpha (now (times .entry)) (now (factors .entry)) (now (payments .entry)) (now (accruals .entry)) strike t (quote .volatility)) ⌝ }
+    ensures answer { λ r. ⌜ fittedOutcome r ≡ swaptionFitOutcome (quote .«vol_type») alpha (now (times .entry)) (now (factors .entry)) (now (payments .entry)) (now (accruals .entry)) strike t (quote .volatility) ⌝ }
+    ensures held { λ r. ⌜ SwaptionFitHolds (quote .«vol_type») alpha (now (times .entry)) (now (factors .entry)) (now (payments .entry)) (now (accruals .entry)) strike t (quote .volatility) r ⌝ }
+    ensures bracket { λ r. ⌜ SwaptionFitNoBracketExactly (quote .«vol_type») alpha (now (times .entry)) (now (factors .entry)) (now (payments .entry)) (now (accruals .entry)) strike t (quote .volatility) r ⌝ }
+    ensures report { λ r. ⌜ reported noFit (fittedOutcome r) ≡ reported noFit (swaptionFitOutcome (quote .«vol_type») alpha (now (times .entry)) (now (factors .entry)) (now (payments .entry)) (now (accruals .entry)) strike t (quote .volatility)) ⌝ }
 {
     let curve = refusals::curve_faults(times, factors);
     fit_swaption_on(
@@ -179,10 +180,10 @@ pub fn fit_swaption_on(
     t: f64,
 ) -> Fitted
     requires { ⌜ curve ≡ curveFaults (now times) (now factors) ⌝ }
-    ensures answer { λ r. ⌜ fittedOutcome r ≡ swaptionFitOutcome (quote .sort) alpha (now (times .entry)) (now (factors .entry)) (now (payments .entry)) (now (accruals .entry)) strike t (quote .volatility) ⌝ }
-    ensures held { λ r. ⌜ SwaptionFitHolds (quote .sort) alpha (now (times .entry)) (now (factors .entry)) (now (payments .entry)) (now (accruals .entry)) strike t (quote .volatility) r ⌝ }
-    ensures bracket { λ r. ⌜ SwaptionFitNoBracketExactly (quote .sort) alpha (now (times .entry)) (now (factors .entry)) (now (payments .entry)) (now (accruals .entry)) strike t (quote .volatility) r ⌝ }
-    ensures report { λ r. ⌜ reported noFit (fittedOutcome r) ≡ reported noFit (swaptionFitOutcome (quote .sort) alpha (now (times .entry)) (now (factors .entry)) (now (payments .entry)) (now (accruals .entry)) strike t (quote .volatility)) ⌝ }
+    ensures answer { λ r. ⌜ fittedOutcome r ≡ swaptionFitOutcome (quote .«vol_type») alpha (now (times .entry)) (now (factors .entry)) (now (payments .entry)) (now (accruals .entry)) strike t (quote .volatility) ⌝ }
+    ensures held { λ r. ⌜ SwaptionFitHolds (quote .«vol_type») alpha (now (times .entry)) (now (factors .entry)) (now (payments .entry)) (now (accruals .entry)) strike t (quote .volatility) r ⌝ }
+    ensures bracket { λ r. ⌜ SwaptionFitNoBracketExactly (quote .«vol_type») alpha (now (times .entry)) (now (factors .entry)) (now (payments .entry)) (now (accruals .entry)) strike t (quote .volatility) r ⌝ }
+    ensures report { λ r. ⌜ reported noFit (fittedOutcome r) ≡ reported noFit (swaptionFitOutcome (quote .«vol_type») alpha (now (times .entry)) (now (factors .entry)) (now (payments .entry)) (now (accruals .entry)) strike t (quote .volatility)) ⌝ }
 {
     let coupons = refusals::coupon_faults(payments, accruals);
     let later = refusals::all(payments, Test::Above(t));
@@ -204,14 +205,14 @@ fn swaption_rules(
     strike: f64,
     t: f64,
 ) -> Answer
-    ensures { λ r. ⌜ r ≡ firstOf (swaptionRules curve coupons later empty (quote .sort) alpha strike t (quote .volatility)) ⌝ }
+    ensures { λ r. ⌜ r ≡ firstOf (swaptionRules curve coupons later empty (quote .«vol_type») alpha strike t (quote .volatility)) ⌝ }
 {
     let finite = math_elementary::is_finite(alpha)
         & math_elementary::is_finite(strike)
         & math_elementary::is_finite(t)
         & math_elementary::is_finite(quote.volatility);
-    let sort = quote.sort;
-    let wrong = strike_wrong(sort, strike);
+    let vol_type = quote.vol_type;
+    let wrong = strike_wrong(vol_type, strike);
     let mut answer = refusals::and_rule(Answer::Served, Refusal::Size, curve.size | coupons.size);
     answer = refusals::and_rule(
         answer,
@@ -239,7 +240,7 @@ fn swaption_fitted(
     t: f64,
 ) -> Fitted
     requires { ⌜ (0 < length (now payments)) × (length (now payments) ≤ 64) × (length (now accruals) ≡ length (now payments)) × (inOrder true (now times) ≡ true) ⌝ }
-    ensures { λ r. ⌜ fittedOutcome r ≡ swaptionFitted (quote .sort) alpha (now (times .entry)) (now (factors .entry)) (now (payments .entry)) (now (accruals .entry)) strike t (quote .volatility) ⌝ }
+    ensures { λ r. ⌜ fittedOutcome r ≡ swaptionFitted (quote .«vol_type») alpha (now (times .entry)) (now (factors .entry)) (now (payments .entry)) (now (accruals .entry)) strike t (quote .volatility) ⌝ }
 {
     let n = payments.len();
     let mut c = [0.0; 64];

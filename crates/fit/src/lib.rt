@@ -3,7 +3,7 @@
 mod fits;
 
 pub use fit_objective::Quote;
-pub use fit_objective::QuoteType;
+pub use fit_objective::VolatilityType;
 pub use fits::caplet_fitted;
 pub use fits::fit_caplet;
 pub use fits::fit_caplet_on;

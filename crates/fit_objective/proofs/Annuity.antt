@@ -9,7 +9,7 @@ use lib.Seq.{drop-cons}
 use lib.Ieee.{Float, nan}
 use Rattle.ieee.specs.Rounded.{_⊖_, _⊗_, _⊘_}
 use Rattle.quotes.specs.Formulas.{annuityStep}
-use Rattle.fit_objective.specs.declared.market.QuoteType.{QuoteType}
+use Rattle.fit_objective.specs.declared.market.VolatilityType.{VolatilityType}
 use Rattle.fit_objective.specs.Market.{vanillaCallOf, annuityOnto, annuityOf, lastOf, swaptionMarketPriceOf}
 
 module _ (accruals ps : List Float) (sum : Float) (i : ℕ) where
@@ -34,7 +34,7 @@ pub last-is : (ps : List Float) → 0 < length ps → getD ps (length ps - 1) na
 last-is ps h = last-at ps (length ps - 1) (omega arith)
 
 -- ---- a swaption's market price, on an annuity and a last factor that the code has worked
-module _ (quote : QuoteType) (strike t vol : Float) (accruals : List Float) (pt : Float) (ps : List Float) where
+module _ (quote : VolatilityType) (strike t vol : Float) (accruals : List Float) (pt : Float) (ps : List Float) where
   pub market-is : {sum last call : Float} → sum ≡ annuityOf accruals ps → last ≡ lastOf ps → call ≡ vanillaCallOf quote ((pt ⊖ last) ⊘ sum) strike vol t → sum ⊗ call ≡ swaptionMarketPriceOf quote strike t vol accruals pt ps
   unfolding swaptionMarketPriceOf
   market-is a l v = rw (← a, ← l, v)

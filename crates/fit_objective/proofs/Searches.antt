@@ -14,11 +14,11 @@ use Rattle.hullwhite_terms.proofs.Callers.{root-located, wants-bracket, no-brac
 use Rattle.hullwhite_terms.specs.Terms.{coefficientsOf}
 use Rattle.hullwhite_jamshidian.specs.Price.{ModelValued, putsOf, priceAt}
 use Rattle.hullwhite_jamshidian.specs.PricedSum.{modelSumOf}
-use Rattle.fit_objective.specs.declared.market.QuoteType.{QuoteType}
+use Rattle.fit_objective.specs.declared.market.VolatilityType.{VolatilityType}
 use Rattle.fit_objective.specs.Market.{swaptionMarketPriceOf}
 use Rattle.fit_objective.specs.Objective.{valueAlone, swaptionObjective}
 
-module _ (quote : QuoteType) (alpha : Float) (payments accruals : List Float) (strike t vol pt pPlus : Float) (ps : List Float) (sigma : Float) where
+module _ (quote : VolatilityType) (alpha : Float) (payments accruals : List Float) (strike t vol pt pPlus : Float) (ps : List Float) (sigma : Float) where
   sum : Float → Float
   sum = modelSumOf alpha t payments accruals strike sigma pt pPlus ps
 

@@ -1,9 +1,9 @@
 -- The same objective on what is worked ahead, once a fit, over the kind of instrument: what the code works with. That it is `capletObjective` or `swaptionObjective` at every sigma is proved of it, so a reader of the public contracts needs none of this.
 use mathlib.Core.List.{List}
 use lib.Ieee.{Float}
-use Rattle.ieee.specs.Rounded.{_⊖_}
+use Rattle.ieee.specs.Rounded.{_⊖_, _⊗_}
 use Rattle.refusals.specs.Refusals.{Outcome, served, following}
-use Rattle.hullwhite_formulas.specs.HullWhite.{zcbPriceVolatilityAt, bondPutOf, optionletOf}
+use Rattle.hullwhite_formulas.specs.HullWhite.{zcbPriceVolatilityAt, bondPutOf}
 use Rattle.hullwhite_terms.specs.Swaption.{SwaptionTerms}
 use Rattle.hullwhite_jamshidian.specs.Ahead.{priceAhead, priceOn}
 use Rattle.fit_objective.specs.declared.objective.CapletAhead.{CapletAhead}
@@ -13,9 +13,7 @@ use Rattle.fit_objective.specs.Objective.{valueAlone}
 
 -- a caplet at a sigma
 unfoldable pub capletAt : Float → CapletAhead → Float
-capletAt sigma ahead =
-    let caplet = ahead .caplet in
-    optionletOf (caplet .strike) (caplet .start) (caplet .end) (bondPutOf (zcbPriceVolatilityAt sigma (ahead .b) (ahead .deviation)) (ahead .«bond_strike») (ahead .«p_t») (ahead .«p_end»))
+capletAt sigma ahead = ahead .growth ⊗ bondPutOf (zcbPriceVolatilityAt sigma (ahead .b) (ahead .deviation)) (ahead .«bond_strike») (ahead .«p_t») (ahead .«p_end»)
 
 unfoldable pub modelPriceOf : Instrument → List Float → List Float → List Float → List Float → Float → Outcome Float
 modelPriceOf (I.Caplet ahead) cs bs curveParts ps sigma = served (capletAt sigma ahead)

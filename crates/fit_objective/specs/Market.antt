@@ -4,16 +4,16 @@ use lib.Ieee.{Float}
 use Rattle.ieee.specs.Rounded.{_⊖_, _⊗_, _⊘_}
 use Rattle.ieee.specs.Numbers.{zero, one}
 use Rattle.quotes.specs.Formulas.{blackCallOf, bachelierCallOf, annuityStep}
-use Rattle.fit_objective.specs.declared.market.QuoteType.{QuoteType}
-use Rattle.fit_objective.specs.declared.market.QuoteType.the-variants as Q
+use Rattle.fit_objective.specs.declared.market.VolatilityType.{VolatilityType}
+use Rattle.fit_objective.specs.declared.market.VolatilityType.the-variants as Q
 
 -- the undiscounted call of the quote's own formula
-abbrev pub vanillaCallOf : QuoteType → Float → Float → Float → Float → Float
+abbrev pub vanillaCallOf : VolatilityType → Float → Float → Float → Float → Float
 vanillaCallOf Q.Black fwd strike vol tau = blackCallOf fwd strike vol tau
 vanillaCallOf Q.Normal fwd strike vol tau = bachelierCallOf fwd strike vol tau
 
 -- a caplet from t to S: P(S) × tau × call, on the forward (P(t)/P(S) - 1)/tau, tau being S - t
-unfoldable pub capletMarketPriceOf : QuoteType → Float → Float → Float → Float → Float → Float → Float
+unfoldable pub capletMarketPriceOf : VolatilityType → Float → Float → Float → Float → Float → Float → Float
 capletMarketPriceOf quote strike t S vol pt pS =
     let tau = S ⊖ t in
     pS ⊗ tau ⊗ vanillaCallOf quote ((pt ⊘ pS ⊖ one) ⊘ tau) strike vol t
@@ -35,7 +35,7 @@ lastOf (p ∷ []) = p
 lastOf (p ∷ q ∷ ps) = lastOf (q ∷ ps)
 
 -- a swaption: annuity × call, on the forward (P(t) - P(end))/annuity
-unfoldable pub swaptionMarketPriceOf : QuoteType → Float → Float → Float → List Float → Float → List Float → Float
+unfoldable pub swaptionMarketPriceOf : VolatilityType → Float → Float → Float → List Float → Float → List Float → Float
 swaptionMarketPriceOf quote strike t vol accruals pt ps =
     let annuity = annuityOf accruals ps in
     annuity ⊗ vanillaCallOf quote ((pt ⊖ lastOf ps) ⊘ annuity) strike vol t

@@ -4,7 +4,7 @@ mod market;
 mod objective;
 
 pub use market::Quote;
-pub use market::QuoteType;
+pub use market::VolatilityType;
 pub use market::caplet_market_price;
 pub use market::swaption_market_price;
 pub use objective::CapletAhead;

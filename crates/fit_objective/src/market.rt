@@ -6,30 +6,30 @@ ghost use Rattle.fit_objective.specs.Market.{vanillaCallOf, capletMarket
 use hullwhite_formulas::Optionlet;
 
 // What a quoted volatility is one of.
-pub enum QuoteType {
+pub enum VolatilityType {
     Black,
     Normal,
 }
 
 // A quoted volatility.
 pub struct Quote {
-    pub sort: QuoteType,
+    pub vol_type: VolatilityType,
     pub volatility: f64,
 }
 
 fn vanilla_call(quote: Quote, fwd: f64, strike: f64, tau: f64) -> f64
-    ensures { λ r. ⌜ r ≡ vanillaCallOf (quote .sort) fwd strike (quote .volatility) tau ⌝ }
+    ensures { λ r. ⌜ r ≡ vanillaCallOf (quote .«vol_type») fwd strike (quote .volatility) tau ⌝ }
 {
-    let sort = quote.sort;
-    match sort {
-        QuoteType::Black => quotes::black_call_of(fwd, strike, quote.volatility, tau),
-        QuoteType::Normal => quotes::bachelier_call_of(fwd, strike, quote.volatility, tau),
+    let vol_type = quote.vol_type;
+    match vol_type {
+        VolatilityType::Black => quotes::black_call_of(fwd, strike, quote.volatility, tau),
+        VolatilityType::Normal => quotes::bachelier_call_of(fwd, strike, quote.volatility, tau),
     }
 }
 
 // p_t and p_end are the factors at the caplet's start and end.
 pub fn caplet_market_price(quote: Quote, caplet: Optionlet, p_t: f64, p_end: f64) -> f64
-    ensures { λ r. ⌜ r ≡ capletMarketPriceOf (quote .sort) (caplet .strike) (caplet .start) (caplet .end) (quote .volatility) «p_t» «p_end» ⌝ }
+    ensures { λ r. ⌜ r ≡ capletMarketPriceOf (quote .«vol_type») (caplet .strike) (caplet .start) (caplet .end) (quote .volatility) «p_t» «p_end» ⌝ }
 {
     let tau = caplet.end - caplet.start;
     let fwd = (p_t / p_end - 1.0) / tau;
@@ -63,7 +63,7 @@ pub fn swaption_market_price(
     p: &[f64],
 ) -> f64
     requires { ⌜ (length (now p) ≡ length (now accruals)) × (0 < length (now p)) ⌝ }
-    ensures { λ r. ⌜ r ≡ swaptionMarketPriceOf (quote .sort) strike t (quote .volatility) (now (accruals .entry)) «p_t» (now (p .entry)) ⌝ }
+    ensures { λ r. ⌜ r ≡ swaptionMarketPriceOf (quote .«vol_type») strike t (quote .volatility) (now (accruals .entry)) «p_t» (now (p .entry)) ⌝ }
 {
     let sum = annuity(accruals, p);
     let fwd = (p_t - p[p.len() - 1]) / sum;

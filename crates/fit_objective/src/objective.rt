@@ -8,19 +8,18 @@ ghost use Rattle.math_bisection.specs.Solve.{residualAt};
 ghost use Rattle.fit_objective.specs.Objective.{valueAlone};
 ghost use Rattle.fit_objective.specs.Ahead.{capletAt, modelPriceOf, objectiveOf};
 ghost use Rattle.hullwhite_jamshidian.specs.Price.{swaptionOutcome};
-use hullwhite_formulas::Optionlet;
 use hullwhite_jamshidian::Swaption;
 use hullwhite_jamshidian::SwaptionAhead;
 use refusals::Price;
 use refusals::Refusal;
 
-// What no sigma changes of a caplet's price: B and the state's deviation of its start, the strike of its bond
-// put, the caplet itself, and the factors at its start and end.
+// What no sigma changes of a caplet's price: B and the state's deviation of its start, what one unit grows to by
+// its strike, the strike of its bond put, and the factors at its start and end.
 pub struct CapletAhead {
     pub b: f64,
     pub deviation: f64,
+    pub growth: f64,
     pub bond_strike: f64,
-    pub caplet: Optionlet,
     pub p_t: f64,
     pub p_end: f64,
 }
@@ -36,8 +35,7 @@ fn caplet_at(sigma: f64, ahead: CapletAhead) -> f64
 {
     let sigma_p = hullwhite_formulas::zcb_price_volatility_at(sigma, ahead.b, ahead.deviation);
     let put = hullwhite_formulas::bond_put_of(sigma_p, ahead.bond_strike, ahead.p_t, ahead.p_end);
-    let caplet = ahead.caplet;
-    hullwhite_formulas::growth_of(caplet.end - caplet.start, caplet.strike) * put
+    ahead.growth * put
 }
 
 // The model price at a sigma. The lists are a swaption's coefficients, B, curve's parts and factors; a caplet has

@@ -1,5 +1,5 @@
 -- Demand 3 of kinds 6 and 7, of the definition: an outcome that is served has its root located among the sums of the terms priced, and one is refused for want of a bracket exactly where a search is begun that finds none. Assumes nothing.
-use mathlib.Core.Path.{_≡_, sym, ap, _∙_, subst}
+use mathlib.Core.Path.{_≡_, refl, sym, ap, _∙_, subst}
 use mathlib.Core.Logic.{_↔_}
 use mathlib.Core.Bool.{Bool, true, false, not, _&&_, cond}
 use mathlib.Core.List.{List}
@@ -60,11 +60,11 @@ module _ (option : SwaptionType) (deviation pt : Float) (cs affs bs ps owns : Li
   onward : Values → Outcome PricerValued
   onward root = following (stepped (root .rate) (sumsOf (root .rate) cs affs bs)) (λ s. finishingValuation (value root s))
 
-  onward-served : (root : Values) (v : PricerValued) → onward root ≡ served v → root ≡ v .root
-  unfolding onward value
+  onward-served : (root : Values) (v : PricerValued) → onward root ≡ served v → (s : Float) × (value root s ≡ v)
+  unfolding onward
   onward-served root v e =
       let s = step-served (stepped (root .rate) (sumsOf (root .rate) cs affs bs)) (λ s. finishingValuation (value root s)) e in
-      ap (λ (u : PricerValued). u .root) (keeps (value root (s .0)) v (s .1))
+      (s .0, keeps (value root (s .0)) v (s .1))
 
   onward-otherwise : (root : Values) → onward root ≡ refused R.NoBracket → ⊥
   unfolding onward stepped
@@ -72,11 +72,17 @@ module _ (option : SwaptionType) (deviation pt : Float) (cs affs bs ps owns : Li
       let sums = sumsOf (root .rate) cs affs bs in
       step-otherwise (lt (absOf (sums .derivative)) flatLimit) (root .rate ⊖ sums .objective ⊘ sums .derivative) (λ s. finishingValuation (value root s)) (λ s. otherwise (value root s)) e
 
-  located : (v : PricerValued) → pricedBy option deviation pt cs affs bs ps owns notional side ≡ served v → Located (couponSum cs affs bs) (v .root)
+  -- what is served: its root is located, and its value is that of the components at the rate after the step
+  pub record Priced (v : PricerValued) : Type 0 where
+    pub located : Located (couponSum cs affs bs) (v .root)
+    pub value-is : v .value ≡ componentsOf option (not (allOf Zero owns)) deviation pt (v .after-step) cs affs bs ps owns ⊗ notional ⊗ side
+
+  pub priced : (v : PricerValued) → pricedBy option deviation pt cs affs bs ps owns notional side ≡ served v → Priced v
   unfolding pricedBy onward value
-  located v e =
+  priced v e =
       let r = root-located (couponSum cs affs bs) onward v e in
-      subst (Located (couponSum cs affs bs)) (onward-served (r .0) v (r .2)) (r .1)
+      let s = onward-served (r .0) v (r .2) in
+      subst Priced (s .1) (record { located = r .1; value-is = refl })
 
   unbracketed : pricedBy option deviation pt cs affs bs ps owns notional side ≡ refused R.NoBracket → Unbracketed (couponSum cs affs bs)
   unfolding pricedBy onward value
@@ -99,7 +105,7 @@ module _ (option : SwaptionType) (alpha : Float) (pls ss ts fs payments accruals
     unfolding pricerOutcome swaptionPriced on
     rooted v e =
         let s = searches (pricerRulesOn alpha pls ss ts fs payments accruals owns strike t notional side) ts fs payments t on tt (served v) tt (sym is ∙ e) in
-        record { begun = s .begun; located = located _ _ _ _ _ _ _ _ _ _ v (s .goes-on) }
+        record { begun = s .begun; located = priced _ _ _ _ _ _ _ _ _ _ v (s .goes-on) .located }
 
     pub refused-so : (o ≡ refused R.NoBracket) ↔ WantsBracket (pricerRulesOn alpha pls ss ts fs payments accruals owns strike t notional side) ts fs payments t (pricerSumOf alpha pls ss t payments accruals strike)
     unfolding pricerOutcome swaptionPriced on

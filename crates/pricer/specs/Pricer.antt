@@ -30,7 +30,7 @@ ownFaults payments owns = record {
   domain = not (ownFits owns);
 }
 
--- `later`: every payment time is above the option time; `empty`: no coupons, or no pillars
+-- `later`: every payment time is above the option time; `empty`: no coupons. Document 02, A.2: "Refusal 7 no longer covers pillars in those kinds"
 abbrev pub pricerRules : Faults → Faults → Faults → Faults → Bool → Bool → Float → Float → Float → Float → Float → List Rule
 pricerRules curve schedule coupons own later empty alpha strike t notional side =
     rule R.Size (curve .size || schedule .size || coupons .size || own .size)
@@ -46,7 +46,7 @@ pricerRules curve schedule coupons own later empty alpha strike t notional side 
 abbrev pub pricerRulesOn : Float → List Float → List Float → List Float → List Float → List Float → List Float → List Float → Float → Float → Float → Float → List Rule
 pricerRulesOn alpha pls ss ts fs payments accruals owns strike t notional side =
     pricerRules (curveFaults ts fs) (pillarFaults pls ss) (couponFaults payments accruals) (ownFaults payments owns) (allOf (Above t) payments)
-    (eqb (length payments) 0 || eqb (length pls) 0) alpha strike t notional side
+    (eqb (length payments) 0) alpha strike t notional side
 
 -- ---- the rules, then the value
 

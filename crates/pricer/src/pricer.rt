@@ -12,8 +12,8 @@ use refusals::Faults;
 use refusals::Refusal;
 use refusals::Test;
 
-// Kinds 6 (payer) and 7 (receiver). Pillars are times and sigmas; coupons are payment times, accruals
-// and own discount factors, all 0 where the curve's own serve.
+// Kinds 6 (payer) and 7 (receiver). Pillars are times and sigmas, and without any the state does not move; coupons
+// are payment times, accruals and own discount factors, all 0 where the curve's own serve.
 pub fn swaption_value(
     trade: Trade,
     alpha: f64,
@@ -69,7 +69,7 @@ pub fn swaption_value_on(
     let coupons = refusals::coupon_faults(payments, accruals);
     let own = own_faults(payments, own_dfs);
     let later = refusals::all(payments, Test::Above(trade.t));
-    let empty = (payments.len() == 0) | (pillars.len() == 0);
+    let empty = payments.len() == 0;
     let answer = pricer_rules(curve, schedule, coupons, own, later, empty, alpha, trade);
     if let Answer::Refused(refusal) = answer {
         return Valuation::Refused(refusal);

@@ -23,11 +23,11 @@ returns c = sym (domain-short _ _ _ _ (c .before .loop-test .taken) (search need
 returns-2 : tie.Need-returns-2 Inv-loop μ-loop
 returns-2 c = sym (domain-shorter _ _ _ _ (c .before .before .loop-test .taken) (search needs) (search needs)) ∙ c .before .before .before .loop .inv .1
 
-shared-slice-read-quote-type-of : tie.Need-shared-slice-read-quote-type-of Inv-loop μ-loop
-shared-slice-read-quote-type-of c = search needs
+shared-slice-read-volatility-type-of : tie.Need-shared-slice-read-volatility-type-of Inv-loop μ-loop
+shared-slice-read-volatility-type-of c = search needs
 
-quote-type-of-requires : tie.Need-quote-type-of-requires Inv-loop μ-loop
-quote-type-of-requires c κs = search needs
+volatility-type-of-requires : tie.Need-volatility-type-of-requires Inv-loop μ-loop
+volatility-type-of-requires c κs = search needs
 
 mul-if3 : tie.Need-mul-if3 Inv-loop μ-loop
 mul-if3 c = search needs
@@ -45,7 +45,7 @@ strike-wrong-requires : tie.Need-strike-wrong-requires Inv-loop μ-loop
 strike-wrong-requires c κs = search needs
 
 returns-3 : tie.Need-returns-3 Inv-loop μ-loop
-returns-3 c = sym (domain-stop _ _ _ _ (c .before .before .before .before .quote-type-of .ensures) (c .before .strike-wrong .ensures) (c .before .before .before .before .before .before .before .before .loop-test .taken) (search needs) (search needs) (c .if3 .taken)) ∙ c .before .before .before .before .before .before .before .before .before .loop .inv .1
+returns-3 c = sym (domain-stop _ _ _ _ (c .before .before .before .before .volatility-type-of .ensures) (c .before .strike-wrong .ensures) (c .before .before .before .before .before .before .before .before .loop-test .taken) (search needs) (search needs) (c .if3 .taken)) ∙ c .before .before .before .before .before .before .before .before .before .loop .inv .1
 
 add-i : tie.Need-add-i Inv-loop μ-loop
 add-i c = search needs
@@ -54,7 +54,7 @@ loop-less : tie.Need-loop-less Inv-loop μ-loop
 loop-less c = search needs
 
 loop-again : tie.Need-loop-again Inv-loop μ-loop
-loop-again c = (search needs, sym (domain-turn _ _ _ _ (c .before .before .before .before .quote-type-of .ensures) (c .before .strike-wrong .ensures) (c .before .before .before .before .before .before .before .before .loop-test .taken) (search needs) (search needs) (c .if3 .left)) ∙ c .before .before .before .before .before .before .before .before .before .loop .inv .1)
+loop-again c = (search needs, sym (domain-turn _ _ _ _ (c .before .before .before .before .volatility-type-of .ensures) (c .before .strike-wrong .ensures) (c .before .before .before .before .before .before .before .before .loop-test .taken) (search needs) (search needs) (c .if3 .left)) ∙ c .before .before .before .before .before .before .before .before .before .loop .inv .1)
 
 returns-4 : tie.Need-returns-4 Inv-loop μ-loop
 returns-4 c = sym (domain-end _ _ _ _ (c .loop-test .left)) ∙ c .before .loop .inv .1
@@ -68,8 +68,8 @@ domain-wrong-spec =
     loop-holds
     returns
     returns-2
-    shared-slice-read-quote-type-of
-    quote-type-of-requires
+    shared-slice-read-volatility-type-of
+    volatility-type-of-requires
     mul-if3
     shared-slice-read-if3
     mul-strike-wrong

@@ -9,14 +9,14 @@ use borrow.Author.Needs.{needs}
 use Rattle.fit.proofs.fits.caplet_worked.Statement.{statement}
 use Rattle.fit.proofs.fits.caplet_worked.Tie as tie
 
+growth-of-requires : tie.Need-growth-of-requires
+growth-of-requires c κs = search needs
+
 b-of-requires : tie.Need-b-of-requires
 b-of-requires c κs = search needs
 
 state-deviation-of-requires : tie.Need-state-deviation-of-requires
 state-deviation-of-requires c κs = search needs
-
-growth-of-requires : tie.Need-growth-of-requires
-growth-of-requires c κs = search needs
 
 caplet-market-price-requires : tie.Need-caplet-market-price-requires
 caplet-market-price-requires c κs = search needs
@@ -35,15 +35,19 @@ finished-requires c κs = search needs
 
 returns : tie.Need-returns
 unfolding optionletStrikeOf
-returns c = caplet-fit _ _ _ _ _ _ _ _ _ (c .before .before .before .before .before .before .before .b-of .ensures) (c .before .before .before .before .before .before .state-deviation-of .ensures) (ap (λ (g : Float). one ⊘ g) (c .before .before .before .before .growth-of .ensures)) (c .before .before .before .caplet-market-price .ensures) (c .before .solve .ensures) (c .finished .ensures)
+returns c =
+    let market = c .before .before .before in
+    let deviation = market .before in
+    let growth = deviation .before .before in
+    caplet-fit _ _ _ _ _ _ _ _ _ (deviation .before .b-of .ensures) (deviation .state-deviation-of .ensures) (growth .growth-of .ensures) (ap (λ (g : Float). one ⊘ g) (growth .growth-of .ensures)) (market .caplet-market-price .ensures) (c .before .solve .ensures) (c .finished .ensures)
 
 pub caplet-worked-spec : {M : Type 1} → statement M
 caplet-worked-spec =
     tie.close
     (tie.spec
+    growth-of-requires
     b-of-requires
     state-deviation-of-requires
-    growth-of-requires
     caplet-market-price-requires
     array-share-prefix-none
     slice-aggregate-empty

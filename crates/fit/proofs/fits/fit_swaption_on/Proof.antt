@@ -12,10 +12,10 @@ use Rattle.fit.proofs.fits.fit_swaption_on.Tie as tie
 
 -- ---- the rules, on the call's own lists
 rules : (r : tie.After-swaption-rules) → let a = r .before .before .before .before .before .before .before .args in
-    r .swaption-rules .result ≡ firstOf (swaptionRulesOn (a .quote .sort) (a .alpha) (now (a .times)) (now (a .factors)) (now (a .payments)) (now (a .accruals)) (a .strike) (a .t) (a .quote .volatility))
+    r .swaption-rules .result ≡ firstOf (swaptionRulesOn (a .quote .«vol_type») (a .alpha) (now (a .times)) (now (a .factors)) (now (a .payments)) (now (a .accruals)) (a .strike) (a .t) (a .quote .volatility))
 rules r =
     let s = r .before .before .before .before .before .before .before in
-    swaption-rules-on (s .args .quote .sort) (s .args .alpha) (s .args .strike) (s .args .t) (s .args .quote .volatility) (s .pre) (r .before .before .coupon-faults .ensures) (r .before .all .ensures) refl (r .swaption-rules .ensures)
+    swaption-rules-on (s .args .quote .«vol_type») (s .args .alpha) (s .args .strike) (s .args .t) (s .args .quote .volatility) (s .pre) (r .before .before .coupon-faults .ensures) (r .before .all .ensures) refl (r .swaption-rules .ensures)
 
 -- ---- the needs
 coupon-faults-requires : tie.Need-coupon-faults-requires
@@ -34,8 +34,8 @@ returns : tie.Need-returns
 returns c =
     let r = c .before .before .before in
     let a = r .before .before .before .before .before .before .before .args in
-    let o = swaption-turned-down (a .quote .sort) (a .alpha) (now (a .times)) (now (a .factors)) (now (a .payments)) (now (a .accruals)) (a .strike) (a .t) (a .quote .volatility) (rules r) (c .before .answer .given .1) in
-    (o, (swaption-held (a .quote .sort) (a .alpha) (now (a .times)) (now (a .factors)) (now (a .payments)) (now (a .accruals)) (a .strike) (a .t) (a .quote .volatility) o, (swaption-refused-so (a .quote .sort) (a .alpha) (now (a .times)) (now (a .factors)) (now (a .payments)) (now (a .accruals)) (a .strike) (a .t) (a .quote .volatility) o, ap (reported noFit) o)))
+    let o = swaption-turned-down (a .quote .«vol_type») (a .alpha) (now (a .times)) (now (a .factors)) (now (a .payments)) (now (a .accruals)) (a .strike) (a .t) (a .quote .volatility) (rules r) (c .before .answer .given .1) in
+    (o, (swaption-held (a .quote .«vol_type») (a .alpha) (now (a .times)) (now (a .factors)) (now (a .payments)) (now (a .accruals)) (a .strike) (a .t) (a .quote .volatility) o, (swaption-refused-so (a .quote .«vol_type») (a .alpha) (now (a .times)) (now (a .factors)) (now (a .payments)) (now (a .accruals)) (a .strike) (a .t) (a .quote .volatility) o, ap (reported noFit) o)))
 
 enum-told : tie.Need-enum-told
 enum-told c = search needs
@@ -44,14 +44,14 @@ swaption-fitted-requires : tie.Need-swaption-fitted-requires
 swaption-fitted-requires c κs =
     let r = c .before .before in
     let a = r .before .before .before .before .before .before .before .args in
-    lists-fit (a .quote .sort) (a .alpha) (now (a .times)) (now (a .factors)) (now (a .payments)) (now (a .accruals)) (a .strike) (a .t) (a .quote .volatility) (rules r) (c .enum-told .given .1)
+    lists-fit (a .quote .«vol_type») (a .alpha) (now (a .times)) (now (a .factors)) (now (a .payments)) (now (a .accruals)) (a .strike) (a .t) (a .quote .volatility) (rules r) (c .enum-told .given .1)
 
 returns-2 : tie.Need-returns-2
 returns-2 c =
     let r = c .before .before .before in
     let a = r .before .before .before .before .before .before .before .args in
-    let o = c .swaption-fitted .ensures ∙ swaption-let-through (a .quote .sort) (a .alpha) (now (a .times)) (now (a .factors)) (now (a .payments)) (now (a .accruals)) (a .strike) (a .t) (a .quote .volatility) (rules r) (c .before .enum-told .given .1) in
-    (o, (swaption-held (a .quote .sort) (a .alpha) (now (a .times)) (now (a .factors)) (now (a .payments)) (now (a .accruals)) (a .strike) (a .t) (a .quote .volatility) o, (swaption-refused-so (a .quote .sort) (a .alpha) (now (a .times)) (now (a .factors)) (now (a .payments)) (now (a .accruals)) (a .strike) (a .t) (a .quote .volatility) o, ap (reported noFit) o)))
+    let o = c .swaption-fitted .ensures ∙ swaption-let-through (a .quote .«vol_type») (a .alpha) (now (a .times)) (now (a .factors)) (now (a .payments)) (now (a .accruals)) (a .strike) (a .t) (a .quote .volatility) (rules r) (c .before .enum-told .given .1) in
+    (o, (swaption-held (a .quote .«vol_type») (a .alpha) (now (a .times)) (now (a .factors)) (now (a .payments)) (now (a .accruals)) (a .strike) (a .t) (a .quote .volatility) o, (swaption-refused-so (a .quote .«vol_type») (a .alpha) (now (a .times)) (now (a .factors)) (now (a .payments)) (now (a .accruals)) (a .strike) (a .t) (a .quote .volatility) o, ap (reported noFit) o)))
 
 pub fit-swaption-on-spec : {M : Type 1} → statement M
 fit-swaption-on-spec =

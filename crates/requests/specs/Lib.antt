@@ -1,0 +1,3 @@
+-- What document 02 asks to be so, request by request.
+pub mod Intrinsic
+pub mod NoPillars
