@@ -1,6 +1,6 @@
 -- Intrinsic values, and that a swaption's components are these where the state does not move: for document 02, A.2.
 use mathlib.Core.Path.{_≡_, refl, sym, ap, _∙_, subst}
-use mathlib.Core.Bool.{Bool, true, false, not, _&&_, false≢true}
+use mathlib.Core.Bool.{Bool, true, false, not, _&&_, cond, false≢true}
 use mathlib.Core.List.{List, [], _∷_}
 use Prim.Native.Nat.{ℕ, _*_}
 use native.Mathlib.Nat.{zero-mul, mul-pos, zero-lt-suc}
@@ -20,14 +20,16 @@ use Rattle.refusals.specs.declared.checks.Test.the-variants.{Finite}
 use Rattle.refusals.specs.Checks.{allOf}
 use Rattle.search_sum.specs.Sum.{couponsOnto, couponSum}
 use Rattle.pricer_formulas.specs.declared.bond_option.SwaptionType.{SwaptionType}
+use Rattle.pricer_formulas.specs.declared.bond_option.SwaptionType.the-variants.{Payer, Receiver}
 use Rattle.pricer_formulas.specs.Affine.{pricerDeviationOf, affineAOf, affineAListOf}
 use Rattle.pricer_formulas.specs.Newton.{bondAt}
-use Rattle.pricer_formulas.specs.BondOption.{still, intrinsicOf, flooredAtZeroOf, pricerBondOptionOf}
+use Rattle.pricer_formulas.specs.BondOption.{still, pricerBondOptionOf}
 use Rattle.pricer_formulas.specs.Components.{componentOf, discountedOf, componentsOnto, componentsOf}
 
--- a coupon's bond option at its intrinsic value. A payer's is max(K × P(t) - P(T), 0), a receiver's max(P(T) - K × P(t), 0), where K is the coupon's bond at the rate, P(t) = pt and P(T) = p
+-- a coupon's bond option at its intrinsic value, struck at K, the coupon's bond at the rate. A payer's is K × P(t) - P(T) where that is above 0, a receiver's P(T) - K × P(t); else it is 0
 unfoldable pub intrinsicComponentOf : SwaptionType → Float → Float → Float → Float → Float → Float
-intrinsicComponentOf option pt rate a b p = flooredAtZeroOf (intrinsicOf option (bondAt rate a b ⊗ pt) p)
+intrinsicComponentOf Payer pt rate a b p = let x = bondAt rate a b ⊗ pt ⊖ p in cond (lt zero x) x zero
+intrinsicComponentOf Receiver pt rate a b p = let x = p ⊖ bondAt rate a b ⊗ pt in cond (lt zero x) x zero
 
 -- their sum, as `componentsOf` adds them
 unfoldable pub intrinsicsOnto : Float → SwaptionType → Bool → Float → Float → List Float → List Float → List Float → List Float → List Float → Float
@@ -66,9 +68,15 @@ no-deviation = refl
 -- a coupon whose B is finite, where nothing moves
 pub at-intrinsic-value : (option : SwaptionType) (pt rate a b p : Float) → T (finite b) → componentOf option (pricerDeviationOf zero) pt rate a b p ≡ intrinsicComponentOf option pt rate a b p
 unfolding componentOf pricerBondOptionOf intrinsicComponentOf
-at-intrinsic-value option pt rate a b p h = rw (no-deviation, bond-still b h)
+at-intrinsic-value Payer pt rate a b p h = rw (no-deviation, bond-still b h)
+at-intrinsic-value Receiver pt rate a b p h = rw (no-deviation, bond-still b h)
 
--- where a B is not, A is NaN, and with it the coupon sum at every rate: rule 9, "A critical-rate evaluation .. that is reached is NaN"
+-- 0.5 × B × B of each coupon, which A has times the variance
+unfoldable pub halfSquaresOf : List Float → List Float
+halfSquaresOf [] = []
+halfSquaresOf (b ∷ bs) = half ⊗ b ⊗ b ∷ halfSquaresOf bs
+
+-- where one is not finite, A is NaN, and with it the coupon sum at every rate
 less-nan : (x : Float) → x ⊖ nan ≡ nan
 unfolding sub add neg
 less-nan nan = refl
@@ -87,20 +95,27 @@ times-nan nan = refl
 times-nan (inf s) = refl
 times-nan (fin s m e) = refl
 
-adjustment-nan : (b : Float) → T (not (finite b)) → zero ⊗ (half ⊗ b ⊗ b) ≡ nan
+zero-times-none : (x : Float) → T (not (finite x)) → zero ⊗ x ≡ nan
 unfolding mul ofBits
-adjustment-nan nan h = refl
-adjustment-nan (inf true) h = refl
-adjustment-nan (inf false) h = refl
-adjustment-nan (fin s m e) h = absurd h
+zero-times-none nan h = refl
+zero-times-none (inf s) h = refl
+zero-times-none (fin s m e) h = absurd h
+
+-- it is not where B itself is not
+square-none : (b : Float) → T (not (finite b)) → T (not (finite (half ⊗ b ⊗ b)))
+unfolding mul ofBits
+square-none nan h = tt
+square-none (inf true) h = tt
+square-none (inf false) h = tt
+square-none (fin s m e) h = absurd h
 
 exp-nan : expOf nan ≡ nan
 unfolding expOf isNan
 exp-nan = refl
 
-pub affine-nan : (forward pt b p : Float) → T (not (finite b)) → affineAOf zero forward pt b p ≡ nan
+pub affine-nan : (forward pt b p : Float) → T (not (finite (half ⊗ b ⊗ b))) → affineAOf zero forward pt b p ≡ nan
 unfolding affineAOf
-affine-nan forward pt b p h = rw (adjustment-nan b h, less-nan (lnOf (p ⊘ pt) ⊕ forward ⊗ b), exp-nan)
+affine-nan forward pt b p h = rw (zero-times-none (half ⊗ b ⊗ b) h, less-nan (lnOf (p ⊘ pt) ⊕ forward ⊗ b), exp-nan)
 
 nan-onto : (cs affs bs : List Float) (rate : Float) → couponsOnto nan cs affs bs rate ≡ nan
 unfolding couponsOnto add
@@ -139,7 +154,7 @@ module _ (option : SwaptionType) (own : Bool) (forward pt rate at : Float) where
           → componentsOnto (value ⊕ discountedOf own (componentOf option (pricerDeviationOf zero) pt rate (affineAOf zero forward pt b p) b p) o p ⊗ c) option own (pricerDeviationOf zero) pt rate cs affs bs ps owns
           ≡ intrinsicsOnto (value ⊕ discountedOf own (intrinsicComponentOf option pt rate (affineAOf zero forward pt b p) b p) o p ⊗ c) option own pt rate cs affs bs ps owns
       go true f next = rw (at-intrinsic-value option pt rate (affineAOf zero forward pt b p) b p (subst T (sym f) tt)) (next (value ⊕ discountedOf own (intrinsicComponentOf option pt rate (affineAOf zero forward pt b p) b p) o p ⊗ c))
-      go false f next = absurd (false≢true (sym h ∙ nan-sum sum c (affineAOf zero forward pt b p) (expOf (neg b ⊗ at)) cs affs bs at (affine-nan forward pt b p (subst (λ (x : Bool). T (not x)) (sym f) tt))))
+      go false f next = absurd (false≢true (sym h ∙ nan-sum sum c (affineAOf zero forward pt b p) (expOf (neg b ⊗ at)) cs affs bs at (affine-nan forward pt b p (square-none b (subst (λ (x : Bool). T (not x)) (sym f) tt)))))
 
   pub intrinsic-sum : (cs bs ps owns : List Float) → let affs = affineAListOf zero forward pt bs ps in
       T (le one (couponSum cs affs bs at)) → componentsOf option own (pricerDeviationOf zero) pt rate cs affs bs ps owns ≡ intrinsicsOf option own pt rate cs affs bs ps owns
@@ -147,19 +162,28 @@ module _ (option : SwaptionType) (own : Bool) (forward pt rate at : Float) where
   intrinsic-sum cs bs ps owns h = intrinsic-onto zero zero cs bs ps owns (a-number (couponsOnto zero cs (affineAListOf zero forward pt bs ps) bs at) h)
 
 module _ (forward pt at : Float) where
-  -- and every B is finite
-  finite-onto : (sum : Float) (cs bs ps : List Float) → length cs ≡ length bs → length ps ≡ length bs → isNan (couponsOnto sum cs (affineAListOf zero forward pt bs ps) bs at) ≡ false → allOf Finite bs ≡ true
-  unfolding affineAListOf couponsOnto allOf
+  -- and every half square is finite
+  finite-onto : (sum : Float) (cs bs ps : List Float) → length cs ≡ length bs → length ps ≡ length bs → isNan (couponsOnto sum cs (affineAListOf zero forward pt bs ps) bs at) ≡ false → allOf Finite (halfSquaresOf bs) ≡ true
+  unfolding affineAListOf couponsOnto halfSquaresOf allOf
   finite-onto sum cs [] ps k l h = refl
   finite-onto sum [] (b ∷ bs) ps k l h = absurd (omega arith)
   finite-onto sum (c ∷ cs) (b ∷ bs) [] k l h = absurd (omega arith)
   finite-onto sum (c ∷ cs) (b ∷ bs) (p ∷ ps) k l h =
-      go (finite b) refl (finite-onto (sum ⊕ c ⊗ affineAOf zero forward pt b p ⊗ expOf (neg b ⊗ at)) cs bs ps (omega arith) (omega arith) h)
+      go (finite (half ⊗ b ⊗ b)) refl (finite-onto (sum ⊕ c ⊗ affineAOf zero forward pt b p ⊗ expOf (neg b ⊗ at)) cs bs ps (omega arith) (omega arith) h)
     where
-      go : (f : Bool) → finite b ≡ f → allOf Finite bs ≡ true → (finite b && allOf Finite bs) ≡ true
+      go : (f : Bool) → finite (half ⊗ b ⊗ b) ≡ f → allOf Finite (halfSquaresOf bs) ≡ true → (finite (half ⊗ b ⊗ b) && allOf Finite (halfSquaresOf bs)) ≡ true
       go true f e = rw (f, e)
       go false f e = absurd (false≢true (sym h ∙ nan-sum sum c (affineAOf zero forward pt b p) (expOf (neg b ⊗ at)) cs (affineAListOf zero forward pt bs ps) bs at (affine-nan forward pt b p (subst (λ (x : Bool). T (not x)) (sym f) tt))))
 
-  pub finite-bs : (cs bs ps : List Float) → length cs ≡ length bs → length ps ≡ length bs → T (le one (couponSum cs (affineAListOf zero forward pt bs ps) bs at)) → allOf Finite bs ≡ true
-  unfolding couponSum
-  finite-bs cs bs ps k l h = finite-onto zero cs bs ps k l (a-number (couponsOnto zero cs (affineAListOf zero forward pt bs ps) bs at) h)
+  module _ (cs bs ps : List Float) (k : length cs ≡ length bs) (l : length ps ≡ length bs) where
+    pub squares-finite : T (le one (couponSum cs (affineAListOf zero forward pt bs ps) bs at)) → allOf Finite (halfSquaresOf bs) ≡ true
+    unfolding couponSum
+    squares-finite h = finite-onto zero cs bs ps k l (a-number (couponsOnto zero cs (affineAListOf zero forward pt bs ps) bs at) h)
+
+    pub sum-nan : allOf Finite (halfSquaresOf bs) ≡ false → isNan (couponSum cs (affineAListOf zero forward pt bs ps) bs at) ≡ true
+    unfolding couponSum
+    sum-nan h = go (isNan (couponsOnto zero cs (affineAListOf zero forward pt bs ps) bs at)) refl
+      where
+        go : (b : Bool) → isNan (couponsOnto zero cs (affineAListOf zero forward pt bs ps) bs at) ≡ b → b ≡ true
+        go true e = refl
+        go false e = absurd (false≢true (sym h ∙ finite-onto zero cs bs ps k l e))
