@@ -687,17 +687,26 @@ impl Case<'_> {
 
     /// What does not depend on sigma: rule 8 is met here.
     fn swap(&self, strike: f64, t: f64) -> Result<Swap, Refusal> {
-        let start = self.factor(t)?;
-        let forward = self.forward(t)?;
+        // NaN stands for a missing one, only with the slip that lets it in.
+        let fetched = |factor: Result<f64, Refusal>| match factor {
+            Err(_) if self.slips(Slip::MissingIsZero) => Ok(f64::NAN),
+            other => other,
+        };
+        let start = fetched(self.factor(t))?;
+        let forward = self.forward(t);
+        let no_forward = forward.is_err();
+        let forward = fetched(forward)?;
+        let b_from = if self.slips(Slip::BFromZero) { 0.0 } else { t };
         let mut legs = Vec::new();
         for (place, coupon) in self.run.coupons.iter().enumerate() {
-            let factor = self.factor(coupon.0)?;
+            let factor = fetched(self.factor(coupon.0))?;
             legs.push(Leg {
                 time: coupon.0,
                 accrual: coupon.1,
                 factor,
+                missing: no_forward || factor.is_nan(),
                 coefficient: self.coefficient(place, coupon.1, strike),
-                b: self.b(t, coupon.0),
+                b: self.b(b_from, coupon.0),
                 log_ratio: self.n.ln(factor / start),
             });
         }
@@ -710,23 +719,36 @@ impl Case<'_> {
         })
     }
 
-    /// `HullWhite::swaption_price`.
+    /// `HullWhite::swaption_price`. `first` is the sigma that a fit asked at first.
     fn model_swaption(
         &self,
         swap: &Swap,
         sigma: f64,
+        first: f64,
         trail: &mut Trail,
     ) -> Result<(f64, Search), Refusal> {
+        let a = |leg: &Leg, sigma: f64| match leg.missing {
+            true => 0.0, // only with the slip that lets it in
+            false => self.model_a(swap.t, sigma, leg.b, swap.forward, leg.log_ratio),
+        };
+        let sigma_of_a = if self.slips(Slip::AOfFirstSigma) {
+            first
+        } else {
+            sigma
+        };
         let terms: Vec<Term> = swap
             .legs
             .iter()
             .map(|leg| Term {
                 coefficient: leg.coefficient,
-                a: self.model_a(swap.t, sigma, leg.b, swap.forward, leg.log_ratio),
+                a: a(leg, sigma_of_a),
                 b: leg.b,
             })
             .collect();
         let search = self.search(&terms, !self.slips(Slip::ModelNoBracket), trail)?;
+        if swap.legs.iter().any(|leg| leg.missing) {
+            return Err(8);
+        }
         let rate = if self.slips(Slip::NewtonInModel) {
             self.newton(&terms, search.rate)?
         } else {
@@ -734,7 +756,12 @@ impl Case<'_> {
         };
         let mut total = 0.0;
         for (term, leg) in terms.iter().zip(&swap.legs) {
-            let strike = term.a * self.n.exp(-term.b * rate);
+            let struck = if self.slips(Slip::StrikesOfFirstSigma) {
+                a(leg, first)
+            } else {
+                term.a
+            };
+            let strike = struck * self.n.exp(-term.b * rate);
             let put = self.bond_option(true, swap.t, leg.time, strike, sigma)?;
             total = self
                 .n
@@ -1006,12 +1033,14 @@ impl Case<'_> {
         let market = self.swap_market(&swap, normal, volatility);
         let mut trail = Vec::new();
         let mut inner_infinite = false;
+        let mut first = None;
         let fit = self.solve(
             &mut |sigma| {
                 if self.slips(Slip::MarketFirst) && market.is_nan() {
                     return Err(9);
                 }
-                let (model, search) = self.model_swaption(&swap, sigma, &mut trail)?;
+                let first = *first.get_or_insert(sigma);
+                let (model, search) = self.model_swaption(&swap, sigma, first, &mut trail)?;
                 inner_infinite |= search.sums.iter().any(|sum| !sum.is_finite());
                 Ok(model - market)
             },
@@ -1116,7 +1145,8 @@ impl Case<'_> {
             }
             5 => {
                 let swap = self.swap(a, b)?;
-                (answer.value, answer.search) = self.model_swaption(&swap, c, &mut trace.trail)?;
+                (answer.value, answer.search) =
+                    self.model_swaption(&swap, c, c, &mut trace.trail)?;
             }
             6 | 7 => (answer.value, answer.search) = self.pricer_swaption(&mut trace.trail)?,
             8 | 9 => answer.fit = self.fit_caplet(&self.job_caplet(), &mut trace.asked)?,
@@ -1163,6 +1193,7 @@ struct Leg {
     time: f64,
     accrual: f64,
     factor: f64,
+    missing: bool,
     coefficient: f64,
     b: f64,
     log_ratio: f64,

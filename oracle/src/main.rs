@@ -14,6 +14,7 @@ mod call_rules;
 mod call_slips;
 mod calls;
 mod confront;
+mod counts;
 mod cut;
 mod elementary;
 mod generate;
@@ -38,6 +39,7 @@ oracle slips                                            the names of the slips
 oracle call NAME ARGUMENT..                             one call of the Rust
 oracle vectors NAME COUNT SEED                          calls with random arguments
 oracle calls                                            the names of the calls
+oracle counts < FILE                                    what the Rust asks for in each job of kinds 5, 6, 7, 10 and 11
 oracle fixed-calls < LIST                               a list of calls of the library with its outcomes anew
 ";
 
@@ -49,6 +51,7 @@ fn main() {
         Some("call") => calls::call(&args[1..]),
         Some("vectors") => calls::vectors(&args[1..]),
         Some("calls") => calls::list(),
+        Some("counts") => counts::main(),
         Some("library-calls" | "library-call" | "library-slips" | "library-names" | "fixed-calls") => {
             call_compare::main(&args)
         }

@@ -78,13 +78,47 @@ thread_local! {
     static EXP: Memo = const { Memo::new(elementary::exp) };
     static LN: Memo = const { Memo::new(elementary::ln) };
     static TRACING: Cell<bool> = const { Cell::new(false) };
-    static TRACE: RefCell<Vec<f64>> = const { RefCell::new(Vec::new()) };
+    static TRACE: RefCell<Asked> = const { RefCell::new(Asked::new()) };
     static DATES: RefCell<Vec<(f64, f64)>> = const { RefCell::new(Vec::new()) };
 }
+
+/// What the Rust asked for, in order: the arguments of exp and of ln, and the
+/// times that it looked up on a curve.
+pub struct Asked {
+    pub exps: Vec<f64>,
+    pub lns: Vec<f64>,
+    pub lookups: Vec<f64>,
+}
+
+impl Asked {
+    const fn new() -> Self {
+        Asked {
+            exps: Vec::new(),
+            lns: Vec::new(),
+            lookups: Vec::new(),
+        }
+    }
+}
+
+/// Notes one argument, where a trace is on.
+#[cfg(not(plain))]
+fn note(list: fn(&mut Asked) -> &mut Vec<f64>, at: f64) {
+    if TRACING.with(Cell::get) {
+        TRACE.with(|trace| list(&mut trace.borrow_mut()).push(at));
+    }
+}
+#[cfg(plain)]
+fn note(_: fn(&mut Asked) -> &mut Vec<f64>, _: f64) {}
 
 /// Runs `work` and gives back, beside its result, every argument at which it
 /// called exp, in order: the trail of a search.
 pub fn with_trace<T>(work: impl FnOnce() -> T) -> (T, Vec<f64>) {
+    let (result, asked) = with_asked(work);
+    (result, asked.exps)
+}
+
+/// The same with all that it asked for.
+pub fn with_asked<T>(work: impl FnOnce() -> T) -> (T, Asked) {
     /// Ends the tracing even where the work panics.
     struct Tracing;
     impl Drop for Tracing {
@@ -92,14 +126,14 @@ pub fn with_trace<T>(work: impl FnOnce() -> T) -> (T, Vec<f64>) {
             TRACING.with(|on| on.set(false));
         }
     }
-    TRACE.with(|trace| trace.borrow_mut().clear());
+    TRACE.with(|trace| *trace.borrow_mut() = Asked::new());
     TRACING.with(|on| on.set(true));
     let tracing = Tracing;
     let result = work();
     drop(tracing);
     (
         result,
-        TRACE.with(|trace| std::mem::take(&mut *trace.borrow_mut())),
+        TRACE.with(|trace| std::mem::replace(&mut *trace.borrow_mut(), Asked::new())),
     )
 }
 
@@ -124,16 +158,18 @@ impl Elementary for f64 {
     }
     #[cfg(not(plain))]
     fn exp_01(self) -> f64 {
-        if TRACING.with(Cell::get) {
-            TRACE.with(|trace| trace.borrow_mut().push(self));
-        }
+        note(|asked| &mut asked.exps, self);
         EXP.with(|memo| memo.at(self))
     }
     #[cfg(not(plain))]
     fn ln_01(self) -> f64 {
+        note(|asked| &mut asked.lns, self);
         LN.with(|memo| memo.at(self))
     }
     fn exp_m1_01(self) -> f64 {
+        if self.abs() > 0.5 {
+            note(|asked| &mut asked.exps, self);
+        }
         elementary::exp_m1(self)
     }
     fn signum_01(self) -> f64 {
@@ -151,7 +187,11 @@ pub fn midpoint_01(a: f64, b: f64) -> f64 {
     elementary::midpoint(a, b)
 }
 
-pub use crate::elementary::norm_pdf;
+/// Document 01's, which calls exp once.
+pub fn norm_pdf(d: f64) -> f64 {
+    note(|asked| &mut asked.exps, (-0.5 * d) * d);
+    elementary::norm_pdf(d)
+}
 
 // ------------------------------------------------------ the dual number
 
@@ -418,6 +458,7 @@ impl<T: Scalar> InterestRatesTermStructure<T> for TableCurve {
         }
     }
     fn discount_factor_from_time(&self, time: f64) -> Result<T> {
+        note(|asked| &mut asked.lookups, time);
         match self.find(time) {
             Some(factor) => Ok(T::scalar(factor)),
             None => Err(QSError::NotFoundErr(format!(

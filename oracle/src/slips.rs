@@ -94,6 +94,11 @@ slips! {
     NewtonInModel, "newton-in-kind-5", Printed, "kinds 5, 10, 11 price after a Newton step";
     NoNewton, "no-newton", Printed, "kinds 6, 7 price at the rate before the Newton step";
     SwapEnd, "swap-ends-latest", Printed, "a fitted swap ends at its latest payment instead of the last listed";
+    // Coupon work ahead of a ladder (document 02, A.3).
+    AOfFirstSigma, "a-of-first-sigma", Printed, "kinds 10, 11: A is worked once, at the first sigma of the fit (1e-8), and kept for the searches and the strikes at every other";
+    StrikesOfFirstSigma, "strikes-of-first-sigma", Printed, "kinds 10, 11: a search has A at its own sigma, the bond options' strikes have the A of the fit's first sigma";
+    MissingIsZero, "missing-counts-as-0", Printed, "kinds 5, 10, 11: a coupon whose payment time, t or t + h is missing has A = 0 in the search, as in the Rust, and 8 is met where the search has found its rate; shows where the search meets 9 or 10 first";
+    BFromZero, "b-from-0", Printed, "kinds 5, 10, 11: the B worked ahead of the ladders is B(0, T)";
     // Path.
     PathNoShift, "path-no-half-variance", Printed, "path: the shift is the forward alone";
     PathStepUnfused, "path-step-unfused", Printed, "path: the state's step with products and sums";

@@ -66,7 +66,7 @@ capletFitted quote alpha ts fs strike t S vol =
 unfoldable pub capletFitOutcome : VolatilityType → Float → List Float → List Float → Float → Float → Float → Float → Outcome Fit
 capletFitOutcome quote alpha ts fs strike t S vol = unless (capletRules (curveFaults ts fs) quote alpha strike t S vol) (capletFitted quote alpha ts fs strike t S vol)
 
--- a swaption that the rules let through: the factors at t, t + h and the payment times, and the bisection
+-- a swaption that the rules let through: the factors at t, t + h and the payment times, and the bisection. Fetching them anew in each evaluation at each sigma has the same outcome (document 02, A.3): `kinds-ten-and-eleven` of `requests`
 unfoldable pub swaptionFitted : VolatilityType → Float → List Float → List Float → List Float → List Float → Float → Float → Float → Outcome Fit
 swaptionFitted quote alpha ts fs payments accruals strike t vol =
     withFactors ts fs payments t (λ pt pPlus ps.

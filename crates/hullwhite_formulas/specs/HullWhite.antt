@@ -85,12 +85,16 @@ stationaryShareOf alpha t = one ⊖ expOf (neg two ⊗ alpha ⊗ t)
 unfoldable pub curvePartOf : Float → Float → Float → Float → Float
 curvePartOf b f pt pT = fusedOf b f (lnOf (pT ⊘ pt))
 
--- A from the share at t, B(t, T) and the curve's part
-unfoldable pub aAt : Float → Float → Float → Float → Float → Float
-aAt alpha sigma share b curvePart = expOf (fusedOf (sigma ⊗ sigma ⊘ (four ⊗ alpha) ⊗ share ⊗ b) (neg b) curvePart)
+-- half the variance of the state at t, which no bond changes: sigma²/(4 × alpha) times the share at t
+unfoldable pub halfVarianceOf : Float → Float → Float → Float
+halfVarianceOf alpha sigma share = sigma ⊗ sigma ⊘ (four ⊗ alpha) ⊗ share
 
-pub a-ahead : (alpha t sigma b f pt pT : Float) → aAt alpha sigma (stationaryShareOf alpha t) b (curvePartOf b f pt pT) ≡ aOf alpha t sigma b f pt pT
-unfolding aAt stationaryShareOf curvePartOf aOf
+-- A from half the variance at t, B(t, T) and the curve's part
+unfoldable pub aAt : Float → Float → Float → Float
+aAt halfVariance b curvePart = expOf (fusedOf (halfVariance ⊗ b) (neg b) curvePart)
+
+pub a-ahead : (alpha t sigma b f pt pT : Float) → aAt (halfVarianceOf alpha sigma (stationaryShareOf alpha t)) b (curvePartOf b f pt pT) ≡ aOf alpha t sigma b f pt pT
+unfolding aAt halfVarianceOf stationaryShareOf curvePartOf aOf
 a-ahead alpha t sigma b f pt pT = refl
 
 -- the variance of the state at the option time, for a sigma of 1, and its root
@@ -99,6 +103,14 @@ stateVarianceOf alpha t = stationaryShareOf alpha t ⊘ (two ⊗ alpha)
 
 unfoldable pub stateDeviationOf : Float → Float → Float
 stateDeviationOf alpha t = sqrtOf (stateVarianceOf alpha t)
+
+-- the same from the share at t
+unfoldable pub stateDeviationAt : Float → Float → Float
+stateDeviationAt alpha share = sqrtOf (share ⊘ (two ⊗ alpha))
+
+pub state-deviation-ahead : (alpha t : Float) → stateDeviationAt alpha (stationaryShareOf alpha t) ≡ stateDeviationOf alpha t
+unfolding stateDeviationAt stateDeviationOf
+state-deviation-ahead alpha t = refl
 
 -- a bond's volatility from B(t, T) and the state's deviation
 abbrev pub zcbPriceVolatilityAt : Float → Float → Float → Float

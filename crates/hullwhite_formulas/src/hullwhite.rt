@@ -1,6 +1,6 @@
 // hullwhitemodel.rs: the analytic formulas of the one-factor model, on factors that are already fetched.
 ghost use mathlib.Core.Path.{_≡_};
-ghost use Rattle.hullwhite_formulas.specs.HullWhite.{h, stationaryShareOf, bOf, forwardOf, curvePartOf, aAt, aOf, zcbPriceOf, stateVarianceOf, stateDeviationOf, zcbPriceVolatilityAt, zcbPriceVolatilityOf, slopeOf, thetaOf, shortRateVarianceOf, moneynessOf, bondD1At, bondPutAt, bondPutOf, bondCallAt, growthOf};
+ghost use Rattle.hullwhite_formulas.specs.HullWhite.{h, stationaryShareOf, bOf, forwardOf, curvePartOf, halfVarianceOf, aAt, aOf, zcbPriceOf, stateVarianceOf, stateDeviationAt, stateDeviationOf, zcbPriceVolatilityAt, zcbPriceVolatilityOf, slopeOf, thetaOf, shortRateVarianceOf, moneynessOf, bondD1At, bondPutAt, bondPutOf, bondCallAt, growthOf};
 
 // A day, the step of every finite difference.
 pub fn day() -> f64
@@ -39,12 +39,18 @@ pub fn curve_part_of(b: f64, forward: f64, p_t: f64, p_bond: f64) -> f64
     ieee::fused(b, forward, math_elementary::ln(p_bond / p_t))
 }
 
-// A(t, T) from its parts, `share` being that of the option time.
-pub fn a_at(alpha: f64, sigma: f64, share: f64, b: f64, curve_part: f64) -> f64
-    ensures { λ r. ⌜ r ≡ aAt alpha sigma share b «curve_part» ⌝ }
+// Half the variance of the state at the option time, whose share is given. It is the same for every bond.
+pub fn half_variance_of(alpha: f64, sigma: f64, share: f64) -> f64
+    ensures { λ r. ⌜ r ≡ halfVarianceOf alpha sigma share ⌝ }
 {
-    let spread = sigma * sigma / (4.0 * alpha) * share * b;
-    math_exponential::exp(ieee::fused(spread, -b, curve_part))
+    sigma * sigma / (4.0 * alpha) * share
+}
+
+// A(t, T) from its parts.
+pub fn a_at(half_variance: f64, b: f64, curve_part: f64) -> f64
+    ensures { λ r. ⌜ r ≡ aAt «half_variance» b «curve_part» ⌝ }
+{
+    math_exponential::exp(ieee::fused(half_variance * b, -b, curve_part))
 }
 
 // A(t, T).
@@ -52,7 +58,8 @@ pub fn a_of(alpha: f64, t: f64, sigma: f64, b: f64, forward: f64, p_t: f64, p_bo
     ensures { λ r. ⌜ r ≡ aOf alpha t sigma b forward «p_t» «p_bond» ⌝ }
 {
     let curve_part = curve_part_of(b, forward, p_t, p_bond);
-    a_at(alpha, sigma, stationary_share_of(alpha, t), b, curve_part)
+    let half_variance = half_variance_of(alpha, sigma, stationary_share_of(alpha, t));
+    a_at(half_variance, b, curve_part)
 }
 
 // A bond's price at a short rate.
@@ -62,11 +69,18 @@ pub fn zcb_price_of(a: f64, b: f64, rate: f64) -> f64
     a * math_exponential::exp(-b * rate)
 }
 
+// The deviation of the state, for a sigma of 1, from the share of its stationary variance that is reached.
+pub fn state_deviation_at(alpha: f64, share: f64) -> f64
+    ensures { λ r. ⌜ r ≡ stateDeviationAt alpha share ⌝ }
+{
+    ieee::sqrt(share / (2.0 * alpha))
+}
+
 // The deviation of the state at the option time, for a sigma of 1.
 pub fn state_deviation_of(alpha: f64, t: f64) -> f64
     ensures { λ r. ⌜ r ≡ stateDeviationOf alpha t ⌝ }
 {
-    ieee::sqrt(stationary_share_of(alpha, t) / (2.0 * alpha))
+    state_deviation_at(alpha, stationary_share_of(alpha, t))
 }
 
 // The volatility of a bond's price, from its parts.

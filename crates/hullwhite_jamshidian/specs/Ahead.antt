@@ -5,7 +5,7 @@ use lib.Ieee.{Float}
 use Rattle.ieee.specs.Numbers.{zero}
 use Rattle.ieee.specs.Fused.{fusedOf}
 use Rattle.refusals.specs.Refusals.{Outcome, served, following}
-use Rattle.hullwhite_formulas.specs.HullWhite.{forwardOf, stationaryShareOf, stateDeviationOf, zcbPriceOf, zcbPriceVolatilityAt, zcb-price-volatility-ahead, bondPutOf}
+use Rattle.hullwhite_formulas.specs.HullWhite.{forwardOf, stationaryShareOf, halfVarianceOf, stateDeviationOf, zcbPriceOf, zcbPriceVolatilityAt, zcb-price-volatility-ahead, bondPutOf}
 use Rattle.search_sum.specs.Sum.{couponSum}
 use Rattle.search.specs.Rate.{criticalOf}
 use Rattle.search.specs.Values.{Values, criticalOutcome}
@@ -36,7 +36,7 @@ putsAhead ahead sigma r cs affs bs ps = putsAheadOnto zero ahead sigma r cs affs
 
 unfoldable pub priceAhead : SwaptionAhead → Float → List Float → List Float → List Float → List Float → Outcome ModelValued
 priceAhead ahead sigma cs bs curveParts ps =
-    let affs = aListAt (ahead .alpha) sigma (ahead .share) bs curveParts in
+    let affs = aListAt (halfVarianceOf (ahead .alpha) sigma (ahead .share)) bs curveParts in
     following (criticalOutcome (criticalOf (couponSum cs affs bs))) (λ root. served (record { value = putsAhead ahead sigma (root .rate) cs affs bs ps; root = root }))
 
 -- on all the terms of a swaption

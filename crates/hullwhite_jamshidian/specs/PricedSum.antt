@@ -5,6 +5,10 @@ use Rattle.hullwhite_formulas.specs.HullWhite.{forwardOf}
 use Rattle.search_sum.specs.Sum.{couponSum}
 use Rattle.hullwhite_terms.specs.Terms.{coefficientsOf, bsOf, aListOf}
 
--- the priced coupon sum, as a function of the rate, of a swaption whose factors at t, t + h and the payment times are pt, pPlus and ps
+-- the priced coupon sum, as a function of the rate, of coefficients and payment times on the factors pt at t, pPlus at t + h and ps at the payment times
+abbrev pub pricedSumOf : Float → Float → Float → List Float → List Float → Float → Float → List Float → Float → Float
+pricedSumOf alpha t sigma coefficients payments pt pPlus ps = couponSum coefficients (aListOf alpha t sigma (forwardOf pt pPlus) pt payments ps) (bsOf alpha t payments)
+
+-- of a swaption, whose coefficients are those of its accruals and strike
 abbrev pub modelSumOf : Float → Float → List Float → List Float → Float → Float → Float → Float → List Float → Float → Float
-modelSumOf alpha t payments accruals strike sigma pt pPlus ps = couponSum (coefficientsOf strike accruals) (aListOf alpha t sigma (forwardOf pt pPlus) pt payments ps) (bsOf alpha t payments)
+modelSumOf alpha t payments accruals strike sigma pt pPlus ps = pricedSumOf alpha t sigma (coefficientsOf strike accruals) payments pt pPlus ps

@@ -35,10 +35,11 @@ pub enum Swaption {
 pub fn ahead_of(alpha: f64, t: f64, p_t: f64) -> SwaptionAhead
     ensures { λ r. ⌜ r ≡ aheadOf alpha t «p_t» ⌝ }
 {
+    let share = hullwhite_formulas::stationary_share_of(alpha, t);
     SwaptionAhead {
         alpha,
-        share: hullwhite_formulas::stationary_share_of(alpha, t),
-        deviation: hullwhite_formulas::state_deviation_of(alpha, t),
+        share,
+        deviation: hullwhite_formulas::state_deviation_at(alpha, share),
         p_t,
     }
 }
@@ -95,7 +96,8 @@ pub fn price_at(
 {
     let n = c.len();
     let mut a = [0.0; 64];
-    hullwhite_terms::a_list_at(ahead.alpha, sigma, ahead.share, b, curve_part, &mut a[..n]);
+    let half_variance = hullwhite_formulas::half_variance_of(ahead.alpha, sigma, ahead.share);
+    hullwhite_terms::a_list_at(half_variance, b, curve_part, &mut a[..n]);
     let found = hullwhite_terms::find_critical_rate_of(c, &a[..n], b);
     if let Critical::NotANumber = found {
         return Swaption::Refused(Refusal::NanReached);

@@ -34,7 +34,7 @@ modelRulesOn alpha ts fs payments accruals strike t sigma = modelRules (curveFau
 unfoldable pub termsPriced : Float → List Float → List Float → Float → Float → Float → Float → Float → List Float → Outcome ModelValued
 termsPriced alpha payments accruals strike t sigma pt pPlus ps = following (priceAt alpha payments accruals strike t pt pPlus ps sigma) finishingSwaption
 
--- the factors at t, t + h and the payment times, then the terms and the price
+-- the factors at t, t + h and the payment times, then the terms and the price. Fetching and working them anew in each evaluation has the same outcome (document 02, A.3): `kind-five` of `requests`
 unfoldable pub modelPriced : Float → List Float → List Float → List Float → List Float → Float → Float → Float → Outcome ModelValued
 modelPriced alpha ts fs payments accruals strike t sigma =
     withFactors ts fs payments t (λ pt pPlus ps. termsPriced alpha payments accruals strike t sigma pt pPlus ps)

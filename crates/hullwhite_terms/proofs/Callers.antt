@@ -17,7 +17,7 @@ use Rattle.refusals.specs.declared.refusals.Answer.the-variants as A
 use Rattle.refusals.specs.Refusals.{Outcome, served, refused, placeOf, answerNumber, answerOf, Rule, firstOf, after, unless, following}
 use Rattle.refusals.specs.Order.{First, first-applies}
 use Rattle.curve.specs.Lookups.{Maybe, just, nothing, needing}
-use Rattle.refusals.proofs.Outcomes.{not-both, served-is}
+use Rattle.refusals.proofs.Outcomes.{not-both, served-is, refused-is}
 use Rattle.search.specs.declared.Critical.{Critical}
 use Rattle.search.specs.Rate.{criticalOf}
 use Rattle.search.specs.Values.{Values, criticalOutcome}
@@ -42,9 +42,6 @@ Late (refused q) = T (not (early q))
 yes-no : (b : Bool) → T b → T (not b) → ⊥
 yes-no true h k = k
 yes-no false h k = h
-
-refused-is : {B : Type 0} {q r : Refusal} → _≡_ {A = Outcome B} (refused q) (refused r) → q ≡ r
-refused-is e = cc
 
 not-late : {B : Type 0} (o : Outcome B) (q : Refusal) → T (early q) → Late o → refused q ≡ o → ⊥
 not-late (served v) q h l e = not-both e

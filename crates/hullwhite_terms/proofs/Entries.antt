@@ -79,17 +79,17 @@ module _ (forward pt : Float) where
   curve-parts-at bs ps i e h = rw (drifts-zip bs ps) (zip-at _ bs ps i e h)
 
 -- ---- A
-module _ (alpha sigma share : Float) where
-  affines-zip : (bs curve-parts : List Float) → aListAt alpha sigma share bs curve-parts ≡ zipWith (λ b curve-part. aAt alpha sigma share b curve-part) bs curve-parts
+module _ (half-variance : Float) where
+  affines-zip : (bs curve-parts : List Float) → aListAt half-variance bs curve-parts ≡ zipWith (λ b curve-part. aAt half-variance b curve-part) bs curve-parts
   unfolding aListAt zipWith
   affines-zip [] curve-parts = refl
   affines-zip (b ∷ bs) [] = refl
-  affines-zip (b ∷ bs) (curve-part ∷ curve-parts) = ap (λ rest. aAt alpha sigma share b curve-part ∷ rest) (affines-zip bs curve-parts)
+  affines-zip (b ∷ bs) (curve-part ∷ curve-parts) = ap (λ rest. aAt half-variance b curve-part ∷ rest) (affines-zip bs curve-parts)
 
-  pub a-list-at-length : (bs curve-parts : List Float) → length curve-parts ≡ length bs → length (aListAt alpha sigma share bs curve-parts) ≡ length bs
+  pub a-list-at-length : (bs curve-parts : List Float) → length curve-parts ≡ length bs → length (aListAt half-variance bs curve-parts) ≡ length bs
   a-list-at-length bs curve-parts e = rw (affines-zip bs curve-parts) (zip-length _ bs curve-parts e)
 
-  pub a-list-at-nth : (bs curve-parts : List Float) (i : ℕ) → length curve-parts ≡ length bs → i < length bs → getD (aListAt alpha sigma share bs curve-parts) i nan ≡ aAt alpha sigma share (getD bs i nan) (getD curve-parts i nan)
+  pub a-list-at-nth : (bs curve-parts : List Float) (i : ℕ) → length curve-parts ≡ length bs → i < length bs → getD (aListAt half-variance bs curve-parts) i nan ≡ aAt half-variance (getD bs i nan) (getD curve-parts i nan)
   a-list-at-nth bs curve-parts i e h = rw (affines-zip bs curve-parts) (zip-at _ bs curve-parts i e h)
 
 -- ---- weights

@@ -8,7 +8,7 @@ use Rattle.ieee.specs.Numbers.{one}
 use Rattle.ieee.specs.Fused.{fusedOf}
 use Rattle.refusals.specs.Refusals.{Outcome, served, prepend}
 use Rattle.curve.specs.Lookups.{factorAt, needing}
-use Rattle.hullwhite_formulas.specs.HullWhite.{bOf, aOf, stationaryShareOf, curvePartOf, aAt, a-ahead}
+use Rattle.hullwhite_formulas.specs.HullWhite.{bOf, aOf, stationaryShareOf, halfVarianceOf, curvePartOf, aAt, a-ahead}
 
 -- accrual × K; the last coupon's is accrual × K + 1, fused
 abbrev pub coefficientAt : Bool → Float → Float → Float
@@ -44,15 +44,15 @@ curvePartsOf forward pt [] ps = []
 curvePartsOf forward pt (b ∷ bs) [] = []
 curvePartsOf forward pt (b ∷ bs) (p ∷ ps) = curvePartOf b forward pt p ∷ curvePartsOf forward pt bs ps
 
--- A(t, T) of each term at a sigma, share being 1 - exp(-2 × alpha × t)
-unfoldable pub aListAt : Float → Float → Float → List Float → List Float → List Float
-aListAt alpha sigma share [] curveParts = []
-aListAt alpha sigma share (b ∷ bs) [] = []
-aListAt alpha sigma share (b ∷ bs) (curvePart ∷ curveParts) = aAt alpha sigma share b curvePart ∷ aListAt alpha sigma share bs curveParts
+-- A(t, T) of each term at a sigma, from half the state's variance at t for that sigma
+unfoldable pub aListAt : Float → List Float → List Float → List Float
+aListAt halfVariance [] curveParts = []
+aListAt halfVariance (b ∷ bs) [] = []
+aListAt halfVariance (b ∷ bs) (curvePart ∷ curveParts) = aAt halfVariance b curvePart ∷ aListAt halfVariance bs curveParts
 
 -- The A worked ahead are those of `HullWhite::A`, bit for bit at every sigma.
 pub a-list-ahead : (alpha t sigma forward pt : Float) (payments ps : List Float)
-    → aListAt alpha sigma (stationaryShareOf alpha t) (bsOf alpha t payments) (curvePartsOf forward pt (bsOf alpha t payments) ps) ≡ aListOf alpha t sigma forward pt payments ps
+    → aListAt (halfVarianceOf alpha sigma (stationaryShareOf alpha t)) (bsOf alpha t payments) (curvePartsOf forward pt (bsOf alpha t payments) ps) ≡ aListOf alpha t sigma forward pt payments ps
 unfolding bsOf aListOf curvePartsOf aListAt
 a-list-ahead alpha t sigma forward pt [] ps = refl
 a-list-ahead alpha t sigma forward pt (payment ∷ payments) [] = refl

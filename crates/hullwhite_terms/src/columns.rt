@@ -53,14 +53,15 @@ pub fn curve_parts(forward: f64, p_t: f64, b: &[f64], p: &[f64], out: &mut [f64]
     }
 }
 
-// A of each term at a sigma. A caller has a curve's part for each B, and lends a place for each A.
-pub fn a_list_at(alpha: f64, sigma: f64, share: f64, b: &[f64], curve_part: &[f64], out: &mut [f64])
+// A of each term at a sigma, from half the state's variance for that sigma. A caller has a curve's part
+// for each B, and lends a place for each A.
+pub fn a_list_at(half_variance: f64, b: &[f64], curve_part: &[f64], out: &mut [f64])
     requires { ⌜ (length (now out) ≡ length (now b)) × (length (now «curve_part») ≡ length (now b)) ⌝ }
-    ensures { λ _. ⌜ now (out .exit) ≡ aListAt alpha sigma share (now (b .entry)) (now («curve_part» .entry)) ⌝ }
+    ensures { λ _. ⌜ now (out .exit) ≡ aListAt «half_variance» (now (b .entry)) (now («curve_part» .entry)) ⌝ }
 {
     let mut i = 0;
     while i < b.len() {
-        out[i] = hullwhite_formulas::a_at(alpha, sigma, share, b[i], curve_part[i]);
+        out[i] = hullwhite_formulas::a_at(half_variance, b[i], curve_part[i]);
         i += 1;
     }
 }

@@ -1,3 +1,6 @@
 -- What document 02 asks to be so, request by request.
 pub mod Intrinsic
 pub mod NoPillars
+pub mod AsWritten
+pub mod WorkAhead
+pub mod CouponWork

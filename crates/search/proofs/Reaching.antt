@@ -30,7 +30,7 @@ nan-append sum (x ∷ xs) ys = ap (λ (b : Bool). isNan (sum x) || b) (nan-appen
     shift false = refl
 
 -- ---- a ladder
-moves : (n i : ℕ) → suc n + i ≡ n + suc i
+pub moves : (n i : ℕ) → suc n + i ≡ n + suc i
 moves n i = omega arith
 
 module _ (sum : Float → Float) (below : Bool) where
@@ -106,11 +106,11 @@ module _ (sum : Float → Float) where
   halvings-once b = halvings-suc sum b 0 (Halving.Next b) (halvings-zero sum b)
 
   -- the first halving taken first
-  halvings-first : (n : ℕ) (b c : Bracket) → halveOf sum b ≡ Halving.Next c → halvingsOf sum (suc n) b ≡ halvingsOf sum n c
+  pub halvings-first : (n : ℕ) (b c : Bracket) → halveOf sum b ≡ Halving.Next c → halvingsOf sum (suc n) b ≡ halvingsOf sum n c
   halvings-first zero b c e = halvings-once b ∙ e ∙ sym (halvings-zero sum c)
   halvings-first (suc n) b c e = halvings-suc sum b (suc n) (halvingsOf sum n c) (halvings-first n b c e) ∙ sym (halvings-suc sum c n (halvingsOf sum n c) refl)
 
-  halvings-stopped : (n : ℕ) (b : Bracket) → halveOf sum b ≡ Halving.Stopped → halvingsOf sum (suc n) b ≡ Halving.Stopped
+  pub halvings-stopped : (n : ℕ) (b : Bracket) → halveOf sum b ≡ Halving.Stopped → halvingsOf sum (suc n) b ≡ Halving.Stopped
   unfolding thenHalve
   halvings-stopped zero b e = halvings-once b ∙ e
   halvings-stopped (suc n) b e = halvings-suc sum b (suc n) Halving.Stopped (halvings-stopped n b e)

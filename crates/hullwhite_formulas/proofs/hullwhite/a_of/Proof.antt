@@ -10,11 +10,14 @@ curve-part-of-requires c κs = search needs
 stationary-share-of-requires : tie.Need-stationary-share-of-requires
 stationary-share-of-requires c κs = search needs
 
+half-variance-of-requires : tie.Need-half-variance-of-requires
+half-variance-of-requires c κs = search needs
+
 a-at-requires : tie.Need-a-at-requires
 a-at-requires c κs = search needs
 
 returns : tie.Need-returns
-returns c = rw (c .a-at .ensures, c .before .stationary-share-of .ensures, c .before .before .curve-part-of .ensures) (a-ahead _ _ _ _ _ _ _)
+returns c = rw (c .a-at .ensures, c .before .half-variance-of .ensures, c .before .before .stationary-share-of .ensures, c .before .before .before .curve-part-of .ensures) (a-ahead _ _ _ _ _ _ _)
 
 pub a-of-spec : {M : Type 1} → statement M
-a-of-spec = tie.close (tie.spec curve-part-of-requires stationary-share-of-requires a-at-requires returns)
+a-of-spec = tie.close (tie.spec curve-part-of-requires stationary-share-of-requires half-variance-of-requires a-at-requires returns)

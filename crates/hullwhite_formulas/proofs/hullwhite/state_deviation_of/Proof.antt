@@ -1,5 +1,5 @@
 -- `hullwhite_formulas::state_deviation_of` meets its contract. Assumes nothing.
-use Rattle.hullwhite_formulas.specs.HullWhite.{stateDeviationOf}
+use Rattle.hullwhite_formulas.specs.HullWhite.{state-deviation-ahead}
 use borrow.Author.Needs.{needs}
 use Rattle.hullwhite_formulas.proofs.hullwhite.state_deviation_of.Statement.{statement}
 use Rattle.hullwhite_formulas.proofs.hullwhite.state_deviation_of.Tie as tie
@@ -7,12 +7,11 @@ use Rattle.hullwhite_formulas.proofs.hullwhite.state_deviation_of.Tie a
 stationary-share-of-requires : tie.Need-stationary-share-of-requires
 stationary-share-of-requires c κs = search needs
 
-sqrt-requires : tie.Need-sqrt-requires
-sqrt-requires c κs = search needs
+state-deviation-at-requires : tie.Need-state-deviation-at-requires
+state-deviation-at-requires c κs = search needs
 
 returns : tie.Need-returns
-unfolding stateDeviationOf
-returns c = rw (c .sqrt .ensures .0, c .before .stationary-share-of .ensures)
+returns c = rw (c .state-deviation-at .ensures, c .before .stationary-share-of .ensures) (state-deviation-ahead _ _)
 
 pub state-deviation-of-spec : {M : Type 1} → statement M
-state-deviation-of-spec = tie.close (tie.spec stationary-share-of-requires sqrt-requires returns)
+state-deviation-of-spec = tie.close (tie.spec stationary-share-of-requires state-deviation-at-requires returns)

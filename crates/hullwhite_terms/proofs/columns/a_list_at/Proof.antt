@@ -9,10 +9,10 @@ use Rattle.hullwhite_terms.proofs.columns.a_list_at.Statement.{statemen
 use Rattle.hullwhite_terms.proofs.columns.a_list_at.Tie as tie
 
 abbrev Inv-loop : tie.InvT-loop
-Inv-loop alpha sigma share b curve-part out₀ i₀ out i = Filling (aListAt alpha sigma share b curve-part) out₀ (length b) i out
+Inv-loop half-variance b curve-part out₀ i₀ out i = Filling (aListAt half-variance b curve-part) out₀ (length b) i out
 
 abbrev μ-loop : tie.MeasureT-loop
-μ-loop alpha sigma share b curve-part out₀ i₀ out i = length b - i
+μ-loop half-variance b curve-part out₀ i₀ out i = length b - i
 
 loop-holds : tie.Need-loop-holds Inv-loop μ-loop
 loop-holds c = start (c .before .before .before .pre .0)
@@ -48,7 +48,7 @@ loop-again : tie.Need-loop-again Inv-loop μ-loop
 loop-again c =
     let l = c .before .before .before in
     let s = l .before .before .before .before .before in
-    turn (a-list-at-length _ _ _ _ _ (s .pre .1)) (s .pre .0) (l .loop-test .taken) (a-list-at-nth _ _ _ _ _ _ (s .pre .1) (l .loop-test .taken)) (c .a-at .ensures) (l .before .loop .inv)
+    turn (a-list-at-length _ _ _ (s .pre .1)) (s .pre .0) (l .loop-test .taken) (a-list-at-nth _ _ _ _ (s .pre .1) (l .loop-test .taken)) (c .a-at .ensures) (l .before .loop .inv)
 
 same-length : tie.Need-same-length Inv-loop μ-loop
 same-length c = search needs
@@ -56,7 +56,7 @@ same-length c = search needs
 returns : tie.Need-returns Inv-loop μ-loop
 returns c =
     let s = c .before .before .before .before .before in
-    end (a-list-at-length _ _ _ _ _ (s .pre .1)) (s .pre .0) (c .loop-test .left) (c .before .loop .inv)
+    end (a-list-at-length _ _ _ (s .pre .1)) (s .pre .0) (c .loop-test .left) (c .before .loop .inv)
 
 pub a-list-at-spec : {M : Type 1} → statement M
 a-list-at-spec =
