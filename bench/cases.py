@@ -13,12 +13,22 @@ OPTIONS = [0.5, 1.0, 1.5, 2.0]
 STRIKES = [0.02 + 0.0005 * i for i in range(32)]
 
 
+# In place of a number of points: a point a month. All times but those of a grid are then four days on from a month's end.
+MONTH_ENDS = "month ends"
+
+
+def off(points):
+    return 0.011 if points == MONTH_ENDS else 0.0
+
+
 def factor(t, scale=1.0):
     return scale * 2.718281828459045 ** (-0.03 * t - 0.0002 * t * t)
 
 
 def curve(points, needed, scale=1.0):
     """A curve of so many points: the needed times and others between 0 and beyond the last of them."""
+    if points == MONTH_ENDS:
+        return [(month / 12, factor(month / 12, scale)) for month in range(int(12 * max(needed)) + 3)]
     last = max(needed) + 1.0
     times = set(needed)
     step = 0
@@ -32,25 +42,25 @@ def pillars(count):
     return [(0.25 * (i + 1), 0.008 + 0.0001 * i) for i in range(count)]
 
 
-def coupons(count):
-    return [(2.5 + 0.5 * i, 0.5) for i in range(count)]
+def coupons(count, later=0.0):
+    return [(2.5 + 0.5 * i + later, 0.5) for i in range(count)]
 
 
 def at_options(payments):
     return OPTIONS + [t + H for t in OPTIONS] + [t for t, _ in payments]
 
 
-def spans():
-    """32 starts, each with the end half a year on."""
-    return [(0.5 * (i + 1), 0.5 * (i + 2)) for i in range(32)]
+def spans(count=32, step=0.5, later=0.0):
+    """So many starts, each with the end a step on."""
+    return [(step * (i + 1) + later, step * (i + 2) + later) for i in range(count)]
 
 
 def fit_quote(normal):
     return 0.0075 if normal else 0.25
 
 
-def swaption_job(kind, i):
-    strike, option = STRIKES[i % 32], OPTIONS[i // 32 % 4]
+def swaption_job(kind, i, later=0.0):
+    strike, option = STRIKES[i % 32], OPTIONS[i // 32 % 4] + later
     if kind == 5:
         return job(5, strike, option, 0.007 + 0.00002 * i)
     if kind in (6, 7):
@@ -61,9 +71,10 @@ def swaption_job(kind, i):
 def swaptions(kind, count, jobs, points=64, scale=1.0, pillar_count=8):
     """So many jobs over so many coupons; `jobs` may be the list of their numbers."""
     numbers = range(jobs) if isinstance(jobs, int) else jobs
-    listed = coupons(count)
-    return run(alpha=ALPHA, pillars=pillars(pillar_count), curve=curve(max(points, count + 8), at_options(listed), scale),
-               coupons=listed, jobs=[swaption_job(kind, i) for i in numbers])
+    listed = coupons(count, off(points))
+    size = points if points == MONTH_ENDS else max(points, count + 8)
+    return run(alpha=ALPHA, pillars=pillars(pillar_count), curve=curve(size, at_options(listed), scale),
+               coupons=listed, jobs=[swaption_job(kind, i, off(points)) for i in numbers])
 
 
 def caplet_job(kind, i, listed):
@@ -77,7 +88,7 @@ def caplet_job(kind, i, listed):
 
 
 def caplets(kind, jobs=128, points=64):
-    listed = spans()
+    listed = spans(later=off(points))
     return run(alpha=ALPHA, curve=curve(points, sorted({t for span in listed for t in span})),
                jobs=[caplet_job(kind, i, listed) for i in range(jobs)])
 
@@ -95,15 +106,15 @@ def spread(points, jobs=128):
 def path(points, curve_points, pillar_count, jobs):
     grid = [(0.25 + 0.015625 * i, (i * 0.6180339887498949 % 1.0) * 4.0 - 2.0) for i in range(points)]
     needed = sorted({t for t, _ in grid} | {t + H for t, _ in grid})
-    return run(alpha=ALPHA, pillars=pillars(pillar_count), curve=curve(max(curve_points, len(needed)), needed),
-               grid=grid, jobs=[job(12)] * jobs)
+    size = curve_points if curve_points == MONTH_ENDS else max(curve_points, len(needed))
+    return run(alpha=ALPHA, pillars=pillars(pillar_count), curve=curve(size, needed), grid=grid, jobs=[job(12)] * jobs)
 
 
-def basket(count):
+def basket(count, curve_points=128):
     """A basket as bench/basket.c reads it: the numbers of points and of caplets, alpha, the points, the caplets
     (1 for a normal quote, strike, start, end, volatility)."""
-    listed = [(0.25 * (i + 1), 0.25 * (i + 2)) for i in range(count)]
-    points = curve(128, sorted({t for span in listed for t in span}))
+    listed = spans(count, 0.25, off(curve_points))
+    points = curve(curve_points, sorted({t for span in listed for t in span}))
     made = struct.pack("<2Id", len(points), count, ALPHA)
     made += b"".join(struct.pack("<2d", *point) for point in points)
     for i, (start, end) in enumerate(listed):
@@ -131,6 +142,14 @@ CASES += [("kinds", "kind 6, 128 jobs, 10 coupons, no pillars", swaptions(6, 10,
 CASES += [("kinds", f"kind {kind}, 128 jobs", caplets(kind)) for kind in (8, 9)]
 CASES += [("kinds", f"kind {kind}, 128 jobs, 10 coupons", swaptions(kind, 10, 128)) for kind in (10, 11)]
 CASES += [("kinds", "kind 12, 128 jobs of 64 points", path(64, 128, 8, 128))]
+# A curve of month ends: nearly every factor is worked from its two neighbours, by the Rust at each evaluation.
+CASES += [("month-end", f"kind {kind}, 128 jobs, month-end curve", caplets(kind, points=MONTH_ENDS)) for kind in (1, 2, 3, 4)]
+CASES += [("month-end", f"kind {kind}, 128 jobs, 10 coupons, month-end curve", swaptions(kind, 10, 128, MONTH_ENDS)) for kind in (5, 6, 7)]
+CASES += [("month-end", f"kind {kind}, 128 jobs, month-end curve", caplets(kind, points=MONTH_ENDS)) for kind in (8, 9)]
+CASES += [("month-end", f"kind {kind}, 128 jobs, 10 coupons, month-end curve", swaptions(kind, 10, 128, MONTH_ENDS)) for kind in (10, 11)]
+CASES += [("month-end", "kind 12, 128 jobs of 64 points, month-end curve", path(64, MONTH_ENDS, 8, 128))]
+CASES += [("month-end", "kind 12, 1 job of 1,024 points, month-end curve", path(1024, MONTH_ENDS, 64, 1))]
+CASES += [("basket", "a basket of 64 caplets, month-end curve", basket(64, MONTH_ENDS))]
 # On a curve scaled by 1e8 no residual of job 11 is below 1e-12: all 200 halvings are run.
 CASES += [("large", f"kind {kind}, 1 job, 64 coupons, {word}", swaptions(kind, 64, [11], 72, scale))
           for kind in (10, 11) for word, scale in (("converging", 1.0), ("unconverged", 1e8))]

@@ -19,8 +19,14 @@
  *   pillars    `times` or `pillars`, `sigmas`: times rise strictly, sigmas are not negative; at most CALSTWID_MAX_PILLARS
  *   coupons    `payments`, `accruals`, and `own_dfs` where a call has them; at most CALSTWID_MAX_COUPONS
  *   a grid     `grid`, `draws`: times do not fall; at most CALSTWID_MAX_GRID
- * A curve is not interpolated: a time that a call needs must be among its times, or the call is refused with 8. A call that takes a
- * forward rate at t needs the time t + 1.0 / 365.0 too, worked in double; each call says which times it needs.
+ *
+ * The curve at a time. A call says at which times it needs the curve. Such a time is on the curve, or between two of its points:
+ *   - a time t that equals a listed one (as a number: -0.0 equals 0.0) has the factor listed there, as it is;
+ *   - one strictly between two neighbours (t0, f0) and (t1, f1) has exp(ln(f0) + w * (ln(f1) - ln(f0))), w being (t - t0) / (t1 - t0):
+ *     calstwid_exp and calstwid_ln, every operation rounded once and none fused. Rounded so, it need not lie between f0 and f1;
+ *   - before the first point, after the last, on a curve without points, and where the factor so found is not finite, the call is
+ *     refused with 8. One point serves its own time alone.
+ * A call that takes a forward rate at t needs the curve at t + 1.0 / 365.0 too, worked in double.
  *
  * What the caller owes. No proof reaches across this line:
  *   - no pointer is NULL, not even where the length is 0 (any address of the type serves then);
@@ -102,7 +108,8 @@ static inline const char *calstwid_sentence(uint64_t answer)
     case CALSTWID_EMPTY:
         return "there are no coupons, or no pillars, where the call wants them";
     case CALSTWID_OFF_CURVE:
-        return "a time that the call needs is not among the curve's times";
+        return "a time that the call needs is before the curve's first point or after its last, the curve has no points, or the "
+               "factor found between two points is not finite";
     case CALSTWID_NAN_REACHED:
         return "a critical-rate evaluation or a fit residual that is reached is NaN";
     case CALSTWID_NO_BRACKET:
@@ -332,7 +339,7 @@ calstwid_price_report calstwid_black_put(double fwd, double strike, double vol, 
 calstwid_price_report calstwid_bachelier_call(double fwd, double strike, double vol, double tau);
 
 /*
- * The sum of accrual * factor over the coupons; 0 for none. Needs the curve at each payment time.
+ * The sum of accrual * factor over the coupons; 0 for none, which needs no time. Needs the curve at each payment time.
  * Answers 0, 1, 2, 4, 6, 8, 13.
  */
 calstwid_price_report calstwid_swap_annuity_from_curve(const double *times, size_t n_times, const double *factors, size_t n_factors,
@@ -445,7 +452,8 @@ calstwid_fit_report calstwid_fit_swaption_normal(double alpha, const double *tim
 /*
  * Up to CALSTWID_MAX_BASKET caplets, each fitted by itself, then each fitted again to its quote plus 1e-6. A caplet is one place of
  * the five lists, which have one length; `normals` has true for a normal quote and false for a Black one. Rules 1 to 6 are asked of
- * all caplets first; then the first refusal of a fit refuses the basket. An empty basket is served, all fields 0.
+ * all caplets first; then the first refusal of a fit refuses the basket. Needs the curve at each start and end. An empty basket is
+ * served, all fields 0, and needs no time.
  * Answers 0, 1, 2, 3, 4, 5, 6, 8, 9, 12, 13.
  */
 calstwid_basket_report calstwid_calibrate_to_instruments(double alpha, const double *times, size_t n_times, const double *factors,
@@ -474,7 +482,7 @@ calstwid_implicit_rate_report calstwid_implicit_critical_rate(const double *coef
 /*
  * The short rate at each time of the grid, written to the front of `out`, one standard normal draw a step; count is the number of
  * the grid's times. `out` is no shorter than the grid, else 1. Needs the curve at each grid time and 1.0 / 365.0 after it. An
- * empty grid is served; no pillars are refused with 7.
+ * empty grid is served and needs no time; no pillars are refused with 7.
  * Answers 0, 1, 2, 3, 4, 5, 6, 7, 8, 13.
  */
 calstwid_count_report calstwid_generate(double alpha, const double *pillars, size_t n_pillars, const double *sigmas,

@@ -5,19 +5,53 @@ import os
 import re
 import struct
 
+from runfile import H
+
 HERE = os.path.dirname(os.path.realpath(__file__))
 TURNED = os.path.join(HERE, "fixed", "turned.txt")
 TURNED_CALLS = os.path.join(HERE, "fixed_calls", "turned.txt")
 # The base's, then one for each request that brought files or calls of its own.
-LISTS = ["base", "A.2"]
-CALL_LISTS = ["edges", "random", "A.2"]
+LISTS = ["base", "A.2", "A.4"]
+CALL_LISTS = ["edges", "random", "A.2", "A.4"]
+
+
+def records(run, part, form):
+    """The records of one of the six parts of a run file."""
+    offset, length = struct.unpack_from("<2I", run, 8 * part)
+    return list(struct.iter_unpack("<" + form, run[offset : offset + length]))
 
 
 def no_pillars(run, old, now):
     """A.2: "Refusal 7 no longer covers pillars in those kinds", 6 and 7. A job that lacked nothing else goes on behind rule 7."""
-    pillars, coupons = (struct.unpack_from("<I", run, 8 * part + 4)[0] for part in (1, 3))
     job = re.fullmatch(r"(\d+ [67]) 7 0{16} 0", old)
-    return bool(job and not pillars and coupons and re.fullmatch(job[1] + r" (0|8|9|1\d) [0-9a-f]{16} 0", now))
+    lacking = job and not records(run, 1, "2d") and records(run, 3, "3d")
+    return bool(lacking and re.fullmatch(job[1] + r" (0|8|9|1\d) [0-9a-f]{16} 0", now))
+
+
+def needed(run, number):
+    """The times at which a job needs a factor."""
+    kind, a, b, c, _ = records(run, 5, "Q4d")[number]
+    if kind in (1, 2, 8, 9):
+        return [b, c]
+    if kind in (3, 4):
+        return [a, b]
+    if kind == 12:
+        return [time + step for time, _ in records(run, 4, "2d") for step in (0.0, H)]
+    return [b, b + H, *(coupon[0] for coupon in records(run, 3, "3d"))]
+
+
+def between_points(run, old, now):
+    """A.4: "Refusal 8 is left for times before the first or after the last point, for a curve without points, and for a factor so found
+    that is not finite." A job goes on behind rule 8 if every time that it needs lies on the curve or between two points of it, one at
+    least between; no other line turns."""
+    job = re.fullmatch(r"(\d+) (\d+) 8 0{16} 0", old)
+    times = [time for time, _ in records(run, 2, "2d")]
+    if not job or not times:
+        return False
+    asked = needed(run, int(job[1]))
+    inside = all(times[0] <= time <= times[-1] for time in asked) and not set(asked) <= set(times)
+    line = re.compile(f"{job[1]} {job[2]}" + r" (0|9|1\d) [0-9a-f]{16} \d+")
+    return inside and all(map(line.fullmatch, now.split(" / ")))
 
 
 def no_pillars_call(call, old, now):
@@ -28,9 +62,18 @@ def no_pillars_call(call, old, now):
     return lacking and old.split()[0] == "7" and now.split()[0] in ("0", "8", "9", "10", "11", "13")
 
 
-# What a request may turn: whether it names this line of a run file's output, or this call, and whether it can become that.
-REQUESTS = {"A.2": no_pillars}
-CALL_REQUESTS = {"A.2": no_pillars_call}
+def between_points_call(call, old, now):
+    """A.4 in a call: one that looks factors up, and was refused for want of one."""
+    return call.split()[0] in FETCHING and old.split()[0] == "8" and now.split()[0] in ("0", "9", "10", "11", "12", "13")
+
+
+FETCHING = """A zcb_price theta forward_rate_from_curve swap_annuity_from_curve caplet_price floorlet_price bond_put_price bond_call_price
+    swaption_price payer_swaption_value receiver_swaption_value fit_caplet_black fit_caplet_normal fit_swaption_black fit_swaption_normal
+    calibrate_to_instruments generate""".split()
+# What a request may turn: whether it names this line of a run file's output, or this call, and whether it can become that. What two
+# requests have turned, one behind the other, stands under the first.
+REQUESTS = {"A.2": no_pillars, "A.4": between_points}
+CALL_REQUESTS = {"A.2": no_pillars_call, "A.4": between_points_call}
 
 
 def listed():

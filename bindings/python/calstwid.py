@@ -8,8 +8,11 @@ Every function answers whatever numbers it is given, with a value or with the fi
 proved to meet its contract where it is written, in Rattle; this module hands numbers over and adds nothing to their meaning.
 
 Times are years from today; rates, strikes of rates and volatilities are fractions a year (0.03 is 3 %); alpha is the mean reversion. A value is for
-a notional of 1 except where a notional is an argument. `times` and `factors` are a discount curve of at most 2,048 points, times strictly rising. A
-time that a function needs is looked up among them: nothing is interpolated. Where a function says that it needs t + 1/365, it is t + 1.0 / 365.0.
+a notional of 1 except where a notional is an argument. `times` and `factors` are a discount curve of at most 2,048 points, times strictly rising.
+
+A time at which a function needs the curve is on the curve or between two of its points, else it is refused with 8. On the curve it has the factor
+listed there; strictly between two neighbours (t0, f0) and (t1, f1) it has exp(ln(f0) + w * (ln(f1) - ln(f0))), w being (t - t0) / (t1 - t0), by this
+module's exp and ln. Where a function says that it needs t + 1/365, it is t + 1.0 / 365.0.
 
 A list of numbers is a list, a tuple, an array('d'), a numpy array of one dimension or anything else that iterates over numbers. An array('d') and
 a numpy array of float64 are read where they are; others are copied. A number may be an int. What is no number raises TypeError: a complex number,
@@ -56,7 +59,8 @@ SENTENCES = {
     6: "a sigma is negative, a quoted volatility is not above 0, a Black strike is not above 0, a curve factor is not above 0, "
     "a coupon's own factor is negative or is 0 beside one that is not, or a side is neither 1 nor -1",
     7: "there are no coupons, or no pillars, where the call wants them",
-    8: "a time that the call needs is not among the curve's times",
+    8: "a time that the call needs is before the curve's first point or after its last, the curve has no points, or the factor found between "
+    "two points is not finite",
     9: "a critical-rate evaluation or a fit residual that is reached is NaN",
     10: "one of the two ladders has no good rate, so that there is no bracket",
     11: "the critical-rate derivative is below 1e-14 in size",
@@ -732,7 +736,7 @@ def theta(alpha: float, times: Numbers, factors: Numbers, t: float, sigma: float
 
 
 def forward_rate_from_curve(times: Numbers, factors: Numbers, t: float) -> float:
-    """The forward rate from t to t + 1/365, both of which the curve has."""
+    """The forward rate from t to t + 1/365. Needs the curve at both."""
     return _served(_forward_rate_from_curve(*_list("times", times), *_list("factors", factors), _number("t", t))).value
 
 
@@ -803,7 +807,7 @@ def bachelier_call(fwd: float, strike: float, vol: float, tau: float) -> float:
 
 
 def swap_annuity_from_curve(times: Numbers, factors: Numbers, payments: Numbers, accruals: Numbers) -> float:
-    """The sum of accrual * factor over at most 64 coupons, each payment time being one of the curve's; 0 for none."""
+    """The sum of accrual * factor over at most 64 coupons; 0 for none. Needs the curve at each payment time."""
     return _served(
         _swap_annuity_from_curve(
             *_list("times", times), *_list("factors", factors), *_list("payments", payments), *_list("accruals", accruals)
@@ -827,12 +831,12 @@ def _optionlet(function, alpha, times, factors, strike, start, end, last, name):
 
 
 def caplet_price(alpha: float, times: Numbers, factors: Numbers, strike: float, start: float, end: float, sigma: float) -> float:
-    """Kind 1: a caplet on the rate from start to end, both of which the curve has."""
+    """Kind 1: a caplet on the rate from start to end. Needs the curve at both."""
     return _served(_optionlet(_caplet_price, alpha, times, factors, strike, start, end, sigma, "sigma")).value
 
 
 def floorlet_price(alpha: float, times: Numbers, factors: Numbers, strike: float, start: float, end: float, sigma: float) -> float:
-    """Kind 2: a floorlet on the rate from start to end, both of which the curve has."""
+    """Kind 2: a floorlet on the rate from start to end. Needs the curve at both."""
     return _served(_optionlet(_floorlet_price, alpha, times, factors, strike, start, end, sigma, "sigma")).value
 
 
@@ -851,12 +855,12 @@ def _bond_option(function, alpha, times, factors, t, bond, strike, sigma):
 
 
 def bond_put_price(alpha: float, times: Numbers, factors: Numbers, t: float, bond: float, strike: float, sigma: float) -> float:
-    """Kind 3: a put at t on the bond that pays 1 at the bond time; the curve has both."""
+    """Kind 3: a put at t on the bond that pays 1 at the bond time. Needs the curve at both."""
     return _bond_option(_bond_put_price, alpha, times, factors, t, bond, strike, sigma)
 
 
 def bond_call_price(alpha: float, times: Numbers, factors: Numbers, t: float, bond: float, strike: float, sigma: float) -> float:
-    """Kind 4: a call at t on the bond that pays 1 at the bond time; the curve has both."""
+    """Kind 4: a call at t on the bond that pays 1 at the bond time. Needs the curve at both."""
     return _bond_option(_bond_call_price, alpha, times, factors, t, bond, strike, sigma)
 
 
@@ -1009,7 +1013,7 @@ def calibrate_to_instruments(
 ) -> Basket:
     """A fit for each of at most 64 caplets, and one for each with its volatility bumped. The first refusal refuses the basket.
 
-    `normals` says of each quoted volatility whether it is normal (True) or Black's (False)."""
+    `normals` says of each quoted volatility whether it is normal (True) or Black's (False). Needs the curve at each start and end."""
     report = _served(
         _calibrate_to_instruments(
             _number("alpha", alpha),

@@ -1,6 +1,7 @@
 /*
- * Fits a sigma to a swaption's Black volatility, prices the swaption with it, and shows a call that is refused. The curve and the
- * swap are those of examples/desk.run, whose job 9 is the same fit. From the repository, after tools/library/build:
+ * Fits a sigma to a swaption's Black volatility, prices the swaption with it, at a time between two points of the curve too, and
+ * shows a call that is refused. The curve and the swap are those of examples/desk.run, whose job 9 is the same fit. From the
+ * repository, after tools/library/build:
  *
  *     cc -Iinclude examples/c/fit.c target/lib/libcalstwid.a -o target/fit && target/fit
  */
@@ -11,7 +12,7 @@
 #include <stdlib.h>
 #include <string.h>
 
-/* The day after each time stands on the curve too, since a forward rate is taken over it. */
+/* As in the run file, the day after each time stands on the curve too, since a forward rate is taken over it. */
 #define DAY (1.0 / 365.0)
 #define LIST(list) list, sizeof(list) / sizeof(list)[0]
 
@@ -22,6 +23,7 @@ static const double factors[] = {
     0.9704455335485082, 0.9703657741797423, 0.9559974818331,    0.9559189099266334, 0.9417645335842487, 0.9416871314610712,
     0.9139311852712282, 0.9138560707265034, 0.8869204367171575, 0.8868475421427249, 0.8607079764250578, 0.8606372362108797};
 static const double payments[] = {2.0, 3.0, 4.0, 5.0};
+static const double late_payments[] = {2.0, 3.0, 4.0, 6.0};
 static const double accruals[] = {1.0, 1.0, 1.0, 1.0};
 
 /* A number with as few digits as read back to it, and its bits. */
@@ -59,8 +61,17 @@ int main(void)
     show("value", price.value);
     show("rate", price.rate);
 
-    /* 0.75 is not among the curve's times, and a curve is not interpolated */
+    /* neither 0.75 nor the day after it is on the curve: their factors are found between its points */
     price = calstwid_swaption_price(alpha, LIST(times), LIST(factors), LIST(payments), LIST(accruals), strike, 0.75, fit.sigma);
+    if (price.answer != CALSTWID_SERVED) {
+        printf("refused with %" PRIu64 ": %s\n", price.answer, calstwid_sentence(price.answer));
+        return 1;
+    }
+    show("at 0.75", price.value);
+
+    /* the last payment is after the curve's last point */
+    price = calstwid_swaption_price(alpha, LIST(times), LIST(factors), LIST(late_payments), LIST(accruals), strike, option_time,
+                                    fit.sigma);
     printf("refused with %" PRIu64 ": %s\n", price.answer, calstwid_sentence(price.answer));
     return 0;
 }

@@ -124,12 +124,13 @@ FINDINGS = [
     ),
     (
         "missing-factor", "A missing factor counts as 0 inside `swaption_price`'s search",
-        run(0.1, curve=[(1, 1), (2, 0.97), (3, 0.94)], coupons=[(2, 1), (3, 1)],
+        run(0.1, curve=[(1 + H, 1), (2, 0.97), (3, 0.94)], coupons=[(2, 1), (3, 1)],
             jobs=[job(5, 0.03, 1, 0.01), job(11, 0.03, 1, 0.01)]),
         ["refuses", "refuses"],
-        "The factor at t + h is missing. In the search `unwrap_or(0.0)` makes every A 0 and the whole ladder and 200 "
-        "halvings run on sums of 0; the pricing after it looks the factor up again and returns the error. Nothing "
-        "wrong is served, but the search's result meant nothing. Document 01: 8, before the search.",
+        "The curve begins a day after the option time, so that there is no factor at t. In the search `unwrap_or(0.0)` makes "
+        "every A 0 and the whole ladder and 200 halvings run on sums of 0; the pricing after it looks the factor up again and "
+        "returns the error. Nothing wrong is served, but the search's result meant nothing. Document 01: 8, before the search, "
+        "which document 02, A.4, leaves for times before the first point or after the last.",
     ),
     (
         "zero-variance", "A bond option at the money without variance is NaN",

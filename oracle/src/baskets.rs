@@ -1,8 +1,10 @@
 //! Baskets from a seed.
 
+use crate::call_inputs::{CURVES, NO_FACTOR};
 use crate::calls::Dice;
 use crate::generate;
 use crate::judge::{self, Caplet};
+use crate::numbers::Numbers;
 use crate::slips::Slip;
 
 /// What a basket asks.
@@ -77,13 +79,21 @@ fn market(dice: &mut Dice, most: u64) -> Request {
 
 /// Whether a caplet's own fit is served; its bumped fit may be refused.
 fn fits_alone(ask: &Request, one: &Caplet) -> bool {
-    let answer = judge::basket(ask.alpha, &ask.curve, std::slice::from_ref(one));
+    let answer = judge::basket(ask.alpha, &ask.curve, std::slice::from_ref(one), Numbers::RIGHT);
     answer.code == 0 || answer.bumping
 }
 
-/// The caplets of a generated run file, mostly without those that are refused.
+/// The caplets of a generated run file, now and then of one about its curve, mostly
+/// without those that are refused.
 fn from_run_file(dice: &mut Dice, seed: u64, index: u64) -> Option<Request> {
-    let (bytes, _) = generate::generate(seed, index, generate::Pillars::Mostly);
+    let mut all = dice.below(4) == 0;
+    let bytes = if dice.below(2) == 0 {
+        let category = CURVES[dice.below(CURVES.len() as u64) as usize];
+        all |= category == NO_FACTOR;
+        generate::of_category(category, seed, index)
+    } else {
+        generate::generate(seed, index, generate::Files::All).0
+    };
     let run = judge::read(&bytes, Slip::Nothing)?;
     let asked: Vec<Caplet> = run
         .jobs
@@ -102,7 +112,6 @@ fn from_run_file(dice: &mut Dice, seed: u64, index: u64) -> Option<Request> {
         curve: run.curve.clone(),
         entries: Vec::new(),
     };
-    let all = dice.below(4) == 0;
     ask.entries = asked.into_iter().filter(|one| all || fits_alone(&ask, one)).take(65).collect();
     Some(ask)
 }
@@ -135,7 +144,7 @@ fn spoil(dice: &mut Dice, ask: &mut Request) {
         1 => one.start = wrong,
         2 => one.end = if dice.below(2) == 0 { one.start } else { wrong },
         3 => one.volatility = wrong,
-        _ => one.end += 1.0 / 512.0,
+        _ => one.end += if dice.below(2) == 0 { 1.0 / 512.0 } else { 1000.0 },
     }
 }
 

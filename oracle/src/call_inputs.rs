@@ -149,10 +149,10 @@ impl Inputs {
     /// rare category.
     fn job(&mut self, kind: u64) -> Vec<Arg> {
         let categories = rare(kind);
-        let mut rare = if categories.is_empty() || self.dice.below(4) > 0 {
-            ""
-        } else {
-            *pick(&mut self.dice, categories)
+        let mut rare = match self.dice.below(8) {
+            0 | 1 if !categories.is_empty() => *pick(&mut self.dice, categories),
+            2 | 3 => *pick(&mut self.dice, CURVES),
+            _ => "",
         };
         loop {
             if let Some((run, job)) = self
@@ -163,7 +163,7 @@ impl Inputs {
                 return arguments(&run, &job);
             }
             let bytes = if rare.is_empty() {
-                generate::generate(self.seed, self.next_file, generate::Pillars::Mostly).0
+                generate::generate(self.seed, self.next_file, generate::Files::All).0
             } else {
                 generate::of_category(rare, self.seed, self.next_file)
             };
@@ -182,8 +182,9 @@ impl Inputs {
                     waiting.push_back((Rc::clone(&run), *job));
                 }
             }
-            if !run.jobs.iter().any(|job| job.kind == kind) {
-                rare = ""; // a category without jobs of this kind
+            // A category without jobs of this kind; those about curves have them now and then.
+            if !run.jobs.iter().any(|job| job.kind == kind) && !CURVES.contains(&rare) {
+                rare = "";
             }
         }
     }
@@ -249,7 +250,7 @@ impl Inputs {
     fn piece(&mut self, function: usize) -> Call {
         while self.pieces.is_empty() {
             let seed = self.seed ^ 0x7069_6563_6573;
-            let (file, _) = generate::generate(seed, self.next_file, generate::Pillars::Mostly);
+            let (file, _) = generate::generate(seed, self.next_file, generate::Files::All);
             self.next_file += 1;
             let count = with_pieces(&file, <[Vec<u8>]>::len) as u64;
             let dice = &mut self.dice;
@@ -288,14 +289,24 @@ impl Inputs {
 
 const OVERFLOWING: &str = "limit/overflowing-fit";
 
+pub const NO_FACTOR: &str = "curve/not-finite";
+
+/// Categories of files in which a wrong factor between points shows.
+pub const CURVES: &[&str] = &[
+    "curve/last-digit",
+    "curve/last-digit",
+    NO_FACTOR,
+    NO_FACTOR,
+    "curve/beside",
+    "curve/wild",
+];
+
 /// Whether a fit is refused by 13.
 fn overflows(run: &Run, job: &Job) -> bool {
     let case = Case {
         run,
         job: *job,
-        n: Numbers {
-            slip: Slip::Nothing,
-        },
+        n: Numbers::RIGHT,
     };
     case.answer(&mut Trace::default()).code == 13
 }
@@ -510,14 +521,28 @@ fn sigma(dice: &mut Dice) -> f64 {
     }
 }
 
-/// A curve that has these times, among others.
+/// A curve that has these times, among others, or points before and after them and
+/// here and there between.
 fn curve(dice: &mut Dice, needed: &[f64]) -> [Arg; 2] {
     let mut times = needed.to_vec();
-    for _ in 0..dice.below(6) {
-        times.push(dice.between(0.0, 12.0));
-    }
-    if dice.below(16) == 0 {
-        times.push(-dice.between(0.0, 2.0));
+    let between = dice.below(3) == 0;
+    if between {
+        let reach = |times: &[f64], of: fn(f64, f64) -> f64| times.iter().copied().reduce(of);
+        let first = reach(&times, f64::min).unwrap_or(0.0) - dice.between(0.0, 0.1);
+        let last = reach(&times, f64::max).unwrap_or(1.0) + dice.between(0.0, 0.1);
+        // Some of the times stay.
+        times.retain(|_| dice.below(8) == 0);
+        times.extend([first, last]);
+        for _ in 0..dice.below(40) {
+            times.push(dice.between(first, last));
+        }
+    } else {
+        for _ in 0..dice.below(6) {
+            times.push(dice.between(0.0, 12.0));
+        }
+        if dice.below(16) == 0 {
+            times.push(-dice.between(0.0, 2.0));
+        }
     }
     times.retain(|time| time.is_finite());
     times.sort_by(f64::total_cmp);
@@ -538,7 +563,8 @@ fn curve(dice: &mut Dice, needed: &[f64]) -> [Arg; 2] {
         }
     }
     let level = dice.between(-0.02, 0.08);
-    let any = dice.below(16) == 0;
+    // Far from 1 a factor's logarithm shows its last digits.
+    let any = dice.below(if between { 4 } else { 16 }) == 0;
     let scale = if dice.below(12) == 0 {
         dice.log_between(1e-6, 1e9)
     } else {
@@ -1405,69 +1431,99 @@ fn early(dice: &mut Dice, call: &mut Call, turn: usize) {
     }
 }
 
-/// A time that the curve does not have, or nearly has.
+/// Two curves with a time each whose factor is NaN or infinite, and a time before and
+/// one after it that have theirs.
+const NOT_FINITE: [(&[(f64, f64)], f64, [f64; 2]); 2] = [
+    (&[(-1e308, 0.9), (1.2e308, 0.8)], 1e308, [1.0, 1.2e308]),
+    (
+        &[
+            (0.7057691290677448, 9.469050158921633e-238),
+            (3.2464201598086486, f64::MAX),
+            (5.0, 1.0),
+        ],
+        3.246420159808648,
+        [1.0, 4.0],
+    ),
+];
+
+/// The arguments that are times to be looked up.
+const LOOKED_UP: [&str; 8] = [
+    "t", "start", "bond", "end", "payments", "grid", "starts", "ends",
+];
+
+/// A time at which the curve has no factor, or nearly none.
 fn lookups(dice: &mut Dice, call: &mut Call, turn: usize) {
-    let times = call.table().position("times").unwrap();
-    match turn % 6 {
-        0 => {
-            call.args[times] = Arg::Floats(Vec::new());
-            call.args[times + 1] = Arg::Floats(Vec::new());
+    let place = call.table().position("times").unwrap();
+    let mut points: Vec<(f64, f64)> = call
+        .floats(place)
+        .iter()
+        .zip(call.floats(place + 1))
+        .map(|(time, factor)| (*time, *factor))
+        .collect();
+    let at = dice.below(points.len().max(1) as u64) as usize;
+    let option = get(call, "t").or(get(call, "start")).unwrap_or(1.0);
+    match turn % 9 {
+        0 => points.clear(),
+        1 => drop(points.drain(..at)),
+        2 => points.truncate(at),
+        3 if !points.is_empty() => points[at].0 = beside(dice, points[at].0),
+        4 if !points.is_empty() => drop(points.remove(at)),
+        5 => {
+            let (steep, missing, others) = NOT_FINITE[dice.below(2) as usize];
+            points = steep.to_vec();
+            move_times(call, others);
+            move_one(dice, call, turn / 9, |_| missing);
         }
-        1 | 2 => {
-            // One point less.
-            let count = call.length(times);
-            if count > 0 && call.length(times + 1) == count {
-                // That of a day after the option, or any other.
-                let after = get(call, "t").map(|t| t + H);
-                let after = call
-                    .floats(times)
-                    .iter()
-                    .position(|time| Some(*time) == after);
-                let at = match after {
-                    Some(at) if turn % 6 == 1 => at,
-                    _ => dice.below(count as u64) as usize,
-                };
-                for place in [times, times + 1] {
-                    if let Arg::Floats(list) = &mut call.args[place] {
-                        list.remove(at);
-                    }
-                }
+        6 => {
+            // Everything within a day, and the curve's end: no factor at t + h.
+            points = vec![(option - 2.0 * H, 1.0), (option + 0.5 * H, 0.99)];
+            move_times(call, [option, option + 0.5 * H]);
+        }
+        7 => move_one(dice, call, turn / 9, |time| f64::from_bits(time.to_bits() ^ 1)),
+        _ => {
+            let (first, last) = match (points.first(), points.last()) {
+                (Some(first), Some(last)) => (first.0, last.0),
+                _ => return,
+            };
+            let outside = match dice.below(4) {
+                0 => first / 2.0,
+                1 => beside(dice, first),
+                2 => beside(dice, last),
+                _ => last + 0.123,
+            };
+            move_one(dice, call, turn / 9, |_| outside);
+        }
+    }
+    call.args[place] = Arg::Floats(points.iter().map(|point| point.0).collect());
+    call.args[place + 1] = Arg::Floats(points.iter().map(|point| point.1).collect());
+}
+
+/// All option times of a call brought to one, and all later ones to another.
+fn move_times(call: &mut Call, [option, later]: [f64; 2]) {
+    for (place, (argument, _)) in call.table().arguments.iter().enumerate() {
+        match (*argument, &mut call.args[place]) {
+            ("t" | "start", number) => *number = Arg::Number(option),
+            ("bond" | "end", number) => *number = Arg::Number(later),
+            ("starts", Arg::Floats(list)) => list.fill(option),
+            ("payments" | "grid" | "ends", Arg::Floats(list)) => list.fill(later),
+            _ => {}
+        }
+    }
+}
+
+/// One of the times that are looked up, in turn, put elsewhere.
+fn move_one(dice: &mut Dice, call: &mut Call, turn: usize, to: impl Fn(f64) -> f64) {
+    match some_of(turn, call, &LOOKED_UP) {
+        Some(argument @ ("payments" | "grid" | "starts" | "ends")) => {
+            if let Some(one) = element(dice, call, argument) {
+                *one = to(*one);
             }
         }
-        3 => {
-            let up = beside(dice, 1.0) - 1.0;
-            if let Some(one) = element(dice, call, "times") {
-                *one += one.abs() * up;
-            }
+        Some(argument) => {
+            let now = get(call, argument).unwrap();
+            set(call, argument, to(now));
         }
-        _ => match some_of(
-            turn / 6,
-            call,
-            &[
-                "t", "start", "bond", "end", "payments", "grid", "starts", "ends",
-            ],
-        ) {
-            Some(argument @ ("payments" | "grid" | "starts" | "ends")) => {
-                let coin = dice.below(2) == 0;
-                if let Some(one) = element(dice, call, argument) {
-                    *one = if coin {
-                        f64::from_bits(one.to_bits() ^ 1)
-                    } else {
-                        *one + 0.123
-                    };
-                }
-            }
-            Some(argument) => {
-                let now = get(call, argument).unwrap();
-                let value = if dice.below(2) == 0 {
-                    beside(dice, now)
-                } else {
-                    now + 0.123
-                };
-                set(call, argument, value);
-            }
-            None => {}
-        },
+        None => {}
     }
 }
 

@@ -16,7 +16,7 @@ use crate::elementary;
 use crate::judge::{self, Answer, Caplet, Case, Job, Run, Search, Term, Trace};
 use crate::numbers::Numbers;
 use crate::shim::{self, DualFwd, TableCurve};
-use crate::slips::Slip;
+use crate::slips::{self, Slip};
 use std::cell::RefCell;
 
 const H: f64 = 1.0 / 365.0;
@@ -52,7 +52,7 @@ pub fn judged(call: &Call, slip: &str) -> Result<Outcome, String> {
         return Ok(call.refused(99));
     }
     match call.name() {
-        "calibrate_to_instruments" => Ok(basket(call)),
+        "calibrate_to_instruments" => Ok(basket(call, slip)),
         "find_critical_rate" | "implicit_critical_rate" => critical_rate(call, slip),
         _ if kind(call.name()).is_some() => job(call, slip),
         _ => no_kind(call, slip),
@@ -147,6 +147,13 @@ pub fn kind(name: &str) -> Option<u64> {
     })
 }
 
+/// The judge's arithmetic with the slip of that name, if it is one of its own.
+fn numbers(slip: &str) -> Numbers {
+    Numbers {
+        slip: slips::named(slip).unwrap_or(Slip::Nothing),
+    }
+}
+
 fn pairs(call: &Call, first: usize) -> Vec<(f64, f64)> {
     let (one, other) = (call.floats(first), call.floats(first + 1));
     one.iter()
@@ -204,9 +211,7 @@ fn job(call: &Call, slip: &str) -> Result<Outcome, String> {
     let case = Case {
         run: &run,
         job,
-        n: Numbers {
-            slip: crate::slips::named(slip).unwrap_or(Slip::Nothing),
-        },
+        n: numbers(slip),
     };
     let mut trace = Trace::default();
     let answer = case.answer(&mut trace);
@@ -266,7 +271,7 @@ fn search_words(search: &Search) -> Vec<u64> {
     words
 }
 
-fn basket(call: &Call) -> Outcome {
+fn basket(call: &Call, slip: &str) -> Outcome {
     let Arg::Bools(normals) = &call.args[3] else {
         unreachable!()
     };
@@ -281,7 +286,7 @@ fn basket(call: &Call) -> Outcome {
             volatility: call.floats(7)[place],
         })
         .collect();
-    let answer = judge::basket(call.number(0), &pairs(call, 1), &entries);
+    let answer = judge::basket(call.number(0), &pairs(call, 1), &entries, numbers(slip));
     if answer.code != 0 {
         return call.refused(u64::from(answer.code));
     }
@@ -337,12 +342,7 @@ fn critical_rate(call: &Call, slip: &str) -> Result<Outcome, String> {
             kind: 6,
             ..Job::default()
         },
-        n: Numbers {
-            slip: match slip {
-                "" => Slip::Nothing,
-                _ => crate::slips::named(slip).unwrap_or(Slip::Nothing),
-            },
-        },
+        n: numbers(slip),
     };
     if rows.is_empty() && slip == "no-terms-7" {
         return Ok(call.refused(7));
@@ -434,7 +434,7 @@ struct Used {
     positive: Vec<f64>,
     /// A pillar list that may not be empty.
     pillars: Option<usize>,
-    /// Times that the curve must have.
+    /// Times at which the curve must have a factor.
     needed: Vec<f64>,
 }
 
@@ -553,17 +553,37 @@ fn breaks(call: &Call, used: &Used, rule: u64, slip: &str) -> bool {
         }
         7 => used.pillars == Some(0) && slip != "no-pillars-pass",
         _ => {
-            let Some(place) = call.table().position("times") else {
-                return false;
-            };
-            let times = call.floats(place);
-            let found = |time: &f64| match slip {
-                "lookup-by-bits" => times.iter().any(|one| one.to_bits() == time.to_bits()),
-                _ => times.iter().any(|one| one == time),
-            };
-            !used.needed.iter().all(found)
+            let (n, curve) = (numbers(slip), curve(call));
+            let missing = |time: &f64| judge::factor(&n, &curve, *time).is_err();
+            used.needed.iter().any(missing)
         }
     }
+}
+
+/// The points of the call's curve; none where it has no curve.
+fn curve(call: &Call) -> Vec<(f64, f64)> {
+    let place = call.table().position("times");
+    place.map_or(Vec::new(), |place| pairs(call, place))
+}
+
+/// The curve for the Rust: the call's own, whose factors at the needed times are
+/// the judge's; with a slip of the judge's these times with their wrong factors.
+fn fetched(call: &Call, used: &Used, slip: &str) -> Result<TableCurve, String> {
+    let (n, points) = (numbers(slip), curve(call));
+    let judged = |time: f64| (time, judge::factor(&n, &points, time).unwrap_or(f64::NAN));
+    let mut needed: Vec<(f64, f64)> = used.needed.iter().map(|time| judged(*time)).collect();
+    if n.slip != Slip::Nothing {
+        needed.sort_by(|one, other| one.0.total_cmp(&other.0));
+        needed.dedup_by(|one, other| one.0 == other.0);
+        return Ok(TableCurve::new(&needed));
+    }
+    let table = TableCurve::new(&points);
+    for (time, factor) in needed.iter().filter(|_| slip.is_empty()) {
+        if table.find(*time).map(f64::to_bits) != Some(factor.to_bits()) {
+            return Err(format!("the factor at {time:e}: judge {factor:e}"));
+        }
+    }
+    Ok(table)
 }
 
 /// The order of the rules; with a slip two neighbours exchanged.
@@ -598,7 +618,8 @@ fn no_kind(call: &Call, slip: &str) -> Result<Outcome, String> {
             written: Vec::new(),
         });
     }
-    let values = match slipped(call, slip).map_or_else(|| rust(call), Ok) {
+    let curve = fetched(call, &used, slip)?;
+    let values = match slipped(call, &curve, slip).map_or_else(|| rust(call, &curve), Ok) {
         Ok(values) => values,
         // With a slip the Rust is asked what it need not answer.
         Err(_) if !slip.is_empty() => return Ok(call.refused(99)),
@@ -622,21 +643,17 @@ fn no_kind(call: &Call, slip: &str) -> Result<Outcome, String> {
 }
 
 /// The Rust's own function.
-fn rust(call: &Call) -> shim::Result<Vec<f64>> {
+fn rust(call: &Call, curve: &TableCurve) -> shim::Result<Vec<f64>> {
     let x = |place: usize| call.number(place);
-    let curve = match call.table().position("times") {
-        Some(place) => TableCurve::new(&pairs(call, place)),
-        None => TableCurve::new(&[]),
-    };
-    let model = || HullWhite::new(x(0), &curve);
+    let model = || HullWhite::new(x(0), curve);
     let value = match call.name() {
         "B" => model().B(x(1), x(2)),
         "zcb_price_volatility" => model().zcb_price_volatility(x(1), x(2), x(3)),
         "short_rate_variance" => model().short_rate_variance(x(1), x(2), x(3)),
-        "A" => model().A(x(3), x(4), x(5), &curve)?,
-        "zcb_price" => model().zcb_price(x(3), x(4), x(5), x(6), &curve)?,
-        "theta" => model().theta(x(3), x(4), &curve)?,
-        "forward_rate_from_curve" => hullwhitemodel::forward_rate(1.0, &curve, x(2))?,
+        "A" => model().A(x(3), x(4), x(5), curve)?,
+        "zcb_price" => model().zcb_price(x(3), x(4), x(5), x(6), curve)?,
+        "theta" => model().theta(x(3), x(4), curve)?,
+        "forward_rate_from_curve" => hullwhitemodel::forward_rate(1.0, curve, x(2))?,
         "d1_d2" => {
             let (d1, d2) = utils::d1_d2(x(0), x(1), x(2), x(3))?;
             return Ok(vec![d1, d2]);
@@ -650,7 +667,7 @@ fn rust(call: &Call) -> shim::Result<Vec<f64>> {
                 .map(|two| (two.0, two.1, 0.0))
                 .collect();
             cut::lay_out_swap(0.0, &coupons);
-            hullwhitecalibration::annuity(&curve, coupons.len() as i64)?
+            hullwhitecalibration::annuity(curve, coupons.len() as i64)?
         }
         "volatility" => hullwhitecalibration::volatility(&pairs(call, 0), x(2))?,
         "hull_white_piecewise_variance" => {
@@ -671,13 +688,9 @@ fn rust(call: &Call) -> shim::Result<Vec<f64>> {
 
 /// The formula of a call that is no kind, worked with the named mistake; nothing
 /// where the slip is none of its formula.
-fn slipped(call: &Call, slip: &str) -> Option<Vec<f64>> {
+fn slipped(call: &Call, curve: &TableCurve, slip: &str) -> Option<Vec<f64>> {
     let x = |place: usize| call.number(place);
-    let factor = |time: f64| {
-        let at = call.table().position("times").unwrap();
-        let found = call.floats(at).iter().position(|one| *one == time);
-        found.map_or(f64::NAN, |place| call.floats(at + 1)[place])
-    };
+    let factor = |time: f64| curve.find(time).unwrap_or(f64::NAN);
     let (exp, ln, exp_m1) = (elementary::exp, elementary::ln, elementary::exp_m1);
     let forward = |t: f64| -ln(factor(t + H) / factor(t)) / H;
     let b = |alpha: f64, t: f64, bond: f64| (1.0 - exp(-alpha * (bond - t))) / alpha;
@@ -700,7 +713,7 @@ fn slipped(call: &Call, slip: &str) -> Option<Vec<f64>> {
         ("zcb_price", "rate-at-0") => {
             let mut other = call.clone();
             other.args[3] = Arg::Number(0.0);
-            return rust(&other).ok();
+            return rust(&other, curve).ok();
         }
         ("theta", "unfused") => {
             let t = x(3);
@@ -776,9 +789,7 @@ fn slipped(call: &Call, slip: &str) -> Option<Vec<f64>> {
             let case = Case {
                 run: &run,
                 job: Job::default(),
-                n: Numbers {
-                    slip: crate::slips::named(slip).unwrap(),
-                },
+                n: numbers(slip),
             };
             vec![case.variance(x(3), x(4))]
         }
@@ -809,9 +820,7 @@ fn slipped(call: &Call, slip: &str) -> Option<Vec<f64>> {
 /// Document 01's own; with a slip the judge's arithmetic, which can make it.
 fn ground(call: &Call, slip: &str) -> f64 {
     let x = |place: usize| call.number(place);
-    let n = Numbers {
-        slip: crate::slips::named(slip).unwrap_or(Slip::Nothing),
-    };
+    let n = numbers(slip);
     match (call.name(), slip) {
         ("fused", "fused-rounds-twice") => x(0) * x(1) + x(2),
         ("fused", _) => x(0).mul_add(x(1), x(2)),

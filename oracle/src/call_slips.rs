@@ -197,7 +197,102 @@ const RULE_SLIPS: &[(&str, &[&str], &str)] = &[
     (
         "step-not-needed",
         &["A", "zcb_price", "theta", "forward_rate_from_curve"],
-        "the time t + h need not be among the curve's",
+        "no factor is needed at t + h",
+    ),
+    (
+        "between-refused",
+        FETCHING,
+        "a time between two curve points is refused by 8, as in document 01",
+    ),
+    (
+        "between-fused",
+        FETCHING,
+        "between two points: one rounding for the product and the sum",
+    ),
+    (
+        "between-ln-of-ratio",
+        FETCHING,
+        "between two points: ln f0 + w × ln(f1/f0)",
+    ),
+    (
+        "between-from-above",
+        FETCHING,
+        "between two points: from the upper one down",
+    ),
+    (
+        "between-two-weights",
+        FETCHING,
+        "between two points: (1 - w) × ln f0 + w × ln f1",
+    ),
+    (
+        "between-times-exp",
+        FETCHING,
+        "between two points: f0 × exp(w × (ln f1 - ln f0))",
+    ),
+    (
+        "between-slope-first",
+        FETCHING,
+        "between two points: ln f0 + (t - t0) × slope",
+    ),
+    (
+        "between-linear",
+        FETCHING,
+        "between two points: linear in the factors",
+    ),
+    (
+        "between-nearest",
+        FETCHING,
+        "between two points: the nearer one's factor",
+    ),
+    (
+        "w-from-the-other-end",
+        FETCHING,
+        "between two points: w = (t1 - t)/(t1 - t0)",
+    ),
+    (
+        "last-factor-carried-on",
+        FETCHING,
+        "between two points: the factor of the one before",
+    ),
+    (
+        "last-factor-carried-out",
+        FETCHING,
+        "after the last point its factor is served",
+    ),
+    (
+        "first-factor-carried-back",
+        FETCHING,
+        "before the first point its factor is served",
+    ),
+    (
+        "extrapolated",
+        FETCHING,
+        "after the last point the last two are drawn out",
+    ),
+    (
+        "extrapolated-back",
+        FETCHING,
+        "before the first point the first two are drawn out",
+    ),
+    (
+        "listed-as-end",
+        FETCHING,
+        "a listed time is worked as the end of the stretch before it",
+    ),
+    (
+        "listed-as-start",
+        FETCHING,
+        "a listed time is worked as the start of the stretch after it",
+    ),
+    (
+        "listed-from-neighbours",
+        FETCHING,
+        "a listed time is worked from the points beside it",
+    ),
+    (
+        "factor-not-finite",
+        FETCHING,
+        "a factor between two points that is not finite is let through",
     ),
     (
         "theta-closed",
@@ -439,6 +534,27 @@ const LISTS: &[&str] = &[
     "calibrate_to_instruments",
     "find_critical_rate",
     "implicit_critical_rate",
+    "generate",
+];
+/// Calls that fetch factors.
+const FETCHING: &[&str] = &[
+    "A",
+    "zcb_price",
+    "theta",
+    "forward_rate_from_curve",
+    "swap_annuity_from_curve",
+    "caplet_price",
+    "floorlet_price",
+    "bond_put_price",
+    "bond_call_price",
+    "swaption_price",
+    "payer_swaption_value",
+    "receiver_swaption_value",
+    "fit_caplet_black",
+    "fit_caplet_normal",
+    "fit_swaption_black",
+    "fit_swaption_normal",
+    "calibrate_to_instruments",
     "generate",
 ];
 const OUTPUTS: &[&str] = &["transition_variances", "generate"];

@@ -20,7 +20,6 @@ use crate::elementary;
 use crate::judge::{self, Caplet, Case, Job, Run, Term};
 use crate::numbers::Numbers;
 use crate::shim::{self, DualFwd, TableCurve};
-use crate::slips::Slip;
 
 /// One argument of a call.
 #[derive(Clone, Debug)]
@@ -312,9 +311,7 @@ fn search(terms: &[f64], step: bool) -> String {
             kind: 6,
             ..Job::default()
         },
-        n: Numbers {
-            slip: Slip::Nothing,
-        },
+        n: Numbers::RIGHT,
     };
     let searched = |_| {
         if step {
@@ -371,7 +368,7 @@ fn caplets(quotes: &[f64]) -> Vec<Caplet> {
 
 fn basket(alpha: f64, curve: &[f64], quotes: &[f64]) -> String {
     let entries = caplets(quotes);
-    let answer = judge::basket(alpha, &pairs(curve), &entries);
+    let answer = judge::basket(alpha, &pairs(curve), &entries, Numbers::RIGHT);
     let mut text = format!(" {}", answer.code);
     for fit in &answer.fits {
         text += &format!(

@@ -1,7 +1,8 @@
 //! The Rust's work counted, for `oracle/counts`: how often a job of kinds 5, 6,
-//! 7, 10 and 11 has the Rust evaluate the coupon sum, look a time up, work A
-//! and B, and ask for exp and ln. The judge's own work is not counted; it tells
-//! beforehand how many evaluations there must be.
+//! 7, 10 and 11 has the Rust evaluate the coupon sum, look a time up, on the curve
+//! or between two of its points, work A and B, and ask for exp and ln. The curve's
+//! own exp and ln are not counted, nor is the judge's work; that tells beforehand
+//! how many evaluations there must be.
 
 use crate::judge::{Case, Job, Run, Search, Trace};
 use crate::numbers::Numbers;
@@ -59,8 +60,7 @@ fn counted(run: &Run, job: &Job) -> Result<String, String> {
         return Err("only kinds 5, 6, 7, 10 and 11, with coupons, are counted".into());
     }
     let judged = |job: Job, trace: &mut Trace| {
-        let n = Numbers { slip: Slip::Nothing };
-        let case = Case { run, job, n };
+        let case = Case { run, job, n: Numbers::RIGHT };
         let answer = case.answer(trace);
         if answer.code != 0 {
             return Err(format!("refused as {}", answer.code));
@@ -95,12 +95,13 @@ fn counted(run: &Run, job: &Job) -> Result<String, String> {
         .map(|coupon| (-run.alpha * (coupon.0 - option)).to_bits())
         .collect();
     Ok(format!(
-        "coupons {} searches {} evaluations {} until_still {} lookups {} a {} b {} exp {} ln {}",
+        "coupons {} searches {} evaluations {} until_still {} lookups {} between {} a {} b {} exp {} ln {}",
         run.coupons.len(),
         expected.len(),
         expected.iter().map(|one| one.rust).sum::<usize>(),
         expected.iter().map(|one| one.until_still).sum::<usize>(),
         asked.lookups.len(),
+        asked.between.len(),
         asked.lookups.iter().filter(|time| **time == next_day).count(),
         asked.exps.iter().filter(|x| of_b.contains(&x.to_bits())).count(),
         asked.exps.len(),

@@ -3,10 +3,12 @@
 //! Everything here is worked out with the four operations, square roots and
 //! fused steps, which round alike on every machine, so a seed gives the same
 //! bytes everywhere. Each file belongs to a category, named "group/variant"; of
-//! every category that is no damaged file some have no pillars, or all if asked:
+//! every category that is no damaged file some have no pillars, and some a curve of
+//! month ends in place of the times that the jobs need, or all if asked:
 //!
 //! - desk:    realistic books, every kind of job;
 //! - fit:     files of fits, converging or, with scaled curves, not;
+//! - curve:   times on, beside, between and outside the points of a curve;
 //! - limit:   full lists, empty lists, zeros, huge and tiny numbers;
 //! - refusal: faults planted one by one or several at a time;
 //! - near:    numbers on a limit of document 01 and one step beside it;
@@ -814,6 +816,259 @@ fn fit_zero_residual(dice: &mut Dice) -> Desk {
 }
 
 // ---------------------------------------------------------------------------
+// curve: times on, beside, between and outside a curve's points
+// ---------------------------------------------------------------------------
+
+/// The next ends of months, in years of 365 days from some day of some month.
+fn month_ends(dice: &mut Dice, count: usize) -> Vec<f64> {
+    const DAYS: [usize; 12] = [31, 28, 31, 30, 31, 30, 31, 31, 30, 31, 30, 31];
+    let first = dice.below(48);
+    let mut days = dice.below(DAYS[first % 12]);
+    let mut times = Vec::new();
+    for month in first + 1..=first + count {
+        times.push(days as f64 / 365.0);
+        // February of every fourth year.
+        days += DAYS[month % 12] + usize::from(month % 48 == 13);
+    }
+    times
+}
+
+/// A curve's factor at any time, by straight lines through the logarithms; outside
+/// that of the first or last point, and 1 where there is none.
+fn drawn(curve: &[(f64, f64)], t: f64) -> f64 {
+    let (before, after) = curve.split_at(curve.partition_point(|point| point.0 < t));
+    match (before.last(), after.first()) {
+        (Some(&one), Some(&two)) => between(one, two, t),
+        (one, two) => one.or(two).map_or(1.0, |point| point.1),
+    }
+}
+
+/// Document 02's factor between two points, A.4.
+fn between((t0, f0): (f64, f64), (t1, f1): (f64, f64), t: f64) -> f64 {
+    let w = (t - t0) / (t1 - t0);
+    exp(ln(f0) + w * (ln(f1) - ln(f0)))
+}
+
+/// Puts a curve of 12 to 360 month ends in place of the desk's, now and then with
+/// today's point before them, or with an end too early. Where its times go beyond 30
+/// years most of its points are left out instead; an empty curve, or one with a fault,
+/// stays as it is.
+fn to_month_ends(dice: &mut Dice, desk: &mut Desk) {
+    let good = |&(t, factor): &(f64, f64)| t.is_finite() && factor > 0.0 && factor.is_finite();
+    let rises = |two: &[(f64, f64)]| two[0].0 < two[1].0;
+    let sound = desk.curve.iter().all(good) && desk.curve.windows(2).all(rises);
+    let (Some(&first), Some(&last), true) = (desk.curve.first(), desk.curve.last(), sound) else {
+        return;
+    };
+    if first.0 < 0.0 || last.0 > 30.0 {
+        desk.curve.retain(|point| *point == first || *point == last || dice.one_in(4));
+        return;
+    }
+    let months = (last.0 * 12.0) as usize + 3;
+    let count = match dice.below(6) {
+        0 => dice.range(12, 360),
+        1 => dice.range(months / 2, months),
+        _ => months,
+    };
+    let mut times = month_ends(dice, count.clamp(12, 360));
+    if times[0] > 0.0 && dice.one_in(2) {
+        times.insert(0, 0.0);
+    }
+    desk.curve = times.iter().map(|&t| (t, drawn(&desk.curve, t))).collect();
+}
+
+/// A desk's book on a curve of month ends.
+fn curve_month_ends(dice: &mut Dice) -> Desk {
+    let mut desk = desk_every_kind(dice);
+    to_month_ends(dice, &mut desk);
+    desk
+}
+
+/// Jobs of every kind at one of these option times and later times, those of fits of
+/// swaptions now and then: three coupons at most and a path over these times.
+fn at_times(dice: &mut Dice, curve: Vec<(f64, f64)>, options: &[f64], later: &[f64]) -> Desk {
+    let mut b = Builder::new(Shape::market(dice), market_alpha(dice));
+    b.desk.pillars = vec![(0.0, market_sigma(dice))];
+    for _ in 0..dice.range(1, 3) {
+        let accrual = dice.between(0.5, 1.0);
+        b.desk.coupons.push((dice.pick(later), accrual, 0.0));
+    }
+    for _ in 0..dice.range(1, 3) {
+        let from = if dice.one_in(2) { options } else { later };
+        let time = dice.pick(from);
+        b.desk.grid.push((time, dice.draw()));
+    }
+    b.desk.grid.sort_by(|one, other| one.0.total_cmp(&other.0));
+    for kind in (1..=12).chain(1..=9) {
+        if matches!(kind, 10 | 11) && !dice.one_in(3) {
+            continue;
+        }
+        let (t, end) = (dice.pick(options), dice.pick(later));
+        let sigma = market_sigma(dice);
+        let ratio = drawn(&curve, end) / drawn(&curve, t);
+        let forward = (1.0 / ratio - 1.0) / (end - t);
+        match kind {
+            1 | 2 => b.job(kind, strike_around(dice, forward), t, end, sigma),
+            3 | 4 => b.job(kind, t, end, ratio * dice.between(0.9, 1.1), sigma),
+            5 => b.job(5, strike_around(dice, forward), t, sigma, 0.0),
+            6 | 7 => b.job(kind, strike_around(dice, forward), t, 1e6, dice.sign()),
+            8 => b.job(8, black_strike(dice, forward), t, end, black_quote(dice)),
+            9 => b.job(9, strike_around(dice, forward), t, end, normal_quote(dice)),
+            10 => b.job(10, black_strike(dice, forward), t, black_quote(dice), 0.0),
+            11 => b.job(11, strike_around(dice, forward), t, normal_quote(dice), 0.0),
+            _ => b.job(12, 0.0, 0.0, 0.0, 0.0),
+        }
+    }
+    b.desk.curve = curve;
+    b.desk
+}
+
+/// Points at these times on a market's curve.
+fn points(dice: &mut Dice, times: &[f64]) -> Vec<(f64, f64)> {
+    let shape = Shape::market(dice);
+    times.iter().map(|&t| (t, shape.factor(t))).collect()
+}
+
+/// Times on the points, and one step beside them on both sides, that of the first and
+/// the last point included.
+fn curve_beside(dice: &mut Dice) -> Desk {
+    let mut times = vec![dice.between(0.1, 1.0)];
+    for _ in 0..dice.range(2, 5) {
+        let space = dice.pick(&[H, 0.25, 1.0]) * dice.between(0.5, 2.0);
+        times.push(times[times.len() - 1] + space);
+    }
+    let curve = points(dice, &times);
+    let mut beside = |times: &[f64]| -> Vec<f64> {
+        times.iter().map(|&t| step(t, dice.range(0, 2) as i64 - 1)).collect()
+    };
+    let half = times.len() / 2;
+    let (options, later) = (beside(&times[..half]), beside(&times[half..]));
+    at_times(dice, curve, &options, &later)
+}
+
+/// Curves of no point, of one and of two.
+fn curve_few_points(dice: &mut Dice) -> Desk {
+    let (t, end) = (dice.between(0.1, 2.0), dice.between(2.5, 5.0));
+    let times = match dice.below(8) {
+        0 => vec![],
+        1 => vec![t],
+        2 => vec![end],
+        3 => vec![t, end],
+        _ => vec![t - 0.1 * dice.unit(), end + 0.1 * dice.unit()],
+    };
+    let curve = points(dice, &times);
+    let (options, later) = ([t, t, step(t, 1), t * 0.5], [end, end, step(end, -1), end + 0.5]);
+    at_times(dice, curve, &options, &later)
+}
+
+/// Points at -0, at +0 and about them, and the same times.
+fn curve_zero(dice: &mut Dice) -> Desk {
+    let mut times = Vec::new();
+    for time in [-1.0, -TINY, 0.0, TINY, H] {
+        if dice.one_in(2) {
+            times.push(if time == 0.0 { dice.pick(&[0.0, -0.0]) } else { time });
+        }
+    }
+    times.extend([1.0, 2.0]);
+    let curve = points(dice, &times);
+    at_times(dice, curve, &[0.0, -0.0, 0.0, -0.0, TINY, 0.5], &[1.0, 1.5, 2.0])
+}
+
+/// Payments within a day: t + h lies after the last point.
+fn curve_one_day(dice: &mut Dice) -> Desk {
+    let t = dice.between(0.1, 5.0);
+    let later = [t + 0.5 * H, t + 0.25 * H];
+    let last = t + dice.pick(&[0.5, 0.75, 1.0, 1.5]) * H;
+    let first = t - dice.pick(&[0.0, 0.05]);
+    let curve = points(dice, &[first, last]);
+    at_times(dice, curve, &[t], &later)
+}
+
+/// Times between points at which another way to round gives other bits: far from 1 a
+/// factor's logarithm shows its last digits.
+fn curve_last_digit(dice: &mut Dice) -> Desk {
+    let scale = dice.log_between(0.1, 10.0);
+    let ends = month_ends(dice, 24);
+    let mut curve = points(dice, &ends);
+    curve.iter_mut().for_each(|point| point.1 *= scale);
+    let way = dice.below(4);
+    let otherwise = |(t0, f0): (f64, f64), (t1, f1): (f64, f64), t: f64| {
+        let (w, low, high) = ((t - t0) / (t1 - t0), ln(f0), ln(f1));
+        exp(match way {
+            0 => w.mul_add(high - low, low),
+            1 => low + w * ln(f1 / f0),
+            2 => high + (t1 - t) / (t1 - t0) * (low - high),
+            _ => low + (t - t0) * ((high - low) / (t1 - t0)),
+        })
+    };
+    let mut times = vec![1.0, 1.5];
+    for _ in 0..4000 {
+        let at = dice.below(23);
+        let (one, two) = (curve[at], curve[at + 1]);
+        let t = dice.between(one.0, two.0);
+        if otherwise(one, two, t) != between(one, two, t) {
+            times.push(t);
+        }
+        if times.len() == 10 {
+            break;
+        }
+    }
+    times.sort_by(f64::total_cmp);
+    let (options, later) = times.split_at(times.len() / 2);
+    at_times(dice, curve, options, later)
+}
+
+/// A time between two points whose factor is NaN or infinite: as an option time or as
+/// a later one.
+fn curve_not_finite(dice: &mut Dice) -> Desk {
+    let (mut curve, mut time) = (vec![(-1e308, 0.9), (1.2e308, 0.8)], 1e308);
+    let (mut before, mut after) = (dice.pick(&[0.0, 1.0, 1e307]), 1.2e308);
+    if dice.one_in(2) {
+        curve = vec![(0.7057691290677448, 9.469050158921633e-238), (3.2464201598086486, f64::MAX)];
+        time = 3.246420159808648;
+        // Or another such, if one is found.
+        let tries = dice.pick(&[0, 4000]);
+        for _ in 0..tries {
+            let one = (dice.between(0.0, 1.0), dice.wild());
+            let two = (dice.between(2.0, 4.0), f64::MAX);
+            let near = step(two.0, -(dice.range(1, 3) as i64));
+            if !between(one, two, near).is_finite() {
+                (curve, time) = (vec![one, two], near);
+                break;
+            }
+        }
+        (before, after) = (dice.between(1.0, 2.0), time + 0.5);
+        curve.push((5.0, dice.pick(&[1.0, f64::MAX])));
+    }
+    if dice.one_in(2) {
+        at_times(dice, curve, &[time], &[after])
+    } else {
+        at_times(dice, curve, &[before], &[time, time, after])
+    }
+}
+
+/// Factors of any size, spans that round to nothing or overflow.
+fn curve_wild(dice: &mut Dice) -> Desk {
+    let mut times: Vec<f64> = (0..dice.range(2, 5)).map(|_| dice.sign() * dice.wild()).collect();
+    times.sort_by(f64::total_cmp);
+    times.dedup();
+    let curve: Vec<(f64, f64)> = times.iter().map(|&t| (t, dice.wild())).collect();
+    let mut asked = Vec::new();
+    while asked.len() < 8 {
+        let (one, two) = (dice.pick(&times), dice.pick(&times));
+        let time: f64 = match dice.below(4) {
+            0 => one,
+            1 => step(one, dice.pick(&[-1, 1])),
+            2 => one / 2.0 + two / 2.0,
+            _ => one * dice.unit(),
+        };
+        asked.push(if time.is_finite() { time.abs() } else { 1.0 });
+    }
+    asked.sort_by(f64::total_cmp);
+    at_times(dice, curve, &asked[..4], &asked[4..])
+}
+
+// ---------------------------------------------------------------------------
 // limit: full and empty lists, extreme numbers
 // ---------------------------------------------------------------------------
 
@@ -1031,13 +1286,8 @@ fn limit_empty_lists(dice: &mut Dice) -> Desk {
     if dice.one_in(6) {
         desk.jobs.clear();
     }
-    // Option times that are not on the curve.
     if dice.one_in(3) {
-        for job in &mut desk.jobs {
-            if matches!(job.kind, 5 | 6 | 7 | 10 | 11) {
-                job.f[1] = step(job.f[1], -1);
-            }
-        }
+        cut_curve(dice, &mut desk);
     }
     // Kind 5 without coupons and kind 12 without a grid are still checked.
     for _ in 0..dice.below(3) {
@@ -1777,15 +2027,23 @@ fn spoil_rising(dice: &mut Dice, list: &mut Vec<(f64, f64)>, second: &[f64]) {
     }
 }
 
+/// Takes points off one end of the curve, or all: times out there have no factor.
+fn cut_curve(dice: &mut Dice, desk: &mut Desk) {
+    let place = dice.below(desk.curve.len().max(1));
+    match dice.below(5) {
+        0 => desk.curve.clear(),
+        1 | 2 => desk.curve.truncate(place),
+        _ => drop(desk.curve.drain(..place)),
+    }
+}
+
 fn spoil_curve(dice: &mut Dice, desk: &mut Desk) {
     if dice.one_in(3) && !desk.curve.is_empty() {
         let i = dice.below(desk.curve.len());
-        match dice.below(3) {
+        match dice.below(4) {
             0 => desk.curve[i].0 = step(desk.curve[i].0, 1),
-            1 => desk.curve.clear(),
-            _ => {
-                desk.curve.remove(i);
-            }
+            1 => drop(desk.curve.remove(i)),
+            _ => cut_curve(dice, desk),
         }
         return;
     }
@@ -1811,7 +2069,7 @@ fn spoil_coupons(dice: &mut Dice, desk: &mut Desk) {
         0 => coupon.0 = dice.bad(),
         1 => coupon.1 = dice.bad(),
         2 => coupon.2 = dice.bad(),
-        3 => coupon.0 = step(coupon.0, 1),
+        3 => coupon.0 = step(coupon.0, 1) + dice.pick(&[0.0, 100.0]),
         4 => coupon.0 = dice.pick(&[0.0, -0.0, -1.0, 0.01]),
         5 => coupon.1 = dice.pick(&[0.0, -1.0, 1e300, -1e300, -1e6]),
         6 => coupon.2 = dice.pick(&[-1.0, -TINY, -0.0]),
@@ -1835,7 +2093,7 @@ fn spoil_grid(dice: &mut Dice, desk: &mut Desk) {
         0 => desk.grid[i].0 = dice.bad(),
         1 => desk.grid[i].1 = dice.bad(),
         2 => desk.grid[0].0 = dice.pick(&[-TINY, -1.0, -0.0, -H]),
-        3 => desk.grid[i].0 = step(desk.grid[i].0, 1),
+        3 => desk.grid[i].0 = step(desk.grid[i].0, 1) + dice.pick(&[0.0, 100.0]),
         4 => desk.grid[i].1 = dice.sign() * dice.pick(&[1e308, f64::MAX, 1e200]),
         5 => desk.grid.clear(),
         6 => {
@@ -1869,8 +2127,10 @@ fn refusal_base(dice: &mut Dice) -> Desk {
     if dice.one_in(2) {
         b.own_factors(dice);
     }
-    b.need(0.0);
-    b.need(start * 0.5);
+    // Else times before the first that the jobs need have no factor.
+    if dice.one_in(2) {
+        b.need(0.0);
+    }
     for kind in 1..=12 {
         for _ in 0..2 {
             add_job(&mut b, dice, kind, start);
@@ -1958,9 +2218,7 @@ fn break_list(dice: &mut Dice, desk: &mut Desk, rule: usize) {
                 desk.pillars.clear();
             }
         }
-        _ => {
-            desk.curve.truncate(point);
-        }
+        _ => cut_curve(dice, desk),
     }
 }
 
@@ -1990,8 +2248,8 @@ fn break_job(dice: &mut Dice, job: &mut Job, rule: usize) {
             (6, Role::Sigma) => -0.01,
             (6, Role::Quote | Role::BlackStrike) => dice.pick(&[0.0, -0.1]),
             (6, Role::Side) => dice.pick(&[0.0, 2.0]),
-            (8, Role::Option | Role::FitOption) => step(now, -1),
-            (8, Role::End) => step(now, 1),
+            (8, Role::Option | Role::FitOption) => dice.pick(&[TINY, 0.001]),
+            (8, Role::End) => now + 1000.0,
             _ => continue,
         };
         job.f[place] = broken;
@@ -2025,8 +2283,8 @@ fn refusal_lists(dice: &mut Dice) -> Desk {
     desk
 }
 
-/// A path that leaves the finite numbers, and mostly misses a later time of
-/// the curve: the missing time comes first.
+/// A path that leaves the finite numbers, and mostly goes on after the curve's
+/// end: the time without a factor comes first.
 fn refusal_path_order(dice: &mut Dice) -> Desk {
     let count = dice.range(3, 8);
     let (mut b, _) = market(dice, 0, count);
@@ -2042,8 +2300,23 @@ fn refusal_path_order(dice: &mut Dice) -> Desk {
         let after = desk.curve.iter().position(|p| p.0 > desk.grid[place].0);
         let first = after.unwrap_or(0);
         let gone = dice.range(first, desk.curve.len() - 1);
-        desk.curve.remove(gone);
+        desk.curve.truncate(gone);
     }
+    desk
+}
+
+/// Searches, fits and paths that meet 9, 10, 12 or 13, on a curve without some of
+/// its ends: 8 comes first.
+fn refusal_no_factor(dice: &mut Dice) -> Desk {
+    let mut desk = match dice.below(6) {
+        0 => limit_mixed_signs(dice),
+        1 => limit_wild_terms(dice),
+        2 => limit_plain_terms(dice),
+        3 => refusal_fit_order(dice),
+        4 => limit_rungs(dice),
+        _ => fit_zero_residual(dice),
+    };
+    cut_curve(dice, &mut desk);
     desk
 }
 
@@ -2760,10 +3033,12 @@ fn layout_bit(dice: &mut Dice) -> Vec<u8> {
 #[derive(Clone, Copy)]
 enum Maker {
     Contents(fn(&mut Dice) -> Desk),
+    /// The same with a curve that is its point, and stays.
+    Curve(fn(&mut Dice) -> Desk),
     Bytes(fn(&mut Dice) -> Vec<u8>),
 }
 
-use Maker::{Bytes, Contents};
+use Maker::{Bytes, Contents, Curve};
 
 /// Every category with its weight.
 const CATEGORIES: &[(&str, u32, Maker)] = &[
@@ -2775,6 +3050,14 @@ const CATEGORIES: &[(&str, u32, Maker)] = &[
     ("fit/scaled-swaption", 30, Contents(fit_scaled_swaption)),
     ("fit/odd-quotes", 30, Contents(fit_odd_quotes)),
     ("fit/zero-residual", 15, Contents(fit_zero_residual)),
+    ("curve/month-ends", 40, Curve(curve_month_ends)),
+    ("curve/beside", 25, Curve(curve_beside)),
+    ("curve/few-points", 15, Curve(curve_few_points)),
+    ("curve/zero", 15, Curve(curve_zero)),
+    ("curve/one-day", 10, Curve(curve_one_day)),
+    ("curve/last-digit", 20, Curve(curve_last_digit)),
+    ("curve/not-finite", 15, Curve(curve_not_finite)),
+    ("curve/wild", 15, Curve(curve_wild)),
     ("limit/one-coupon", 10, Contents(limit_one_coupon)),
     ("limit/64-coupons", 6, Contents(limit_64_coupons)),
     ("limit/64-pillars", 8, Contents(limit_64_pillars)),
@@ -2810,6 +3093,7 @@ const CATEGORIES: &[(&str, u32, Maker)] = &[
     ("refusal/several", 60, Contents(refusal_several)),
     ("refusal/pairs", 40, Contents(refusal_pairs)),
     ("refusal/lists", 30, Contents(refusal_lists)),
+    ("refusal/no-factor", 20, Contents(refusal_no_factor)),
     ("refusal/path-order", 12, Contents(refusal_path_order)),
     ("refusal/fit-order", 12, Contents(refusal_fit_order)),
     ("refusal/sweep", 25, Contents(refusal_sweep)),
@@ -2843,25 +3127,33 @@ const CATEGORIES: &[(&str, u32, Maker)] = &[
     ("layout/bit", 12, Bytes(layout_bit)),
 ];
 
-/// Which files have pillars.
+/// Which files are made.
 #[derive(Clone, Copy, PartialEq)]
-pub enum Pillars {
-    /// One in eight of those that would have some; damaged files all have.
-    Mostly,
-    /// No file has; there are no damaged ones then.
-    Never,
+pub enum Files {
+    /// All. One in eight that would have pillars has none, one in eight has a curve of
+    /// month ends; damaged files have both as they are.
+    All,
+    /// Files without pillars; there are no damaged ones then.
+    NoPillars,
+    /// Files with curves of month ends, and four times as many of the group curve, which
+    /// are as they are; there are no damaged ones then.
+    MonthEnds,
 }
 
 /// The run file of a seed and an index, with its category.
-pub fn generate(seed: u64, index: u64, pillars: Pillars) -> (Vec<u8>, &'static str) {
+pub fn generate(seed: u64, index: u64, files: Files) -> (Vec<u8>, &'static str) {
     let mut dice = Dice::new(seed, index);
-    let wanted = |maker: Maker| pillars == Pillars::Mostly || matches!(maker, Contents(_));
-    let rows = || CATEGORIES.iter().filter(|row| wanted(row.2));
-    let total: u32 = rows().map(|row| row.1).sum();
+    let weight = |weight: u32, maker: Maker| match (files, maker) {
+        (Files::NoPillars | Files::MonthEnds, Bytes(_)) => 0,
+        (Files::MonthEnds, Curve(_)) => 4 * weight,
+        _ => weight,
+    };
+    let total: u32 = CATEGORIES.iter().map(|row| weight(row.1, row.2)).sum();
     let mut place = dice.below(total as usize) as u32;
-    for &(name, weight, maker) in rows() {
+    for &(name, plain, maker) in CATEGORIES {
+        let weight = weight(plain, maker);
         if place < weight {
-            return (make(&mut dice, maker, pillars), name);
+            return (make(&mut dice, maker, files), name);
         }
         place -= weight;
     }
@@ -2871,22 +3163,24 @@ pub fn generate(seed: u64, index: u64, pillars: Pillars) -> (Vec<u8>, &'static s
 /// The run file of a category, a seed and an index.
 pub fn of_category(category: &str, seed: u64, index: u64) -> Vec<u8> {
     let row = CATEGORIES.iter().find(|row| row.0 == category).expect("a category's name");
-    make(&mut Dice::new(seed, index), row.2, Pillars::Mostly)
+    make(&mut Dice::new(seed, index), row.2, Files::All)
 }
 
-fn make(dice: &mut Dice, maker: Maker, pillars: Pillars) -> Vec<u8> {
-    match maker {
-        Contents(build) => {
-            let mut desk = build(dice);
-            if pillars == Pillars::Never || dice.one_in(8) {
-                desk.pillars.clear();
-            }
-            if dice.one_in(10) {
-                desk.bytes_with_gaps(dice)
-            } else {
-                desk.bytes()
-            }
-        }
-        Bytes(build) => build(dice),
+fn make(dice: &mut Dice, maker: Maker, files: Files) -> Vec<u8> {
+    let mut desk = match maker {
+        Contents(build) | Curve(build) => build(dice),
+        Bytes(build) => return build(dice),
+    };
+    if files == Files::NoPillars || dice.one_in(8) {
+        desk.pillars.clear();
+    }
+    let keeps = matches!(maker, Curve(_));
+    if !keeps && (files == Files::MonthEnds || dice.one_in(8)) {
+        to_month_ends(dice, &mut desk);
+    }
+    if dice.one_in(10) {
+        desk.bytes_with_gaps(dice)
+    } else {
+        desk.bytes()
     }
 }

@@ -22,6 +22,8 @@ pub struct Outcome {
     pub unconverged: u32,
     /// Served jobs of kinds 6 and 7 without pillars.
     pub unmoved: u32,
+    /// Served jobs with a factor between two points of the curve.
+    pub between: u32,
 }
 
 /// The six lists of a run file.
@@ -185,6 +187,75 @@ pub fn read(bytes: &[u8], slip: Slip) -> Option<Run> {
     })
 }
 
+// ------------------------------------------------------------------- curve
+
+/// The factor of a curve at a time: "A time on the list keeps its stored factor."
+/// Rule 8 "is left for times before the first or after the last point, for a curve
+/// without points, and for a factor so found that is not finite."
+pub fn factor(n: &Numbers, curve: &[(f64, f64)], time: f64) -> Result<f64, Refusal> {
+    let at = curve.partition_point(|point| point.0 < time);
+    let (before, after) = curve.split_at(at);
+    let listed = match after.first() {
+        Some(point) if n.slips(Slip::LookupBits) => point.0.to_bits() == time.to_bits(),
+        Some(point) => point.0 == time,
+        None => false,
+    };
+    if listed && !n.slips(Slip::ListedBetween) {
+        return Ok(match (before.last(), &after[0], after.get(1)) {
+            (Some(one), listed, _) if n.slips(Slip::ListedAsEnd) => between(n, *one, *listed, time),
+            (_, listed, Some(two)) if n.slips(Slip::ListedAsStart) => {
+                between(n, *listed, *two, time)
+            }
+            (_, listed, _) => listed.1,
+        });
+    }
+    let after = if listed { &after[1..] } else { after };
+    let found = match (before, after) {
+        ([.., one], [two, ..]) => between(n, *one, *two, time),
+        // Only with the slips that leave a listed time, or serve one outside.
+        _ if listed => curve[at].1,
+        ([.., one, two], []) if n.slips(Slip::Extrapolated) => between(n, *one, *two, time),
+        ([], [one, two, ..]) if n.slips(Slip::ExtrapolatedBack) => between(n, *one, *two, time),
+        ([.., last], []) if n.slips(Slip::LastCarriedOut) => last.1,
+        ([], [first, ..]) if n.slips(Slip::FirstCarriedBack) => first.1,
+        _ => return Err(8),
+    };
+    let refused = !found.is_finite() && !n.slips(Slip::NotFiniteFactor)
+        || found == 0.0 && n.slips(Slip::ZeroFactor)
+        || !listed && n.slips(Slip::BetweenRefused);
+    if refused {
+        Err(8)
+    } else {
+        Ok(found)
+    }
+}
+
+/// "exp(ln f0 + w × (ln f1 - ln f0)), where w = (t - t0)/(t1 - t0)"
+fn between(n: &Numbers, (t0, f0): (f64, f64), (t1, f1): (f64, f64), t: f64) -> f64 {
+    let w = match n.slip {
+        Slip::WFromTheOther => (t1 - t) / (t1 - t0),
+        _ => (t - t0) / (t1 - t0),
+    };
+    let (low, high) = (n.ln(f0), n.ln(f1));
+    match n.slip {
+        Slip::BetweenLinear => f0 + w * (f1 - f0),
+        Slip::BetweenNearest => {
+            if w > 0.5 {
+                f1
+            } else {
+                f0
+            }
+        }
+        Slip::LastCarriedOn => f0,
+        Slip::BetweenRatio => n.exp(low + w * n.ln(f1 / f0)),
+        Slip::BetweenFromAbove => n.exp(high + ((t1 - t) / (t1 - t0)) * (low - high)),
+        Slip::BetweenTwoWeights => n.exp((1.0 - w) * low + w * high),
+        Slip::BetweenTimesExp => f0 * n.exp(w * (high - low)),
+        Slip::BetweenSlope => n.exp(low + (t - t0) * ((high - low) / (t1 - t0))),
+        _ => n.exp(n.plain(Slip::BetweenFused, w, high - low, low)),
+    }
+}
+
 // ---------------------------------------------------------------- refusals
 
 /// One call under judgement.
@@ -250,6 +321,21 @@ impl Case<'_> {
             ),
             _ => (None, vec![]),
         }
+    }
+
+    /// The times whose factors the call fetches where it is served.
+    fn fetched(&self) -> Vec<f64> {
+        let (option, later) = self.times();
+        let mut times: Vec<f64> = match self.job.kind {
+            5 if later.is_empty() => Vec::new(),
+            12 => self.run.grid.iter().map(|point| point.0).collect(),
+            _ => option.into_iter().collect(),
+        };
+        if matches!(self.job.kind, 5..=7 | 10..=12) {
+            times.extend(times.clone().iter().map(|t| t + H));
+        }
+        times.extend(later);
+        times
     }
 
     /// Whether the call breaks one of the rules 2 to 7.
@@ -371,14 +457,7 @@ impl Case<'_> {
 
     /// The curve's factor at a time; rule 8.
     fn factor(&self, time: f64) -> Result<f64, Refusal> {
-        let at = self.run.curve.partition_point(|point| point.0 < time);
-        match self.run.curve.get(at) {
-            Some(point) if self.slips(Slip::LookupBits) && point.0.to_bits() != time.to_bits() => {
-                Err(8)
-            }
-            Some(point) if point.0 == time => Ok(point.1),
-            _ => Err(8),
-        }
+        factor(&self.n, &self.run.curve, time)
     }
 
     fn step(&self) -> f64 {
@@ -1231,11 +1310,13 @@ pub struct Basket {
 
 /// "All fits run, then all bumped fits, 13 being met at each one's end; the
 /// first refusal refuses the basket." Rules 1 to 7 look at all entries first.
-pub fn basket(alpha: f64, curve: &[(f64, f64)], entries: &[Caplet]) -> Basket {
+pub fn basket(alpha: f64, curve: &[(f64, f64)], entries: &[Caplet], n: Numbers) -> Basket {
     let mut bumping = false;
-    match served_basket(alpha, curve, entries, &mut bumping) {
+    match served_basket(alpha, curve, entries, n, &mut bumping) {
         Ok(basket) => {
-            confront::basket(alpha, curve, entries, &basket);
+            if n.slip == Slip::Nothing {
+                confront::basket(alpha, curve, entries, &basket);
+            }
             basket
         }
         Err(code) => Basket {
@@ -1251,6 +1332,7 @@ fn served_basket(
     alpha: f64,
     curve: &[(f64, f64)],
     entries: &[Caplet],
+    n: Numbers,
     bumping: &mut bool,
 ) -> Result<Basket, Refusal> {
     if entries.len() > 64 || curve.len() > 2048 {
@@ -1270,9 +1352,7 @@ fn served_basket(
             c: one.end,
             d: one.volatility,
         },
-        n: Numbers {
-            slip: Slip::Nothing,
-        },
+        n,
     };
     // The lowest number that any entry breaks; with no entries alpha and the
     // curve are still looked at.
@@ -1282,9 +1362,7 @@ fn served_basket(
             kind: 12,
             ..Job::default()
         },
-        n: Numbers {
-            slip: Slip::Nothing,
-        },
+        n,
     };
     for rule in 2..=6 {
         if nobody.breaks(rule) || entries.iter().any(|one| case(one).breaks(rule)) {
@@ -1330,6 +1408,7 @@ pub fn judge(bytes: &[u8], slip: Option<&str>) -> Outcome {
         jobs: Vec::new(),
         unconverged: 0,
         unmoved: 0,
+        between: 0,
     };
     let header: &[u8] = b"job kind answer value note\n";
     let Some(run) = read(bytes, slip) else {
@@ -1368,6 +1447,10 @@ pub fn judge(bytes: &[u8], slip: Option<&str>) -> Outcome {
         }
         if answer.code == 0 && matches!(job.kind, 6 | 7) && run.pillars.is_empty() {
             outcome.unmoved += 1;
+        }
+        let unlisted = |time: &f64| run.curve.iter().all(|point| point.0 != *time);
+        if answer.code == 0 && case.fetched().iter().any(unlisted) {
+            outcome.between += 1;
         }
     }
     outcome

@@ -37,6 +37,11 @@ pub struct Numbers {
 }
 
 impl Numbers {
+    /// Without a slip.
+    pub const RIGHT: Numbers = Numbers {
+        slip: Slip::Nothing,
+    };
+
     #[inline]
     pub fn slips(&self, slip: Slip) -> bool {
         self.slip == slip

@@ -1,11 +1,13 @@
 //! The comparison runner: generated files through a program and the judge.
 //!
-//! - `generate SEED INDEX [--no-pillars]` writes one run file;
-//! - `compare PROGRAM N SEED [--detail] [--no-pillars] [--keep DIR]` compares a
-//!   program with the judge on N files, none of which has pillars if so asked;
+//! - `generate SEED INDEX [--no-pillars|--month-end]` writes one run file;
+//! - `compare PROGRAM N SEED [--detail] [--no-pillars|--month-end] [--keep DIR]`
+//!   compares a program with the judge on N files, none of which has pillars, or all of
+//!   which have curves of month ends, if so asked; a PROGRAM of `-` is none, and the
+//!   judge is held to the Rust alone;
 //! - `sensitivity N SEED` tells the judge's slips apart from the judge.
 
-use crate::generate::{generate, Pillars};
+use crate::generate::{generate, Files};
 use crate::judge;
 use crate::slips::{Shows, SHOWS};
 use std::collections::{BTreeMap, BTreeSet};
@@ -24,8 +26,8 @@ const PATIENCE: Duration = Duration::from_secs(60);
 const KEPT: usize = 10;
 
 const USAGE: &str = "usage:
-  oracle generate SEED INDEX [--no-pillars] > FILE
-  oracle compare PROGRAM N SEED [--detail] [--no-pillars] [--keep DIR]
+  oracle generate SEED INDEX [--no-pillars|--month-end] > FILE
+  oracle compare PROGRAM N SEED [--detail] [--no-pillars|--month-end] [--keep DIR]
   oracle sensitivity N SEED";
 
 /// Runs a subcommand and gives the exit code: 0 all well, 1 a difference,
@@ -33,8 +35,9 @@ const USAGE: &str = "usage:
 pub fn main(args: &[String]) -> i32 {
     let words: Vec<&str> = args.iter().map(String::as_str).collect();
     let done = match words.as_slice() {
-        ["generate", seed, index] => generate_command(seed, index, Pillars::Mostly),
-        ["generate", seed, index, "--no-pillars"] => generate_command(seed, index, Pillars::Never),
+        ["generate", seed, index] => generate_command(seed, index, Files::All),
+        ["generate", seed, index, "--no-pillars"] => generate_command(seed, index, Files::NoPillars),
+        ["generate", seed, index, "--month-end"] => generate_command(seed, index, Files::MonthEnds),
         ["compare", program, count, seed, options @ ..] => {
             compare_command(program, count, seed, options)
         }
@@ -59,8 +62,8 @@ fn failed(what: &str, path: &Path, error: std::io::Error) -> String {
 // generate
 // ---------------------------------------------------------------------------
 
-fn generate_command(seed: &str, index: &str, pillars: Pillars) -> Result<i32, String> {
-    let (bytes, category) = generate(number(seed)?, number(index)?, pillars);
+fn generate_command(seed: &str, index: &str, files: Files) -> Result<i32, String> {
+    let (bytes, category) = generate(number(seed)?, number(index)?, files);
     eprintln!("{category}");
     std::io::stdout().write_all(&bytes).map_err(|e| format!("standard output: {e}"))?;
     Ok(0)
@@ -182,6 +185,7 @@ struct Tally {
     refused: u64,
     unconverged: u64,
     unmoved: u64,
+    between: u64,
     differences: u64,
 }
 
@@ -190,6 +194,7 @@ impl Tally {
         self.files += 1;
         self.unconverged += u64::from(outcome.unconverged);
         self.unmoved += u64::from(outcome.unmoved);
+        self.between += u64::from(outcome.between);
         self.differences += u64::from(different);
         self.refused += u64::from(outcome.printed == b"refused 1\n");
         for &(kind, answer) in &outcome.jobs {
@@ -277,6 +282,7 @@ fn print_tally(tally: &Tally, seconds: f64) {
     println!("jobs {}", tally.jobs.values().sum::<u64>());
     println!("unconverged fits {}", tally.unconverged);
     println!("served in kinds 6 and 7 without pillars {}", tally.unmoved);
+    println!("served with a factor between curve points {}", tally.between);
     let served: u64 = tally.jobs.iter().filter(|((_, answer), _)| *answer == 0).map(|(_, n)| n).sum();
     println!("served and put to the Rust {served}");
     println!("refused and not put to it {}", tally.jobs.values().sum::<u64>() - served);
@@ -291,7 +297,7 @@ struct Comparison<'a> {
     detail: bool,
     keep: PathBuf,
     seed: u64,
-    pillars: Pillars,
+    files: Files,
 }
 
 impl Comparison<'_> {
@@ -420,13 +426,14 @@ fn compare_command(
     options: &[&str],
 ) -> Result<i32, String> {
     let (count, seed) = (number(count)?, number(seed)?);
-    let (keep, pillars) = (default_keep(), Pillars::Mostly);
-    let mut work = Comparison { program, detail: false, keep, seed, pillars };
+    let (keep, files) = (default_keep(), Files::All);
+    let mut work = Comparison { program, detail: false, keep, seed, files };
     let mut options = options.iter();
     while let Some(&option) = options.next() {
         match (option, options.as_slice()) {
             ("--detail", _) => work.detail = true,
-            ("--no-pillars", _) => work.pillars = Pillars::Never,
+            ("--no-pillars", _) => work.files = Files::NoPillars,
+            ("--month-end", _) => work.files = Files::MonthEnds,
             ("--keep", [folder, ..]) => {
                 work.keep = PathBuf::from(folder);
                 options.next();
@@ -448,12 +455,16 @@ fn compare_command(
 
 /// Compares on one file.
 fn compare_one(work: &Comparison, index: u64, tally: &mut Tally) -> Result<(), String> {
-    let (bytes, category) = generate(work.seed, index, work.pillars);
+    let (bytes, category) = generate(work.seed, index, work.files);
     let Some(outcome) = judged(&bytes, None) else {
         eprintln!("seed {} index {index} {category}: the judge itself fell over", work.seed);
         tally.differences += 1;
         return Ok(());
     };
+    if work.program == "-" {
+        tally.add(category, &outcome, false);
+        return Ok(());
+    }
     // Now and then the file comes in small pieces.
     let piece = if index % 16 == 15 { 1000 } else { bytes.len().max(1) };
     let run = run_program(work.program, &bytes, piece)?;
@@ -528,7 +539,7 @@ fn sensitivity_command(count: &str, seed: &str) -> Result<i32, String> {
         if index > 0 && index % 1000 == 0 {
             eprintln!("{index} files, {left} slips not yet seen in print");
         }
-        let (bytes, category) = generate(seed, index, Pillars::Mostly);
+        let (bytes, category) = generate(seed, index, Files::All);
         let Some(truth) = judged(&bytes, None) else {
             eprintln!("index {index} {category}: the judge itself fell over");
             return Ok(1);

@@ -1,6 +1,6 @@
 //! What the cut-out Rust stands on: errors, the dual number, the curve, dates,
 //! quotes and trades, reduced to what the cut bodies ask of them. No formula
-//! lives here.
+//! lives here but that of a table curve between its points.
 //!
 //! Dates are positions in a table of (time, accrual) that the caller lays out
 //! before a call: position -1 is the reference date, 0 the first date of the
@@ -83,11 +83,12 @@ thread_local! {
 }
 
 /// What the Rust asked for, in order: the arguments of exp and of ln, and the
-/// times that it looked up on a curve.
+/// times that it looked up on a curve, with those of them between two points.
 pub struct Asked {
     pub exps: Vec<f64>,
     pub lns: Vec<f64>,
     pub lookups: Vec<f64>,
+    pub between: Vec<f64>,
 }
 
 impl Asked {
@@ -96,6 +97,7 @@ impl Asked {
             exps: Vec::new(),
             lns: Vec::new(),
             lookups: Vec::new(),
+            between: Vec::new(),
         }
     }
 }
@@ -147,24 +149,26 @@ pub trait Elementary {
     fn min_01(self, other: Self) -> Self;
 }
 
+/// exp and ln themselves, which nobody notes.
+#[cfg(not(plain))]
+fn exp(x: f64) -> f64 {
+    EXP.with(|memo| memo.at(x))
+}
+#[cfg(not(plain))]
+fn ln(x: f64) -> f64 {
+    LN.with(|memo| memo.at(x))
+}
+#[cfg(plain)]
+use elementary::{exp, ln};
+
 impl Elementary for f64 {
-    #[cfg(plain)]
-    fn exp_01(self) -> f64 {
-        elementary::exp(self)
-    }
-    #[cfg(plain)]
-    fn ln_01(self) -> f64 {
-        elementary::ln(self)
-    }
-    #[cfg(not(plain))]
     fn exp_01(self) -> f64 {
         note(|asked| &mut asked.exps, self);
-        EXP.with(|memo| memo.at(self))
+        exp(self)
     }
-    #[cfg(not(plain))]
     fn ln_01(self) -> f64 {
         note(|asked| &mut asked.lns, self);
-        LN.with(|memo| memo.at(self))
+        ln(self)
     }
     fn exp_m1_01(self) -> f64 {
         if self.abs() > 0.5 {
@@ -396,9 +400,12 @@ pub trait InterestRatesTermStructure<T> {
     fn day_counter(&self) -> Option<DayCounter>;
 }
 
-/// Two lists. A time is on the curve when it equals one of the times as a
-/// number, so -0 equals +0; a time that is not there is an error. For a curve
-/// of coupons' own factors `by_date` holds the factor of each date instead.
+/// Two lists. A time that equals one of the times as a number, so that -0 equals
+/// +0, has its factor; one strictly between two neighbours has document 02's, A.4,
+/// worked anew at each lookup, as a plain table curve does; any other is an error,
+/// and so is a factor that is not finite. The neighbours are found by halving. The
+/// Rust's own exp and ln are noted, those of the curve are not. For a curve of
+/// coupons' own factors `by_date` holds the factor of each date instead.
 pub struct TableCurve {
     times: Vec<f64>,
     factors: Vec<f64>,
@@ -425,24 +432,35 @@ impl TableCurve {
         }
     }
 
-    fn find(&self, time: f64) -> Option<f64> {
-        // The last place found is tried first; where times do not rise, the
-        // first place that matches counts.
-        if self.rising {
-            let last = self.last.get();
-            if self.times.get(last) == Some(&time) {
-                return Some(self.factors[last]);
-            }
-            let place = self.times.partition_point(|at| *at < time);
-            if self.times.get(place) == Some(&time) {
-                self.last.set(place);
-                return Some(self.factors[place]);
-            }
-            None
-        } else {
+    pub fn find(&self, time: f64) -> Option<f64> {
+        // Where times do not rise there are no neighbours, and the first place that
+        // matches counts.
+        if !self.rising {
             let place = self.times.iter().position(|at| *at == time)?;
-            Some(self.factors[place])
+            return Some(self.factors[place]);
         }
+        // The last place found is tried first.
+        let last = self.last.get();
+        if self.times.get(last) == Some(&time) {
+            return Some(self.factors[last]);
+        }
+        let place = self.times.partition_point(|at| *at < time);
+        if *self.times.get(place)? == time {
+            self.last.set(place);
+            return Some(self.factors[place]);
+        }
+        let before = place.checked_sub(1)?;
+        note(|asked| &mut asked.between, time);
+        let factor = self.between(before, time);
+        factor.is_finite().then_some(factor)
+    }
+
+    /// "exp(ln f0 + w × (ln f1 - ln f0)), where w = (t - t0)/(t1 - t0)"
+    fn between(&self, before: usize, t: f64) -> f64 {
+        let (t0, t1) = (self.times[before], self.times[before + 1]);
+        let (log0, log1) = (ln(self.factors[before]), ln(self.factors[before + 1]));
+        let w = (t - t0) / (t1 - t0);
+        exp(log0 + w * (log1 - log0))
     }
 }
 
@@ -462,7 +480,7 @@ impl<T: Scalar> InterestRatesTermStructure<T> for TableCurve {
         match self.find(time) {
             Some(factor) => Ok(T::scalar(factor)),
             None => Err(QSError::NotFoundErr(format!(
-                "time {time} is not on the curve"
+                "the curve has no factor at {time}"
             ))),
         }
     }

@@ -62,8 +62,29 @@ slips! {
     NormalPositive, "normal-positive-closed", Never, "normal functions: the complement from 0 on instead of above 0. N(0) is 0.5 either way";
     // Curve, times and volatility.
     LookupBits, "lookup-by-bits", Printed, "a time is looked up by its bits: -0 is not +0";
+    // Factors between curve points (document 02, A.4).
+    BetweenRefused, "between-refused", Printed, "a time between two points is refused by 8, as in document 01";
+    BetweenFused, "between-fused", Printed, "between two points: w × (ln f1 - ln f0) and ln f0 with one rounding";
+    BetweenRatio, "between-ln-of-ratio", Printed, "between two points: ln f0 + w × ln(f1/f0)";
+    BetweenFromAbove, "between-from-above", Printed, "between two points: ln f1 + v × (ln f0 - ln f1), v = (t1 - t)/(t1 - t0)";
+    BetweenTwoWeights, "between-two-weights", Printed, "between two points: (1 - w) × ln f0 + w × ln f1";
+    BetweenTimesExp, "between-times-exp", Printed, "between two points: f0 × exp(w × (ln f1 - ln f0))";
+    BetweenSlope, "between-slope-first", Printed, "between two points: ln f0 + (t - t0) × ((ln f1 - ln f0)/(t1 - t0))";
+    BetweenLinear, "between-linear", Printed, "between two points: f0 + w × (f1 - f0)";
+    BetweenNearest, "between-nearest", Printed, "between two points: the factor of the nearer one";
+    WFromTheOther, "w-from-the-other-end", Printed, "between two points: w = (t1 - t)/(t1 - t0)";
+    LastCarriedOn, "last-factor-carried-on", Printed, "between two points: the factor of the one before";
+    LastCarriedOut, "last-factor-carried-out", Printed, "after the last point its factor is served";
+    FirstCarriedBack, "first-factor-carried-back", Printed, "before the first point its factor is served";
+    Extrapolated, "extrapolated", Printed, "after the last point the last two are drawn out";
+    ExtrapolatedBack, "extrapolated-back", Printed, "before the first point the first two are drawn out";
+    ListedAsEnd, "listed-as-end", Printed, "a listed time is worked as the end of the stretch before it: exp(ln f) is not always f";
+    ListedAsStart, "listed-as-start", Printed, "a listed time is worked as the start of the stretch after it";
+    ListedBetween, "listed-from-neighbours", Printed, "a listed time is worked from the points beside it";
+    NotFiniteFactor, "factor-not-finite", Printed, "a factor between two points that is not finite is let through; most formulas then end in 9 or 13";
+    ZeroFactor, "factor-zero-refused", Never, "a factor of 0 between two points is refused. None is: the logarithm lies between the points' own but for a last digit, and exp of the least float's logarithm is the least float, also some last digits below it";
     StepOf360, "h-of-360", Printed, "h is 1/360";
-    NoStepNeeded, "h-not-needed", Printed, "kinds 5, 10 and 11 do without a factor at t + h where it is missing (a forward of 0)";
+    NoStepNeeded, "h-not-needed", Printed, "kinds 5, 6, 7, 10 and 11 do without a factor at t + h where it is missing (a forward of 0)";
     VolatilityBefore, "volatility-before", Printed, "volatility: the last pillar before t instead of at or before t";
     VolatilityFirstZero, "volatility-zero-before-first", Printed, "volatility: 0 before the first pillar";
     FirstPillar, "first-pillar-own-time", Printed, "variance: the first pillar starts at its own time";
@@ -97,7 +118,7 @@ slips! {
     // Coupon work ahead of a ladder (document 02, A.3).
     AOfFirstSigma, "a-of-first-sigma", Printed, "kinds 10, 11: A is worked once, at the first sigma of the fit (1e-8), and kept for the searches and the strikes at every other";
     StrikesOfFirstSigma, "strikes-of-first-sigma", Printed, "kinds 10, 11: a search has A at its own sigma, the bond options' strikes have the A of the fit's first sigma";
-    MissingIsZero, "missing-counts-as-0", Printed, "kinds 5, 10, 11: a coupon whose payment time, t or t + h is missing has A = 0 in the search, as in the Rust, and 8 is met where the search has found its rate; shows where the search meets 9 or 10 first";
+    MissingIsZero, "missing-counts-as-0", Printed, "kinds 5, 10, 11: a coupon whose payment time, t or t + h has no factor has A = 0 in the search, as in the Rust, and 8 is met where the search has found its rate; shows where the search meets 9 or 10 first";
     BFromZero, "b-from-0", Printed, "kinds 5, 10, 11: the B worked ahead of the ladders is B(0, T)";
     // Path.
     PathNoShift, "path-no-half-variance", Printed, "path: the shift is the forward alone";

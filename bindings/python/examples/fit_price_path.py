@@ -16,15 +16,15 @@ ROOT = os.path.realpath(os.path.join(os.path.dirname(os.path.realpath(__file__))
 sys.path.insert(0, os.path.join(ROOT, "bindings", "python"))
 import calstwid  # noqa: E402
 
-DAY = 1.0 / 365.0
 ALPHA, STRIKE, OPTION_TIME, QUOTED = 0.1, 0.031, 1.0, 0.22
 PAYMENTS, ACCRUALS = [2.0, 3.0, 4.0, 5.0], [1.0, 1.0, 1.0, 1.0]
 GRID = [month / 12.0 for month in range(1, 61)]
 
 
 def curve():
-    """Rates that rise from 2.6 % towards 3.3 %, at the grid's times and a day after each: nothing is interpolated, and a forward rate wants both."""
-    times = sorted({0.0, DAY, *GRID, *(time + DAY for time in GRID)})
+    """Rates that rise from 2.6 % towards 3.3 %, a point a month, one more than the grid has: a forward rate wants the day after its time, which lies
+    between two points."""
+    times = [month / 12.0 for month in range(62)]
     return times, [math.exp(-(0.033 - 0.007 * math.exp(-time / 2.0)) * time) for time in times]
 
 
@@ -86,9 +86,9 @@ def main():
     print(f"short rate after 1 year {path[11]:.6f}, after 5 years {path[-1]:.6f}")
 
     try:
-        calstwid.fit_swaption_black(ALPHA, *swap[:-1], 1.01, vol=QUOTED)
+        calstwid.fit_swaption_black(ALPHA, times, factors, [*PAYMENTS, 6.0], [*ACCRUALS, 1.0], STRIKE, OPTION_TIME, vol=QUOTED)
     except calstwid.Refused as refused:
-        print(f"with an option time of 1.01, which the curve does not have: {refused}")
+        print(f"with a payment after 6 years, behind the curve's last point: {refused}")
 
     try:
         draw(picture, fit, sigmas, residuals, path, forwards)

@@ -83,8 +83,55 @@ def examples():
             yield os.path.basename(path), file.read(), out.read()
 
 
+def example(name):
+    return next(RunFile(data) for one, data, _ in examples() if one == name)
+
+
 def desk():
-    return next(RunFile(data) for name, data, _ in examples() if name == "desk.run")
+    return example("desk.run")
+
+
+# ---- document 01's exp and ln and document 02's factor between two points, written out: Python rounds each operation once and fuses none
+
+LN_2 = 0.693147180369123816490, 1.90821492927058770002e-10
+
+
+def written_exp(x):
+    if x != x or x > 710 or x < -746:
+        return x if x != x else INFINITY if x > 0 else 0.0
+    product = x * 1.4426950408889634
+    k = math.trunc(product) + (math.copysign(1, product) if abs(product - math.trunc(product)) >= 0.5 else 0)
+    r, p = (x - k * LN_2[0]) - k * LN_2[1], 1.0
+    for n in range(13, 0, -1):
+        p = 1 + (r * p) / n
+    a = math.trunc(k / 2)
+    return p * 2.0**a * 2.0 ** (k - a)
+
+
+def written_ln(x):
+    """Of a number above 0."""
+    m, k = math.frexp(x)
+    m, k = (m, k) if m >= 0.75 else (2 * m, k - 1)
+    s, t = (m - 1) / (m + 1), 0.0
+    z = s * s
+    for n in range(25, 0, -2):
+        t = 1 / n + z * t
+    return k * LN_2[0] + (2 * (s * t) + k * LN_2[1])
+
+
+def between(t0, f0, t1, f1, t):
+    w = (t - t0) / (t1 - t0)
+    return written_exp(written_ln(f0) + w * (written_ln(f1) - written_ln(f0)))
+
+
+def read_at(times, factors, t):
+    """The factor at a time on the curve or between two of its points, by reading along the list."""
+    for place, time in enumerate(times):
+        if time == t:
+            return factors[place]
+        if place and times[place - 1] < t < time:
+            return between(times[place - 1], factors[place - 1], time, factors[place], t)
+    raise AssertionError(f"{t} is outside the curve")
 
 
 class Refusals(unittest.TestCase):
@@ -123,7 +170,7 @@ class Files(unittest.TestCase):
                 self.assertEqual(RunFile(data).printed(), expected.decode(), entry)
                 calls += 1
             seen += 1
-        self.assertEqual(seen, 699)
+        self.assertEqual(seen, 879)
         self.assertGreater(calls, 300)
 
     def test_files_that_break_their_layout(self):
@@ -233,6 +280,171 @@ class Desk(Refusals):
         for wrong in ([0, 1], ["", "x"], [0.0, 1.0], None, b"\0\1", "ab"):
             with self.assertRaises(TypeError):
                 calstwid.calibrate_to_instruments(*self.curve, wrong, strikes, starts, ends, [0.25, 0.0075])
+
+
+class BetweenPoints(Refusals):
+    """Document 02, A.4: factors between curve points, over the month ends of examples/month-end.run."""
+
+    def setUp(self):
+        self.month_end = m = example("month-end.run")
+        self.curve = m.times, m.factors
+
+    def factor(self, times, factors, t):
+        """The factor itself: the annuity of one coupon whose accrual is 1."""
+        return calstwid.swap_annuity_from_curve(times, factors, [t], [1.0])
+
+    def listed(self, *needed):
+        """The curve with these times on its list too, their factors worked here."""
+        points = dict(zip(*self.curve))
+        points.update((t, read_at(*self.curve, t)) for t in needed)
+        return sorted(points), [points[t] for t in sorted(points)]
+
+    def test_written_out(self):
+        for x in (0.0, -0.0, 1.0, -0.5, 0.34657359027997264, 709.78, 710.0, 711.0, -745.2, -746.5, 1e-300, NAN, INFINITY, -INFINITY, -33.3):
+            self.assertEqual(str(written_exp(x)), str(calstwid.exp(x)))
+        for x in (1.0, 0.75, 0.7499999999999999, 1.5, 0.97, 5e-324, 1e-310, 1.7976931348623157e308, 123.456):
+            self.assertEqual(bits(written_ln(x)), bits(calstwid.ln(x)))
+
+    def test_month_ends(self):
+        times, factors = self.curve
+        last, seen = times[-1], set()
+        for day in range(int(last * 365) + 1):
+            for t in (day / 365, day / 365 + H, math.nextafter(day / 365, 9), (day + 0.5) / 365):
+                if t <= last:
+                    self.assertEqual(bits(self.factor(times, factors, t)), bits(read_at(times, factors, t)), t)
+                    seen.add(t in times)
+        self.assertEqual(seen, {True, False})
+
+    def test_listed_times_keep_their_factors(self):
+        times, factors = self.curve
+        self.assertEqual([bits(self.factor(times, factors, t)) for t in times], [bits(factor) for factor in factors])
+        # a factor that exp(ln()) would not give back
+        self.assertEqual([bits(self.factor([1, 2], [0.68, 0.68], t)) for t in (1, 2)], [bits(0.68)] * 2)
+        # numbers compared
+        for zero, other in ((0.0, -0.0), (-0.0, 0.0)):
+            self.assertEqual(self.factor([-1, zero, 1], [0.9, 0.8, 0.7], other), 0.8)
+            self.assertEqual(self.factor([zero], [0.8], other), 0.8)
+
+    def test_ends(self):
+        times, factors = self.curve
+        first, last = times[0], times[-1]
+        self.assertEqual((self.factor(times, factors, first), self.factor(times, factors, last)), (factors[0], factors[-1]))
+        for t in (math.nextafter(first, -1), math.nextafter(last, 9), -1.0, 6.0, -1e308, 1e308):
+            self.refused(8, self.factor, times, factors, t)
+        caplet = lambda curve, start, end: calstwid.caplet_price(0.1, *curve, 0.03, start, end, 0.01)  # noqa: E731
+        self.assertGreater(caplet(self.curve, 1.0, last), 0)
+        self.refused(8, caplet, self.curve, 1.0, math.nextafter(last, 9))
+        later = times[1:], factors[1:]
+        self.assertGreater(caplet(later, times[1], 1.0), 0)
+        self.refused(8, caplet, later, math.nextafter(times[1], 0), 1.0)
+        # one point serves its own time alone, and none serve no time
+        self.assertEqual(self.factor([1.0], [0.97], 1.0), 0.97)
+        for t in (math.nextafter(1.0, 0), math.nextafter(1.0, 2)):
+            self.refused(8, self.factor, [1.0], [0.97], t)
+        self.refused(8, self.factor, [], [], 1.0)
+        self.refused(8, caplet, ([], []), 1.0, 2.0)
+        self.assertEqual(calstwid.swap_annuity_from_curve([], [], [], []), 0.0)
+
+    def test_zeros_beside_the_refusal(self):
+        m, beyond = self.month_end, math.nextafter(self.month_end.times[-1], 9)
+        late = [*m.payments[:-1], beyond], m.accruals
+        reports = [
+            calstwid._optionlet(calstwid._caplet_price, m.alpha, *self.curve, 0.03, 1.0, beyond, 0.01, "sigma"),
+            calstwid._optionlet(calstwid._fit_caplet_black, m.alpha, *self.curve, 0.03, 1.0, beyond, 0.25, "vol"),
+            calstwid._on_swap(calstwid._swaption_price, m.alpha, *self.curve, *late, 0.031, 1.0, 0.01, "sigma"),
+            calstwid._on_swap(calstwid._fit_swaption_normal, m.alpha, *self.curve, *late, 0.031, 1.0, 0.007, "vol"),
+        ]
+        for report in reports:
+            answer, *others = [getattr(report, name) for name, _ in report._fields_]
+            self.assertEqual((answer, {bits(float(one)) for one in others}), (8, {bits(0.0)}))
+
+    def test_every_call(self):
+        """A call gives the same where its times stand on the list, with the factors worked here."""
+        m, month = self.month_end, 31 / 365
+        alpha, coupons, pillars = m.alpha, (m.payments, m.accruals), (m.pillars, m.sigmas)
+        h2 = calstwid.fused(2.0, H, H / 2)
+        needed = [t + more for t in (*m.payments, *m.grid, 1.5) for more in (0.0, H)] + [H / 2, H / 2 + H, h2, month, month + H, month - H]
+        self.assertFalse(set(needed) & set(m.times))
+        curves = self.curve, self.listed(*needed)
+        self.assertGreater(len(curves[1][0]), len(m.times) + 20)
+        calls = [
+            lambda c: calstwid.A(alpha, *c, 1.0, 4.0, 0.01),
+            lambda c: calstwid.zcb_price(alpha, *c, 0.02, 1.0, 4.0, 0.01),
+            lambda c: calstwid.theta(alpha, *c, month, 0.01),
+            lambda c: calstwid.theta(alpha, *c, H / 2, 0.01),
+            lambda c: calstwid.forward_rate_from_curve(*c, 1.0),
+            lambda c: calstwid.swap_annuity_from_curve(*c, *coupons),
+            lambda c: calstwid.caplet_price(alpha, *c, 0.03, 1.0, 1.5, 0.01),
+            lambda c: calstwid.floorlet_price(alpha, *c, 0.03, 1.0, 1.5, 0.01),
+            lambda c: calstwid.bond_put_price(alpha, *c, 1.0, 5.0, 0.88, 0.01),
+            lambda c: calstwid.bond_call_price(alpha, *c, 1.0, 5.0, 0.88, 0.01),
+            lambda c: calstwid.swaption_price(alpha, *c, *coupons, 0.031, 1.0, 0.01),
+            lambda c: calstwid.payer_swaption_value(alpha, *pillars, *c, *coupons, None, 0.031, 1.0, 1e6, 1.0),
+            lambda c: calstwid.receiver_swaption_value(alpha, *pillars, *c, *coupons, None, 0.031, 1.0, 1e6, -1.0),
+            lambda c: calstwid.payer_swaption_value(alpha, [], [], *c, *coupons, [0.94, 0.91, 0.88, 0.85], 0.031, 1.0, 1e6, 1.0),
+            lambda c: calstwid.fit_caplet_black(alpha, *c, 0.03, 1.0, 1.5, 0.25),
+            lambda c: calstwid.fit_caplet_normal(alpha, *c, 0.03, 1.0, 1.5, 0.0075),
+            lambda c: calstwid.fit_swaption_black(alpha, *c, *coupons, 0.031, 1.0, 0.22),
+            lambda c: calstwid.fit_swaption_normal(alpha, *c, *coupons, 0.031, 1.0, 0.007),
+            lambda c: calstwid.calibrate_to_instruments(alpha, *c, [False, True], [0.03] * 2, [1.0, 0.5], [1.5, 1.0], [0.25, 0.0075]),
+            lambda c: calstwid.generate(alpha, *pillars, *c, m.grid, m.draws),
+        ]
+        for place, call in enumerate(calls):
+            self.assertEqual(call(curves[0]), call(curves[1]), place)
+
+    def test_lent_list(self):
+        m = self.month_end
+        lists = m.alpha, m.pillars, m.sigmas, m.times, m.factors
+        before = array("d", [7.0, 8.0, 9.0, 10.0, 11.0])
+        out = array("d", before)
+        last = m.times[-1]
+        # the last point itself: the day after it is behind it
+        for grid in ([0.25, 0.5, 1.0, last], [0.25, 0.5, 1.0, math.nextafter(last, 9)], [0.25, 0.5, 1.0, 9.0], [last] * 4):
+            self.refused(8, calstwid.generate_into, *lists, grid, m.draws, out)
+        self.refused(8, calstwid.generate_into, *lists[:3], [], [], m.grid, m.draws, out)
+        self.refused(8, calstwid.generate_into, *lists[:3], [-1e308, 1.2e308], [0.9, 0.8], [1e308] * 4, m.draws, out)
+        self.assertEqual(out, before)
+        # many grid times between two points, and one of the points among them
+        grid = [0.1, 0.11, m.times[2], 0.13]
+        self.assertTrue(m.times[1] < grid[0] and grid[3] + H < m.times[3])
+        self.assertEqual(calstwid.generate_into(*lists, grid, m.draws, out), 4)
+        listed = self.listed(*(t + more for t in grid for more in (0.0, H)))
+        self.assertEqual(out.tolist(), [*calstwid.generate(*lists[:3], *listed, grid, m.draws), 11.0])
+
+    def test_not_finite(self):
+        largest = 1.7976931348623157e308
+        wide = [-1e308, 1.2e308], [0.9, 0.8]
+        self.assertTrue(math.isnan(between(-1e308, 0.9, 1.2e308, 0.8, 1e308)))
+        steep = [0.7057691290677448, 3.2464201598086486], [9.469050158921633e-238, largest]
+        late = 3.246420159808648
+        self.assertEqual(between(steep[0][0], steep[1][0], steep[0][1], steep[1][1], late), INFINITY)
+        for curve, t in ((wide, 1e308), (steep, late)):
+            self.refused(8, self.factor, *curve, t)
+            self.refused(8, calstwid.bond_call_price, 0.1, *curve, t, curve[0][1], 0.5, 0.01)
+            self.refused(8, calstwid.fit_caplet_normal, 0.1, *curve, 0.03, t, curve[0][1], 0.0075)
+            self.refused(8, calstwid.swaption_price, 0.1, *curve, [curve[0][1]], [1.0], 0.03, t, 0.01)
+        # their ends keep their factors, and other times between them are served
+        self.assertEqual([self.factor(*wide, t) for t in wide[0]], wide[1])
+        self.assertEqual([self.factor(*steep, t) for t in steep[0]], steep[1])
+        self.assertEqual(bits(self.factor(*wide, 0.0)), bits(written_exp(written_ln(0.9))))  # w is 0, the distance being infinite
+        self.assertEqual(bits(self.factor(*steep, 2.0)), bits(read_at(*steep, 2.0)))
+
+    def test_no_promise_that_it_lies_between(self):
+        """docs/DIFFERENCES.md's inputs."""
+        rows = [
+            (0.68, 0.68, 1.5, "3fe5c28f5c28f5c2"),  # below both
+            (0.34, 0.33999999999999997, 1.5, "3fd5c28f5c28f5c1"),  # below both
+            (0.12, 0.11999999999999998, 1.5, "3fbeb851eb851eb9"),  # above both
+            (0.7, 0.68, 1.9999999999999998, "3fe5c28f5c28f5c2"),  # below 0.68, to which the curve falls
+            (0.21, 0.2, 1.0000000000000002, "3fcae147ae147ae2"),  # above 0.21, from which the curve falls
+        ]
+        for f0, f1, t, expected in rows:
+            found = self.factor([1.0, 2.0], [f0, f1], t)
+            self.assertEqual((bits(found), bits(between(1.0, f0, 2.0, f1, t))), (expected, expected))
+            self.assertFalse(min(f0, f1) <= found <= max(f0, f1))
+        # w is 1 once rounded, and the time is still between the points
+        self.assertEqual((0.9999999999999999 - -1.0) / (1.0 - -1.0), 1.0)
+        self.assertEqual(bits(self.factor([-1.0, 1.0], [0.7, 0.68], 0.9999999999999999)), "3fe5c28f5c28f5c2")
 
 
 class Numbers(unittest.TestCase):
@@ -361,7 +573,8 @@ class TurnedDown(Refusals):
         self.refused(6, payer, 0.5, *pillars, *small, *coupons, [0.0], 0.03, 1.0, 1.0, 2.0)
         self.refused(7, payer, 0.5, *pillars, *small, [], [], [], 0.03, 1.0, 1.0, 1.0)
         self.refused(7, calstwid.volatility, [], [], 1.0)
-        self.refused(8, caplet, 0.5, *small, 0.03, 1.0, 1.5, 0.01)
+        self.refused(8, caplet, 0.5, *small, 0.03, 1.0, 2.5, 0.01)
+        self.refused(8, caplet, 0.5, [1.0, 2.0], [0.97, 0.94], 0.03, 0.5, 2.0, 0.01)
         self.refused(8, caplet, 0.5, [], [], 0.03, 1.0, 1.5, 0.01)
         self.refused(9, calstwid.swaption_price, 0.5, *small, [2.0, 2.0], [1.0, 0.0], -1.0, 1.0, 0.01)
         self.refused(10, calstwid.swaption_price, 0.5, *small, *coupons, -3.0, 1.0, 0.01)
@@ -397,7 +610,7 @@ class TurnedDown(Refusals):
         self.refused(2, calstwid.generate_into, *lists, [0.3, -1.1, NAN, 0.05], out)
         self.refused(1, calstwid.generate_into, *lists, d.draws[:3], out)
         self.refused(3, calstwid.generate_into, 0.0, *lists[1:], d.draws, out)
-        self.refused(8, calstwid.generate_into, *lists[:-1], [0.25, 0.5, 1.0, 1.25], d.draws, out)
+        self.refused(8, calstwid.generate_into, *lists[:-1], [0.25, 0.5, 1.0, 6.0], d.draws, out)
         short = array("d", [7.0, 8.0, 9.0])
         self.refused(1, calstwid.generate_into, *lists, d.draws, short)
         self.refused(1, calstwid.generate_into, *lists, d.draws, array("d"))

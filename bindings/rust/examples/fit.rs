@@ -2,8 +2,8 @@
 use calstwid::{fit_swaption_black, swaption_price, Coupons, Curve, Refusal};
 
 fn main() -> Result<(), Refusal> {
-    // A flat curve at 3 %, with the day after the option time, which the model's forward rate wants.
-    let times = [0.0, 1.0, 1.0 + 1.0 / 365.0, 2.0, 3.0, 4.0, 5.0];
+    // A flat curve at 3 %, a point a year. The day after the option time, which the model's forward rate wants, has its factor between two points.
+    let times = [0.0, 1.0, 2.0, 3.0, 4.0, 5.0];
     let factors = times.map(|time: f64| (-0.03 * time).exp());
     let curve = Curve { times: &times, factors: &factors };
     let coupons = Coupons { payments: &[2.0, 3.0, 4.0, 5.0], accruals: &[1.0; 4] };
@@ -14,7 +14,8 @@ fn main() -> Result<(), Refusal> {
     let swaption = swaption_price(alpha, curve, coupons, strike, option_time, fit.sigma)?;
     println!("price {} for a notional of 1, critical rate {}", swaption.value, swaption.rate);
 
-    let refused = fit_swaption_black(alpha, curve, coupons, strike, 1.5, quoted).unwrap_err();
-    println!("with an option time that the curve does not have: {refused}");
+    let late = Coupons { payments: &[2.0, 3.0, 4.0, 6.0], ..coupons };
+    let refused = fit_swaption_black(alpha, curve, late, strike, option_time, quoted).unwrap_err();
+    println!("with a payment after the curve's last point: {refused}");
     Ok(())
 }

@@ -4,13 +4,17 @@
 //! touch the one that it writes, from another thread either: a borrow sees to both.
 //!
 //! Times are years from today; rates, strikes of rates and volatilities are fractions a year (0.03 is 3 %); alpha is the mean reversion. A value is
-//! for a notional of 1 except where a notional is an argument. A time that a call needs is looked up among the curve's own times: nothing is
-//! interpolated. Where a call says that it needs t + 1/365, it is `t + 1.0 / 365.0`.
+//! for a notional of 1 except where a notional is an argument.
+//!
+//! A time at which a call needs the [`Curve`] is on the curve or between two of its points, else it is refused. On the curve it has the factor listed
+//! there; strictly between two neighbours (t0, f0) and (t1, f1) it has exp(ln(f0) + w × (ln(f1) - ln(f0))), w being (t - t0) / (t1 - t0), by [`exp`]
+//! and [`ln`]. Where a call says that it needs t + 1/365, it is `t + 1.0 / 365.0`.
 //!
 //! ```
 //! use calstwid::{bond_call_price, Curve, Refusal};
 //! let curve = Curve { times: &[1.0, 2.0], factors: &[1.0, 1.0] };
 //! assert_eq!(bond_call_price(0.5, curve, 1.0, 2.0, 0.5, 0.0), Ok(0.5));
+//! assert_eq!(bond_call_price(0.5, curve, 1.25, 1.75, 0.5, 0.0), Ok(0.5));
 //! assert_eq!(bond_call_price(0.5, curve, 1.0, 3.0, 0.5, 0.0), Err(Refusal::OffCurve));
 //! ```
 
@@ -19,7 +23,7 @@ mod refusal;
 
 pub use refusal::Refusal;
 
-/// A discount curve: strictly rising times and the factor at each, at most 2,048.
+/// A discount curve: strictly rising times and the factor at each, at most 2,048. Between two points it has factors too, outside them none.
 #[derive(Clone, Copy, Debug)]
 pub struct Curve<'a> {
     pub times: &'a [f64],
@@ -279,7 +283,7 @@ pub fn theta(alpha: f64, curve: Curve, t: f64, sigma: f64) -> Result<f64, Refusa
     price(call!(calstwid_theta, alpha, [curve.times], [curve.factors], t, sigma))
 }
 
-/// The forward rate from t to t + 1/365, both of which the curve has.
+/// The forward rate from t to t + 1/365. Needs the curve at both.
 pub fn forward_rate_from_curve(curve: Curve, t: f64) -> Result<f64, Refusal> {
     price(call!(calstwid_forward_rate_from_curve, [curve.times], [curve.factors], t))
 }
@@ -328,29 +332,29 @@ pub fn bachelier_call(fwd: f64, strike: f64, vol: f64, tau: f64) -> Result<f64, 
     price(call!(calstwid_bachelier_call, fwd, strike, vol, tau))
 }
 
-/// The sum of accrual × factor over the coupons, each payment time being one of the curve's; 0 for none.
+/// The sum of accrual × factor over the coupons; 0 for none. Needs the curve at each payment time.
 pub fn swap_annuity_from_curve(curve: Curve, coupons: Coupons) -> Result<f64, Refusal> {
     price(call!(calstwid_swap_annuity_from_curve, [curve.times], [curve.factors], [coupons.payments], [coupons.accruals]))
 }
 
 // ---- options
 
-/// Kind 1: a caplet on the rate from start to end, both of which the curve has.
+/// Kind 1: a caplet on the rate from start to end. Needs the curve at both.
 pub fn caplet_price(alpha: f64, curve: Curve, strike: f64, start: f64, end: f64, sigma: f64) -> Result<f64, Refusal> {
     price(call!(calstwid_caplet_price, alpha, [curve.times], [curve.factors], strike, start, end, sigma))
 }
 
-/// Kind 2: a floorlet on the rate from start to end, both of which the curve has.
+/// Kind 2: a floorlet on the rate from start to end. Needs the curve at both.
 pub fn floorlet_price(alpha: f64, curve: Curve, strike: f64, start: f64, end: f64, sigma: f64) -> Result<f64, Refusal> {
     price(call!(calstwid_floorlet_price, alpha, [curve.times], [curve.factors], strike, start, end, sigma))
 }
 
-/// Kind 3: a put at t on the bond that pays 1 at the bond time; the curve has both.
+/// Kind 3: a put at t on the bond that pays 1 at the bond time. Needs the curve at both.
 pub fn bond_put_price(alpha: f64, curve: Curve, t: f64, bond: f64, strike: f64, sigma: f64) -> Result<f64, Refusal> {
     price(call!(calstwid_bond_put_price, alpha, [curve.times], [curve.factors], t, bond, strike, sigma))
 }
 
-/// Kind 4: a call at t on the bond that pays 1 at the bond time; the curve has both.
+/// Kind 4: a call at t on the bond that pays 1 at the bond time. Needs the curve at both.
 pub fn bond_call_price(alpha: f64, curve: Curve, t: f64, bond: f64, strike: f64, sigma: f64) -> Result<f64, Refusal> {
     price(call!(calstwid_bond_call_price, alpha, [curve.times], [curve.factors], t, bond, strike, sigma))
 }
@@ -474,7 +478,7 @@ pub fn fit_swaption_normal(alpha: f64, curve: Curve, coupons: Coupons, strike: f
     fit(call!(calstwid_fit_swaption_normal, alpha, [curve.times], [curve.factors], [coupons.payments], [coupons.accruals], strike, t, vol))
 }
 
-/// A fit for each caplet, and one for each with its volatility bumped. The first refusal refuses the basket.
+/// A fit for each caplet, and one for each with its volatility bumped. The first refusal refuses the basket. Needs the curve at each start and end.
 pub fn calibrate_to_instruments(alpha: f64, curve: Curve, caplets: Caplets) -> Result<Basket, Refusal> {
     let report = call!(
         calstwid_calibrate_to_instruments,

@@ -46,7 +46,7 @@ refusals! {
     Times = 5, "an option or first grid time is below 0, a bond, end or payment time is not above the option time, or a fit's option time is 0";
     Domain = 6, "a sigma is negative, a quoted volatility is not above 0, a Black strike is not above 0, a curve factor is not above 0, a coupon's own factor is negative or is 0 beside one that is not, or a side is neither 1 nor -1";
     Empty = 7, "there are no coupons, or no pillars, where the call wants them";
-    OffCurve = 8, "a time that the call needs is not among the curve's times";
+    OffCurve = 8, "a time that the call needs is before the curve's first point or after its last, the curve has no points, or the factor found between two points is not finite";
     NanReached = 9, "a critical-rate evaluation or a fit residual that is reached is NaN";
     NoBracket = 10, "one of the two ladders has no good rate, so that there is no bracket";
     FlatDerivative = 11, "the critical-rate derivative is below 1e-14 in size";

@@ -43,8 +43,12 @@ impl RunFile {
         }
     }
 
+    fn example(name: &str) -> RunFile {
+        RunFile::read(&std::fs::read(root().join("examples").join(name)).unwrap())
+    }
+
     fn desk() -> RunFile {
-        RunFile::read(&std::fs::read(root().join("examples/desk.run")).unwrap())
+        RunFile::example("desk.run")
     }
 
     fn curve(&self) -> Curve<'_> {
@@ -178,7 +182,7 @@ fn fixed_list(name: &str) -> usize {
 
 #[test]
 fn fixed_run_files() {
-    assert_eq!((fixed_list("base"), fixed_list("A.2")), (570, 129));
+    assert_eq!(["base", "A.2", "A.4"].map(fixed_list), [570, 129, 180]);
 }
 
 #[test]
@@ -348,7 +352,7 @@ fn refusals() {
         caplet(0.5, small, 2.0, 1.0, 0.01),
         payer(pillars, 2.0),
         volatility(Pillars { times: &[], sigmas: &[] }, 1.0),
-        caplet(0.5, small, 1.0, 1.5, 0.01),
+        caplet(0.5, small, 1.0, 2.5, 0.01),
         swaption_price(0.5, small, twice, -1.0, 1.0, 0.01).map(|it| it.value),
         swaption_price(0.5, small, coupons, -3.0, 1.0, 0.01).map(|it| it.value),
         payer_swaption_value(1.0, from_0, tiny, at_once, &[0.0], 0.0, 0.0, 1.0, 1.0).map(|it| it.value),
@@ -394,6 +398,103 @@ fn fixed_rate_scenario() {
     assert_eq!(hull_white_piecewise_variance(alpha, none, 0.0, 1.0), Ok(0.0));
 }
 
+/// The factor itself: the annuity of one coupon whose accrual is 1.
+fn factor(times: &[f64], factors: &[f64], t: f64) -> Result<f64, Refusal> {
+    swap_annuity_from_curve(Curve { times, factors }, Coupons { payments: &[t], accruals: &[1.0] })
+}
+
+/// Document 02's factor between two points: Rust rounds each operation once and fuses none.
+fn between((t0, f0): (f64, f64), (t1, f1): (f64, f64), t: f64) -> f64 {
+    let w = (t - t0) / (t1 - t0);
+    exp(ln(f0) + w * (ln(f1) - ln(f0)))
+}
+
+/// The f64 above a number that is not negative, and the one below a number above 0.
+fn above(x: f64) -> f64 {
+    f64::from_bits(x.to_bits() + 1)
+}
+
+fn below(x: f64) -> f64 {
+    f64::from_bits(x.to_bits() - 1)
+}
+
+/// Document 02, A.4: factors between curve points, over the month ends of examples/month-end.run.
+#[test]
+fn month_ends() {
+    let month_end = RunFile::example("month-end.run");
+    let [times, factors] = &month_end.curve;
+    let (points, last) = (times.len(), *times.last().unwrap());
+    let point = |place: usize| (times[place], factors[place]);
+    for place in 0..points {
+        assert_eq!(factor(times, factors, times[place]).map(f64::to_bits), Ok(factors[place].to_bits()));
+    }
+    for place in 1..points {
+        let (t0, t1) = (times[place - 1], times[place]);
+        let within = (1..32).map(|part| t0 + (t1 - t0) * f64::from(part) / 32.0);
+        for t in within.chain([above(t0), below(t1)]) {
+            let due = between(point(place - 1), point(place), t);
+            assert_eq!(factor(times, factors, t).map(f64::to_bits), Ok(due.to_bits()), "{t}");
+        }
+    }
+    assert_eq!(factor(times, factors, -0.0), Ok(factors[0]));
+    assert_eq!([-above(0.0), above(last)].map(|t| factor(times, factors, t)), [Err(Refusal::OffCurve); 2]);
+    assert_eq!(factor(&times[1..], &factors[1..], below(times[1])), Err(Refusal::OffCurve));
+
+    // every kind gives the same where its times stand on the list
+    let mut on_the_list = RunFile::example("month-end.run");
+    let needed = [0.25, 0.5, 1.0, 1.5, 2.0, 3.0, 4.0, 5.0].map(|t| [t, t + 1.0 / 365.0]).concat();
+    let mut curve: Vec<_> = (0..points).map(point).chain(needed.iter().map(|&t| (t, factor(times, factors, t).unwrap()))).collect();
+    curve.sort_by(|one, other| one.0.total_cmp(&other.0));
+    assert!(curve.windows(2).all(|pair| pair[0].0 < pair[1].0), "none of these times is a month's end");
+    on_the_list.curve = [curve.iter().map(|point| point.0).collect(), curve.iter().map(|point| point.1).collect()];
+    assert_eq!(month_end.printed(), on_the_list.printed());
+    assert!(month_end.printed().lines().skip(1).all(|line| line.split(' ').nth(2) == Some("0")));
+
+    // the last point itself: the day after it is behind it
+    let (alpha, pillars, curve, draws) = (month_end.alpha, month_end.pillars(), month_end.curve(), &month_end.grid[1][..]);
+    let none = Curve { times: &[], factors: &[] };
+    let before = [7.0, 8.0, 9.0, 10.0, 11.0];
+    let mut out = before;
+    assert_eq!(generate(alpha, pillars, curve, &[0.25, 0.5, 1.0, last], draws, &mut out), Err(Refusal::OffCurve));
+    assert_eq!(generate(alpha, pillars, curve, &[0.25, 0.5, 1.0, above(last)], draws, &mut out), Err(Refusal::OffCurve));
+    assert_eq!(generate(alpha, pillars, none, &month_end.grid[0], draws, &mut out), Err(Refusal::OffCurve));
+    assert_eq!(out, before);
+}
+
+/// Document 02, A.4: what is left to refusal 8, and docs/DIFFERENCES.md's inputs.
+#[test]
+fn factors_not_found_and_not_between() {
+    assert_eq!(factor(&[], &[], 1.0), Err(Refusal::OffCurve));
+    let one = [1.0, below(1.0), above(1.0)].map(|t| factor(&[1.0], &[0.97], t));
+    assert_eq!(one, [Ok(0.97), Err(Refusal::OffCurve), Err(Refusal::OffCurve)]);
+    let wide = ([-1e308, 1.2e308], [0.9, 0.8], 1e308);
+    let steep = ([0.7057691290677448, 3.2464201598086486], [9.469050158921633e-238, f64::MAX], 3.246420159808648);
+    let found = |(times, factors, t): ([f64; 2], [f64; 2], f64)| between((times[0], factors[0]), (times[1], factors[1]), t);
+    assert!(found(wide).is_nan() && found(steep) == f64::INFINITY);
+    for (times, factors, t) in [wide, steep] {
+        assert_eq!(factor(&times, &factors, t), Err(Refusal::OffCurve));
+        let curve = Curve { times: &times, factors: &factors };
+        assert_eq!(bond_call_price(0.1, curve, t, times[1], 0.5, 0.01), Err(Refusal::OffCurve));
+        assert_eq!(fit_caplet_normal(0.1, curve, 0.03, t, times[1], 0.0075), Err(Refusal::OffCurve));
+        let mut out = [7.0];
+        assert_eq!(generate(0.1, Pillars { times: &[1.0], sigmas: &[0.01] }, curve, &[t], &[0.3], &mut out), Err(Refusal::OffCurve));
+        assert_eq!(out, [7.0]);
+        assert_eq!(times.map(|t| factor(&times, &factors, t)), factors.map(Ok));
+    }
+    let rows = [
+        (0.68, 0.68, 1.5, 0x3fe5c28f5c28f5c2),
+        (0.34, 0.33999999999999997, 1.5, 0x3fd5c28f5c28f5c1),
+        (0.12, 0.11999999999999998, 1.5, 0x3fbeb851eb851eb9),
+        (0.7, 0.68, 1.9999999999999998, 0x3fe5c28f5c28f5c2),
+        (0.21, 0.2, 1.0000000000000002, 0x3fcae147ae147ae2),
+    ];
+    for (f0, f1, t, bits) in rows {
+        let found = factor(&[1.0, 2.0], &[f0, f1], t).unwrap();
+        assert_eq!(found.to_bits(), bits);
+        assert!(found < f64::min(f0, f1) || found > f64::max(f0, f1));
+    }
+}
+
 #[test]
 fn long_and_unpaired_lists() {
     let times: Vec<f64> = (0..2049).map(f64::from).collect();
@@ -418,7 +519,7 @@ fn lent_lists() {
     assert_eq!(generate(alpha, pillars, curve, grid, &[0.3, -1.1, f64::NAN, 0.05], &mut out), Err(Refusal::NotFinite));
     assert_eq!(generate(alpha, pillars, curve, grid, &draws[..3], &mut out), Err(Refusal::Size));
     assert_eq!(generate(0.0, pillars, curve, grid, draws, &mut out), Err(Refusal::MeanReversion));
-    assert_eq!(generate(alpha, pillars, curve, &[0.25, 0.5, 1.0, 1.25], draws, &mut out), Err(Refusal::OffCurve));
+    assert_eq!(generate(alpha, pillars, curve, &[0.25, 0.5, 1.0, 6.0], draws, &mut out), Err(Refusal::OffCurve));
     assert_eq!(generate(alpha, pillars, curve, grid, draws, &mut out[..3]), Err(Refusal::Size));
     assert_eq!(generate(alpha, pillars, curve, grid, draws, &mut []), Err(Refusal::Size));
     assert_eq!(out, before);

@@ -7,13 +7,12 @@ use Prim.Native.Nat.{ℕ, zero, suc, _+_, _-_, _≤_, _<_, zero-le, suc-le-suc}
 use native.Mathlib.Omega.{arith}
 use native.Mathlib.Nat.{not-suc-le-zero, le-of-suc-le-suc, zero-lt-suc, eq-or-lt-of-le}
 use lib.Dec.{T}
-use lib.ListN.{length, getD, drop}
-use lib.Ieee.{Float, nan, lt, le, eq}
+use lib.ListN.{length, getD}
+use lib.Ieee.{Float, nan, lt, le}
 use Rattle.refusals.specs.Checks.{followsOf, inOrderFrom, inOrder}
-use Rattle.curve.specs.Lookups.{Front, Back, PartsAt, just, nothing, factorAt, lastAt, volatilityAt}
-use Rattle.curve.proofs.Laws.{Unequal}
+use Rattle.curve.specs.Lookups.{Front, Back, PartsAt, just, lastAt, volatilityAt}
 use Rattle.curve.proofs.Walks.{volatility-first}
-use Rattle.refusals.proofs.Order.{both, holds, held, refuted, lt-le, le-of-lt, le-of-eq, lt-unequal}
+use Rattle.refusals.proofs.Order.{both, holds, held, refuted, lt-le, le-of-lt}
 
 -- ---- in a strictly rising list the earlier number is below the later one
 from-before : (before : Float) (xs : List Float) (k : ℕ) → inOrderFrom true before xs ≡ true → k < length xs → T (lt before (getD xs k nan))
@@ -24,7 +23,7 @@ from-before before (x ∷ xs) (suc k) h b =
     let r = both (lt before x) (inOrderFrom true x xs) h in
     lt-le before x (getD xs k nan) (holds (lt before x) (r .0)) (le-of-lt x (getD xs k nan) (from-before x xs k (r .1) (le-of-suc-le-suc b)))
 
-rest : (x : Float) (xs : List Float) → inOrderFrom true x xs ≡ true → inOrder true xs ≡ true
+pub rest : (x : Float) (xs : List Float) → inOrderFrom true x xs ≡ true → inOrder true xs ≡ true
 unfolding inOrderFrom inOrder
 rest x [] h = refl
 rest x (y ∷ xs) h = both (lt x y) (inOrderFrom true y xs) h .1
@@ -39,7 +38,7 @@ rises (x ∷ xs) (suc i) (suc j) h l b = rises xs i j (rest x xs h) (le-of-suc-l
 true-false : true ≡ false → ⊥
 true-false h = let z : _≡_ {A = ℕ} 0 1 = cc in omega arith
 
-before-or-not : (k m : ℕ) → (k < m) ⊎ (m ≤ k)
+pub before-or-not : (k m : ℕ) → (k < m) ⊎ (m ≤ k)
 before-or-not k zero = inr zero-le
 before-or-not zero (suc m) = inl (zero-lt-suc m)
 before-or-not (suc k) (suc m) = ⊎-elim (λ l. inl (suc-le-suc l)) (λ g. inr (suc-le-suc g)) (before-or-not k m)
@@ -80,32 +79,6 @@ front-last strictly xs t n h e b q =
     let m : n - 1 + 1 ≡ n = omega arith in
     let l : n - 1 < length xs = omega arith in
     subst (Front strictly xs t) m (front strictly xs t (n - 1) h l q)
-
-module _ (xs : List Float) (t : Float) (m : ℕ) (h : inOrder true xs ≡ true) where
-  -- where the place that is left does not hold t, no place does
-  pub nowhere : Front true xs t m → lt (getD xs m nan) t ≡ false → eq (getD xs m nan) t ≡ false → Unequal xs t
-  nowhere f g q k l =
-      ⊎-elim
-      (λ s. lt-unequal (getD xs k nan) t (holds (lt (getD xs k nan) t) (f k s)))
-      (λ n.
-      ⊎-elim
-      (λ e. rw e at q)
-      (λ s. refuted (eq (getD xs k nan) t) (λ w. let z = lt-le (getD xs m nan) (getD xs k nan) t (rises xs m k h s l) (le-of-eq (getD xs k nan) t w) in rw g at z))
-      (eq-or-lt-of-le n))
-      (before-or-not k m)
-
--- ---- the scan passes over the front
-no-factors : (xs : List Float) (t : Float) → factorAt xs [] t ≡ nothing
-unfolding factorAt
-no-factors [] t = refl
-no-factors (x ∷ xs) t = refl
-
-pub skipped : (xs fs : List Float) (t : Float) (i : ℕ) → Front true xs t i → factorAt (drop i xs) (drop i fs) t ≡ factorAt xs fs t
-unfolding factorAt
-skipped xs fs t zero f = refl
-skipped [] fs t (suc i) f = refl
-skipped (x ∷ xs) [] t (suc i) f = no-factors (drop i xs) t
-skipped (x ∷ xs) (y ∷ fs) t (suc i) f = rw (lt-unequal x t (holds (lt x t) (f 0 (zero-lt-suc i)))) (skipped xs fs t i (λ k l. f (suc k) (suc-le-suc l)))
 
 -- ---- the last pillar that the scan passes is the last of those at or before t, else it is the first
 abbrev lastOf : Float → List Float → ℕ → Float

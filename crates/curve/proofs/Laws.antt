@@ -1,15 +1,13 @@
--- What callers may use of the lookups: a volatility that is found passes every test that its list passes, and no factor is found where no time equals t.
-use mathlib.Core.Path.{_≡_, refl}
+-- What callers may use of the lookups: a volatility that is found passes every test that its list passes.
+use mathlib.Core.Path.{_≡_}
 use mathlib.Core.Bool.{Bool, true, false, cond}
 use mathlib.Core.List.{List, [], _∷_}
-use Prim.Native.Nat.{ℕ, suc, _<_, suc-le-suc}
+use Prim.Native.Nat.{ℕ}
 use native.Mathlib.Omega.{arith}
-use native.Mathlib.Nat.{zero-lt-suc}
-use lib.ListN.{length, getD}
-use lib.Ieee.{Float, nan, le, eq}
+use lib.Ieee.{Float, le}
 use Rattle.refusals.specs.declared.checks.Test.{Test}
 use Rattle.refusals.specs.Checks.{passesOf, allOf}
-use Rattle.curve.specs.Lookups.{just, nothing, factorAt, lastAt, volatilityAt}
+use Rattle.curve.specs.Lookups.{just, nothing, lastAt, volatilityAt}
 use Rattle.refusals.proofs.Order.{both}
 
 -- ---- taking answers apart
@@ -36,13 +34,3 @@ volatility-passes test (x ∷ ts) [] t h q = absurd (none-found q)
 volatility-passes test (x ∷ ts) (s ∷ ss) t {p} h q =
     let e : lastAt s (x ∷ ts) (s ∷ ss) t ≡ p = cc in
     rw e at (last-passes test s (x ∷ ts) (s ∷ ss) t (both (passesOf test s) (allOf test ss) h .0) h)
-
--- ---- no factor is found where no time equals t
-abbrev pub Unequal : List Float → Float → Type 0
-Unequal ts t = (k : ℕ) → k < length ts → eq (getD ts k nan) t ≡ false
-
-pub unequal-missing : (ts fs : List Float) (t : Float) → Unequal ts t → factorAt ts fs t ≡ nothing
-unfolding factorAt
-unequal-missing [] fs t h = refl
-unequal-missing (x ∷ ts) [] t h = refl
-unequal-missing (x ∷ ts) (f ∷ fs) t h = rw (h 0 (zero-lt-suc (length ts))) (unequal-missing ts fs t (λ k l. h (suc k) (suc-le-suc l)))

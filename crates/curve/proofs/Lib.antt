@@ -3,3 +3,4 @@ pub mod Walks
 pub mod Outcomes
 pub mod Laws
 pub mod Halves
+pub mod Factors

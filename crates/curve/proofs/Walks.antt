@@ -7,9 +7,9 @@ use native.Mathlib.Omega.{arith}
 use native.Mathlib.Numerals.{add-one}
 use lib.ListN.{length, getD, drop, take}
 use lib.Seq.{take-suc}
-use lib.Ieee.{Float, nan, le, eq}
+use lib.Ieee.{Float, nan, le}
 use Rattle.refusals.proofs.Walks.{next, done}
-use Rattle.curve.specs.Lookups.{just, nothing, factorAt, lastAt, volatilityAt, upTo}
+use Rattle.curve.specs.Lookups.{just, nothing, lastAt, volatilityAt, upTo}
 
 -- ---- the front part up to t
 module _ (t : Float) (xs : List Float) (i : ℕ) where
@@ -24,20 +24,6 @@ module _ (t : Float) (xs : List Float) (i : ℕ) where
   pub front-end : length xs ≤ i → take i xs ++ upTo t (drop i xs) ≡ take i xs
   unfolding upTo
   front-end h = rw (done xs i h, append-nil)
-
--- ---- the factor at a time
-module _ (xs fs : List Float) (t : Float) (i : ℕ) where
-  pub factor-hit : i < length xs → i < length fs → eq (getD xs i nan) t ≡ true → factorAt (drop i xs) (drop i fs) t ≡ just (getD fs i nan)
-  unfolding factorAt
-  factor-hit h k q = rw (next xs i h, next fs i k, q)
-
-  pub factor-short : i < length xs → length fs ≤ i → factorAt (drop i xs) (drop i fs) t ≡ nothing
-  unfolding factorAt
-  factor-short h k = rw (next xs i h, done fs i k)
-
-  pub factor-end : length xs ≤ i → factorAt (drop i xs) (drop i fs) t ≡ nothing
-  unfolding factorAt
-  factor-end h = rw (done xs i h)
 
 -- ---- the last pillar at or before a time
 module _ (best : Float) (xs ss : List Float) (t : Float) (i : ℕ) where

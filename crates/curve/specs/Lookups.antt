@@ -1,10 +1,14 @@
 -- The factor at a time, the volatility at a time, and the times up to a time. Formulas cite `factorAt` by its name and its laws alone.
 use mathlib.Core.Path.{_≡_}
-use mathlib.Core.Bool.{Bool, true, false, cond}
+use mathlib.Core.Bool.{Bool, true, false, cond, _&&_}
 use mathlib.Core.List.{List, [], _∷_}
 use Prim.Native.Nat.{ℕ, _≤_, _<_}
 use lib.ListN.{length, getD}
-use lib.Ieee.{Float, nan, eq, le}
+use lib.Ieee.{Float, nan, eq, lt, le}
+use lib.Ieee.Scale.{finite}
+use Rattle.ieee.specs.Rounded.{_⊕_, _⊖_, _⊗_, _⊘_}
+use Rattle.math_elementary.specs.Ln.{lnOf}
+use Rattle.math_exponential.specs.Exp.{expOf}
 use Rattle.curve.specs.declared.lookups.Found.{Found}
 use Rattle.curve.specs.declared.lookups.Found.the-variants as F
 use Rattle.refusals.specs.declared.refusals.Refusal.{Refusal}
@@ -37,18 +41,34 @@ abbrev pub foundOf : Found → Maybe
 foundOf (F.At x) = just x
 foundOf F.Missing = nothing
 
--- rule 8: the factor at the time among the curve's times that equals t, "numbers compared, so -0 equals +0"
+-- A.4: "A time strictly between two neighbours (t0, f0) and (t1, f1) is given exp(ln f0 + w × (ln f1 - ln f0)), where w = (t - t0)/(t1 - t0)."
+unfoldable pub betweenOf : Float → Float → Float → Float → Float → Float
+betweenOf t0 f0 t1 f1 t = let w = (t ⊖ t0) ⊘ (t1 ⊖ t0) in expOf (lnOf f0 ⊕ (w ⊗ (lnOf f1 ⊖ lnOf f0)))
+
+-- refusal 8 is left for "a factor so found that is not finite"
+abbrev pub ifFinite : Float → Maybe
+ifFinite factor = cond (finite factor) (just factor) nothing
+
+-- what a time is given that is strictly between the point (t0, f0) and its neighbour, the first of those behind it; another has `otherwise`
+unfoldable pub betweenOr : Maybe → Float → Float → List Float → List Float → Float → Maybe
+betweenOr otherwise t0 f0 [] fs t = otherwise
+betweenOr otherwise t0 f0 (t1 ∷ ts) [] t = otherwise
+betweenOr otherwise t0 f0 (t1 ∷ ts) (f1 ∷ fs) t = cond (lt t0 t && lt t t1) (ifFinite (betweenOf t0 f0 t1 f1 t)) otherwise
+
+-- A.4: "A time on the list keeps its stored factor", "numbers compared, so -0 equals +0"; there is none "for times before the first or after the last point" and
+-- "for a curve without points"
 unfoldable pub factorAt : List Float → List Float → Float → Maybe
+unfolding betweenOr
 factorAt [] fs t = nothing
-factorAt (x ∷ xs) [] t = nothing
-factorAt (x ∷ xs) (f ∷ fs) t = cond (eq x t) (just f) (factorAt xs fs t)
+factorAt (t0 ∷ ts) [] t = nothing
+factorAt (t0 ∷ ts) (f0 ∷ fs) t = cond (eq t0 t) (just f0) (betweenOr (factorAt ts fs t) t0 f0 ts fs t)
 
 -- what a list lacks turns the call down; else it is as the rest says of what was found
 abbrev pub required : {A : Type 0} → Refusal → Maybe → (Float → Outcome A) → Outcome A
 required r (just x) rest = rest x
 required r nothing rest = refused r
 
--- rule 8: "A time that the call needs is not among the curve's times"
+-- rule 8: the curve has no factor for "A time that the call needs"
 abbrev pub needing : {A : Type 0} → Maybe → (Float → Outcome A) → Outcome A
 needing = required R.OffCurve
 

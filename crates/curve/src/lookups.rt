@@ -4,7 +4,7 @@ ghost use mathlib.Core.Bool.{true};
 ghost use Prim.Native.Nat.{_≤_, _-_};
 ghost use lib.ListN.{length, take};
 ghost use Rattle.refusals.specs.Checks.{inOrder};
-ghost use Rattle.curve.specs.Lookups.{Front, Back, PartsAt, foundOf, factorAt, volatilityAt, upTo};
+ghost use Rattle.curve.specs.Lookups.{Front, Back, PartsAt, foundOf, ifFinite, betweenOf, factorAt, volatilityAt, upTo};
 
 pub enum Found {
     At(f64),
@@ -17,8 +17,8 @@ pub struct FoundNear {
     pub next: usize,
 }
 
-// The factor at a time that is on the curve, numbers compared. It is looked for by halves, for the times
-// strictly rise: a caller that prices or fits shows it, behind rule 4.
+// The factor at a time on the curve or strictly between two of its points. It is looked for by halves, for the
+// times strictly rise: a caller that prices or fits shows it, behind rule 4.
 pub fn factor(times: &[f64], factors: &[f64], t: f64) -> Found
     requires { ⌜ inOrder true (now times) ≡ true ⌝ }
     ensures { λ r. ⌜ foundOf r ≡ factorAt (now (times .entry)) (now (factors .entry)) t ⌝ }
@@ -37,12 +37,21 @@ pub fn factor_near(times: &[f64], factors: &[f64], hint: usize, t: f64) -> Found
     let found = factor_at(times, factors, place, t);
     FoundNear {
         found,
-        next: place + 1,
+        next: behind(times, place, t),
     }
 }
 
-// The factor at t, which stands at this place or nowhere: a caller has the place from `part` or `part_near`, in
-// times that strictly rise.
+// Where a walk looks for the next time, t being at this place or between it and the one before: behind a point
+// at t itself, else at the same place, for between two points of a month there are many times.
+fn behind(times: &[f64], place: usize, t: f64) -> usize {
+    if times.len() <= place {
+        return place;
+    }
+    if times[place] == t { place + 1 } else { place }
+}
+
+// The factor at t, where the times before this place are those below t: a caller has the place from `part` or
+// `part_near`, in times that strictly rise.
 fn factor_at(times: &[f64], factors: &[f64], place: usize, t: f64) -> Found
     requires { ⌜ (inOrder true (now times) ≡ true) × PartsAt true (now times) t place ⌝ }
     ensures { λ r. ⌜ foundOf r ≡ factorAt (now (times .entry)) (now (factors .entry)) t ⌝ }
@@ -53,9 +62,26 @@ fn factor_at(times: &[f64], factors: &[f64], place: usize, t: f64) -> Found
     if factors.len() <= place {
         return Found::Missing;
     }
-    if times[place] == t {
-        let found = factors[place];
-        Found::At(found)
+    let t1 = times[place];
+    let f1 = factors[place];
+    if t1 == t {
+        return Found::At(f1);
+    }
+    if place == 0 {
+        return Found::Missing;
+    }
+    between(times[place - 1], factors[place - 1], t1, f1, t)
+}
+
+// The factor at a time strictly between two neighbours, where it is finite.
+fn between(t0: f64, f0: f64, t1: f64, f1: f64, t: f64) -> Found
+    ensures { λ r. ⌜ foundOf r ≡ ifFinite (betweenOf t0 f0 t1 f1 t) ⌝ }
+{
+    let w = (t - t0) / (t1 - t0);
+    let ln_f0 = math_elementary::ln(f0);
+    let factor = math_exponential::exp(ln_f0 + w * (math_elementary::ln(f1) - ln_f0));
+    if math_elementary::is_finite(factor) {
+        Found::At(factor)
     } else {
         Found::Missing
     }

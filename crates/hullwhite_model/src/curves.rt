@@ -74,7 +74,7 @@ fn a_priced(alpha: f64, times: &[f64], factors: &[f64], t: f64, bond: f64, sigma
     refusals::served(a)
 }
 
-// A(t, bond), where the curve has the times that it needs; b is B(t, bond). Whoever asks has the curve's
+// A(t, bond), where the curve has the factors that it needs; b is B(t, bond). Whoever asks has the curve's
 // times strictly rising.
 fn a_found(
     alpha: f64,

@@ -21,7 +21,7 @@ use Rattle.math_normal.specs.NormCdf.{normCdfOf, normCdfDualOf, normBy, upperOf
 use Rattle.refusals.specs.declared.refusals.Refusal.the-variants as R
 use Rattle.refusals.specs.Refusals.{Outcome, served, refused, following, firstOf, numberOf, answerOf, answerNumber, valueOr}
 use Rattle.refusals.specs.Checks.{allOf, inOrder, inOrderFrom}
-use Rattle.curve.specs.Lookups.{factorAt}
+use Rattle.curve.specs.Lookups.{factorAt, betweenOr}
 use Rattle.hullwhite_formulas.specs.HullWhite.{h, bOf, forwardOf}
 use Rattle.hullwhite_parameters.specs.Variance.{piecewiseVarianceOf, variancePiecesOf, variancePieceOf, weightOf}
 use Rattle.hullwhite_terms.specs.Terms.{coefficientsOf, bsOf, factorsAt}
@@ -197,10 +197,10 @@ pub payer-term : (coefficientsOf zero (zero ∷ []) ≡ one ∷ []) × (affineAL
 unfolding expOf nearestWhole seriesOf lnOf places significandOf exponentOf oddSeriesOf fusedOf coefficientsOf bsOf bOf h forwardOf piecewiseVarianceOf variancePiecesOf variancePieceOf weightOf affineAListOf affineAOf decimal add sub mul div neg lt le eq isNan ofInt ofBits size
 payer-term = (refl, refl, refl)
 
--- the rules let it through, and the curve has its times
+-- the rules let it through, and the curve has its factors
 payer-priced : pricerOutcome Swaption.Payer tiny (one ∷ []) (one ∷ []) times (one ∷ one ∷ one ∷ []) (two ∷ []) (zero ∷ []) (zero ∷ []) zero one one one
     ≡ pricedBy Swaption.Payer (pricerDeviationOf variance) one (coefficientsOf zero (zero ∷ [])) (affineAListOf variance (forwardOf one one) one (bsOf tiny one (two ∷ [])) (one ∷ [])) (bsOf tiny one (two ∷ [])) (one ∷ []) (zero ∷ []) one one
-unfolding pricerOutcome swaptionPriced firstOf allOf inOrder inOrderFrom factorAt factorsAt h decimal add div lt le eq ne neg isNan ofBits size
+unfolding pricerOutcome swaptionPriced firstOf allOf inOrder inOrderFrom factorAt betweenOr factorsAt h decimal add div lt le eq ne neg isNan ofBits size
 payer-priced = refl
 
 -- alpha; pillars (1, 1); curve; coupon (2, 0, 0); strike 0, option time 1, notional 1, side 1

@@ -1,4 +1,4 @@
--- The order of floats, NaNs and infinities included: what is below y is below all that y is at most, and two numbers of which one is below the other are not equal.
+-- The order of floats, NaNs and infinities included: what is below y is below all that y is at most; two numbers of which one is below the other are not equal, and the other is not below the one; of two numbers that are not equal one is below the other.
 use mathlib.Core.Path.{_≡_, refl, sym, ap, _∙_, subst}
 use mathlib.Core.Logic.{_⊎_, inl, inr, ⊎-elim}
 use mathlib.Core.Bool.{Bool, true, false, _&&_, _||_}
@@ -6,7 +6,7 @@ use Prim.Native.Nat.{ℕ, _+_, _*_, _≤_, _<_}
 use native.Mathlib.Omega.{arith}
 use native.Mathlib.Nat as Nat
 use native.Mathlib.Nat.{lt-of-lt-of-le, lt-of-le-of-lt, eq-zero-or-pos, zero-mul, mul-pos, mul-right-comm, mul-le-mul-right, mul-lt-mul-of-pos-right, lt-of-mul-lt-mul-right}
-use lib.Dec.{T, ltb, eqb, ltb→lt, lt→ltb, eqb→eq}
+use lib.Dec.{T, ltb, eqb, ltb→lt, lt→ltb, nltb→le, eqb→eq, eqb-refl}
 use lib.Ieee.{Float, nan, inf, fin, up, down, below, level, lt, le, eq}
 use lib.Ieee.Fits.{down-pos, and-l, and-r}
 use lib.Ieee.Positive.{first-pos}
@@ -171,3 +171,69 @@ lt-unequal (inf s) (fin t n d) h = refl
 lt-unequal (fin s m e) nan h = refl
 lt-unequal (fin s m e) (inf t) h = refl
 lt-unequal (fin s m e) (fin t n d) h = refuted (level s (m * up e * down d) t (n * up d * down e)) (unlevel s t (m * up e * down d) (n * up d * down e) h)
+
+-- ---- what is below y is not above it
+pub not-below-itself : (x : Float) → T (lt x x) → ⊥
+unfolding lt
+not-below-itself nan h = h
+not-below-itself (inf false) h = h
+not-below-itself (inf true) h = h
+not-below-itself (fin false m e) h = let l : m * up e * down e < m * up e * down e = ltb→lt (m * up e * down e) (m * up e * down e) h in omega arith
+not-below-itself (fin true m e) h = let l : m * up e * down e < m * up e * down e = ltb→lt (m * up e * down e) (m * up e * down e) h in omega arith
+
+pub lt-not-above : (x y : Float) → T (lt x y) → lt y x ≡ false
+lt-not-above x y h = refuted (lt y x) (λ k. not-below-itself x (lt-le x y x h (le-of-lt y x k)))
+
+-- ---- of two numbers above a third one that neither is below the other nor equals it is above it
+unequal : (a b : ℕ) (c : Bool) → T c → (eqb a b && c) ≡ false → a ≡ b → ⊥
+unequal a b true u h e = let w : eqb a b ≡ true = held (eqb a b) (subst (λ (k : ℕ). T (eqb a k)) e (eqb-refl a)) in subst T (ap (λ (z : Bool). z && true) (sym w) ∙ h) tt
+unequal a b false u h e = u
+
+not-less : (a b : ℕ) → ltb a b ≡ false → b ≤ a
+not-less a b h = nltb→le a b (rw h tt)
+
+not-both-zero : (a b : ℕ) → (eqb a b && eqb a 0) ≡ false → 0 < a + b
+not-both-zero a b h =
+    ⊎-elim
+    (λ z.
+    let p : a ≡ 0 = omega arith in
+    let q : a ≡ b = omega arith in
+    absurd (unequal a b (eqb a 0) (subst (λ (k : ℕ). T (eqb k 0)) (sym p) (eqb-refl 0)) h q))
+    (λ l. l)
+    (eq-zero-or-pos (a + b))
+
+other-way : (s t : Bool) (a b : ℕ) → below s a t b ≡ false → level s a t b ≡ false → T (below t b s a)
+other-way false false a b h k =
+    let m : b ≤ a = not-less a b h in
+    let u : a ≡ b → ⊥ = unequal a b true tt k in
+    lt→ltb b a (omega arith)
+other-way false true a b h k = let l : 0 < a + b = not-both-zero a b k in lt→ltb 0 (b + a) (omega arith)
+other-way true false a b h k =
+    let l : 0 < a + b = not-both-zero a b k in
+    let m : a + b ≤ 0 = not-less 0 (a + b) h in
+    absurd (let z : ⊥ = omega arith in z)
+other-way true true a b h k =
+    let m : a ≤ b = not-less b a h in
+    let u : a ≡ b → ⊥ = unequal a b true tt k in
+    lt→ltb a b (omega arith)
+
+nothing-below-nan : (a : Float) → T (lt a nan) → ⊥
+unfolding lt
+nothing-below-nan nan h = h
+nothing-below-nan (inf s) h = h
+nothing-below-nan (fin s m e) h = h
+
+pub lt-otherwise : (a x y : Float) → T (lt a x) → T (lt a y) → lt x y ≡ false → eq x y ≡ false → T (lt y x)
+unfolding lt eq
+lt-otherwise a nan y h k l e = absurd (nothing-below-nan a h)
+lt-otherwise a (inf s) nan h k l e = absurd (nothing-below-nan a k)
+lt-otherwise a (fin s m d) nan h k l e = absurd (nothing-below-nan a k)
+lt-otherwise a (inf false) (inf false) h k l e = subst T e tt
+lt-otherwise a (inf false) (inf true) h k l e = tt
+lt-otherwise a (inf true) (inf false) h k l e = subst T l tt
+lt-otherwise a (inf true) (inf true) h k l e = subst T e tt
+lt-otherwise a (inf false) (fin t n d) h k l e = tt
+lt-otherwise a (inf true) (fin t n d) h k l e = subst T l tt
+lt-otherwise a (fin s m c) (inf false) h k l e = subst T l tt
+lt-otherwise a (fin s m c) (inf true) h k l e = tt
+lt-otherwise a (fin s m c) (fin t n d) h k l e = other-way s t (m * up c * down d) (n * up d * down c) l e

@@ -1,4 +1,4 @@
--- Kinds 5, 10 and 11 with the work in the Rust's own place, for document 02, A.3: factors are fetched and A and B worked out inside each coupon of each evaluation of the coupon sum, at each sigma. A time that is missing turns the call down where it is asked for, by rule 8 (the Rust puts 0 for that A). Ladders, halvings and the other refusals are document 01's.
+-- Kinds 5, 10 and 11 with the work in the Rust's own place, for document 02, A.3: factors are fetched and A and B worked out inside each coupon of each evaluation of the coupon sum, at each sigma. A time without a factor turns the call down where it is asked for, by rule 8 (the Rust puts 0 for that A). Ladders, halvings and the other refusals are document 01's.
 use mathlib.Core.Path.{_≡_}
 use mathlib.Core.Bool.{Bool, true, false, cond}
 use mathlib.Core.List.{List, [], _∷_, List·Memᴰ}
@@ -132,7 +132,7 @@ fitAsWritten quote alpha ts fs payments accruals strike t vol =
     unless (swaptionRulesOn quote alpha ts fs payments accruals strike t vol)
     (following (solveOf (objectiveAsWritten quote alpha ts fs payments accruals strike t vol)) finishingFit)
 
--- ---- a time that the call needs is not on the curve
+-- ---- the curve has no factor for a time that the call needs
 pub data Misses (ts fs payments : List Float) (t : Float) : Type 0 where
   at-option : factorAt ts fs t ≡ nothing → Misses ts fs payments t
   day-after : factorAt ts fs (t ⊕ h) ≡ nothing → Misses ts fs payments t

@@ -4,3 +4,4 @@ pub mod NoPillars
 pub mod AsWritten
 pub mod WorkAhead
 pub mod CouponWork
+pub mod BetweenPoints
