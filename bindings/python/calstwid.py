@@ -10,9 +10,10 @@ proved to meet its contract where it is written, in Rattle; this module hands nu
 Times are years from today; rates, strikes of rates and volatilities are fractions a year (0.03 is 3 %); alpha is the mean reversion. A value is for
 a notional of 1 except where a notional is an argument. `times` and `factors` are a discount curve of at most 2,048 points, times strictly rising.
 
-A time at which a function needs the curve is on the curve or between two of its points, else it is refused with 8. On the curve it has the factor
-listed there; strictly between two neighbours (t0, f0) and (t1, f1) it has exp(ln(f0) + w * (ln(f1) - ln(f0))), w being (t - t0) / (t1 - t0), by this
-module's exp and ln. Where a function says that it needs t + 1/365, it is t + 1.0 / 365.0.
+A time at which a function needs the curve is on the curve or between two of its points. On the curve it has the factor listed there; strictly between
+two neighbours (t0, f0) and (t1, f1) it has exp(ln(f0) + w * (ln(f1) - ln(f0))), w being (t - t0) / (t1 - t0), by this module's exp and ln. Before the
+first point, after the last, and where that factor is not finite, the call is refused with 8. Where a function says that it needs t + 1/365, it is
+t + 1.0 / 365.0.
 
 A list of numbers is a list, a tuple, an array('d'), a numpy array of one dimension or anything else that iterates over numbers. An array('d') and
 a numpy array of float64 are read where they are; others are copied. A number may be an int. What is no number raises TypeError: a complex number,

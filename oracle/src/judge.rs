@@ -193,7 +193,8 @@ pub fn read(bytes: &[u8], slip: Slip) -> Option<Run> {
 /// Rule 8 "is left for times before the first or after the last point, for a curve
 /// without points, and for a factor so found that is not finite."
 pub fn factor(n: &Numbers, curve: &[(f64, f64)], time: f64) -> Result<f64, Refusal> {
-    let at = curve.partition_point(|point| point.0 < time);
+    // Read along the list; the table curve halves it.
+    let at = curve.iter().take_while(|point| point.0 < time).count();
     let (before, after) = curve.split_at(at);
     let listed = match after.first() {
         Some(point) if n.slips(Slip::LookupBits) => point.0.to_bits() == time.to_bits(),
@@ -247,6 +248,7 @@ fn between(n: &Numbers, (t0, f0): (f64, f64), (t1, f1): (f64, f64), t: f64) -> f
             }
         }
         Slip::LastCarriedOn => f0,
+        Slip::BetweenHeld => n.exp(low + w * (high - low)).clamp(f0.min(f1), f0.max(f1)),
         Slip::BetweenRatio => n.exp(low + w * n.ln(f1 / f0)),
         Slip::BetweenFromAbove => n.exp(high + ((t1 - t) / (t1 - t0)) * (low - high)),
         Slip::BetweenTwoWeights => n.exp((1.0 - w) * low + w * high),

@@ -72,6 +72,7 @@ slips! {
     BetweenSlope, "between-slope-first", Printed, "between two points: ln f0 + (t - t0) × ((ln f1 - ln f0)/(t1 - t0))";
     BetweenLinear, "between-linear", Printed, "between two points: f0 + w × (f1 - f0)";
     BetweenNearest, "between-nearest", Printed, "between two points: the factor of the nearer one";
+    BetweenHeld, "between-held", Printed, "between two points: the factor is held between theirs";
     WFromTheOther, "w-from-the-other-end", Printed, "between two points: w = (t1 - t)/(t1 - t0)";
     LastCarriedOn, "last-factor-carried-on", Printed, "between two points: the factor of the one before";
     LastCarriedOut, "last-factor-carried-out", Printed, "after the last point its factor is served";

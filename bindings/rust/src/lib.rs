@@ -6,9 +6,10 @@
 //! Times are years from today; rates, strikes of rates and volatilities are fractions a year (0.03 is 3 %); alpha is the mean reversion. A value is
 //! for a notional of 1 except where a notional is an argument.
 //!
-//! A time at which a call needs the [`Curve`] is on the curve or between two of its points, else it is refused. On the curve it has the factor listed
-//! there; strictly between two neighbours (t0, f0) and (t1, f1) it has exp(ln(f0) + w × (ln(f1) - ln(f0))), w being (t - t0) / (t1 - t0), by [`exp`]
-//! and [`ln`]. Where a call says that it needs t + 1/365, it is `t + 1.0 / 365.0`.
+//! A time at which a call needs the [`Curve`] is on the curve or between two of its points. On the curve it has the factor listed there; strictly
+//! between two neighbours (t0, f0) and (t1, f1) it has exp(ln(f0) + w × (ln(f1) - ln(f0))), w being (t - t0) / (t1 - t0), by [`exp`] and [`ln`].
+//! Before the first point, after the last, and where that factor is not finite, the call is refused with [`Refusal::OffCurve`]. Where a call says that
+//! it needs t + 1/365, it is `t + 1.0 / 365.0`.
 //!
 //! ```
 //! use calstwid::{bond_call_price, Curve, Refusal};

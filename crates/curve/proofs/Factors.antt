@@ -5,13 +5,12 @@ use mathlib.Core.List.{List, [], _∷_}
 use mathlib.Core.Logic.{⊎-elim}
 use Prim.Native.Nat.{ℕ, zero, suc, _+_, _-_, _≤_, _<_, zero-le, suc-le-suc}
 use native.Mathlib.Omega.{arith}
-use native.Mathlib.Nat.{not-suc-le-zero, le-of-suc-le-suc, zero-lt-suc}
-use native.Mathlib.Numerals.{add-one}
+use native.Mathlib.Nat.{not-suc-le-zero, zero-lt-suc}
 use lib.Dec.{T}
 use lib.ListN.{length, getD, drop}
 use lib.Ieee.{Float, nan, lt, eq}
 use Rattle.refusals.specs.Checks.{inOrderFrom, inOrder}
-use Rattle.refusals.proofs.Order.{both, holds, held, refuted, not-below-itself, lt-le, le-of-eq, lt-unequal, lt-not-above, lt-otherwise}
+use Rattle.refusals.proofs.Order.{both, holds, held, refuted, lt-le, le-of-eq, lt-unequal, lt-not-above, equal-not-above, lt-otherwise}
 use Rattle.refusals.proofs.Walks.{next, done}
 use Rattle.curve.specs.Lookups.{Front, Back, PartsAt, Maybe, just, nothing, ifFinite, betweenOf, betweenOr, factorAt}
 use Rattle.curve.proofs.Halves.{rest, rises, before-or-not}
@@ -32,7 +31,7 @@ neighbour-not-above otherwise t0 f0 (t1 ∷ ts) (f1 ∷ fs) t h = ap (λ (b : Bo
     never true = refl
     never false = refl
 
-pub passed : (t0 f0 : Float) (ts fs : List Float) (t : Float) → eq t0 t ≡ false → (0 < length ts → lt t (getD ts 0 nan) ≡ false) → factorAt (t0 ∷ ts) (f0 ∷ fs) t ≡ factorAt ts fs t
+passed : (t0 f0 : Float) (ts fs : List Float) (t : Float) → eq t0 t ≡ false → (0 < length ts → lt t (getD ts 0 nan) ≡ false) → factorAt (t0 ∷ ts) (f0 ∷ fs) t ≡ factorAt ts fs t
 unfolding factorAt
 passed t0 f0 ts fs t e h = rw e (neighbour-not-above (factorAt ts fs t) t0 f0 ts fs t h)
 
@@ -79,9 +78,6 @@ no-factor ts (y ∷ fs) t (suc i) p h k =
     (λ l. last-below ts (y ∷ fs) t i (p .1) (p .0) l ∙ rw (next ts (i + 1) (let z : i + 1 < length ts = omega arith in z), done (y ∷ fs) (i + 1) (let z : length (y ∷ fs) ≤ i + 1 = omega arith in z)))
     (λ m. short ts (y ∷ fs) t i (p .1) (p .0) m)
     (before-or-not i (length (y ∷ fs)))
-
-equal-not-above : (x t : Float) → eq x t ≡ true → lt t x ≡ false
-equal-not-above x t e = refuted (lt t x) (λ l. not-below-itself t (lt-le t x t l (le-of-eq x t (holds (eq x t) e))))
 
 pub on-list : (ts fs : List Float) (t : Float) (n : ℕ) → PartsAt true ts t n → n < length ts → n < length fs → eq (getD ts n nan) t ≡ true → factorAt ts fs t ≡ just (getD fs n nan)
 unfolding factorAt

@@ -11,7 +11,7 @@ use Rattle.curve.specs.Lookups.{just, nothing, lastAt, volatilityAt}
 use Rattle.refusals.proofs.Order.{both}
 
 -- ---- taking answers apart
-none-found : {p : Float} → nothing ≡ just p → ⊥
+pub none-found : {p : Float} → nothing ≡ just p → ⊥
 none-found h = let z : _≡_ {A = ℕ} 0 1 = cc in omega arith
 
 -- ---- where every sigma passes a test, so does the volatility

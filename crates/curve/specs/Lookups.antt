@@ -49,14 +49,14 @@ betweenOf t0 f0 t1 f1 t = let w = (t ⊖ t0) ⊘ (t1 ⊖ t0) in expOf (lnOf f0 �
 abbrev pub ifFinite : Float → Maybe
 ifFinite factor = cond (finite factor) (just factor) nothing
 
--- what a time is given that is strictly between the point (t0, f0) and its neighbour, the first of those behind it; another has `otherwise`
+-- a time strictly between (t0, f0) and its neighbour, the first of the lists, is given that; any other time has `otherwise`
 unfoldable pub betweenOr : Maybe → Float → Float → List Float → List Float → Float → Maybe
 betweenOr otherwise t0 f0 [] fs t = otherwise
 betweenOr otherwise t0 f0 (t1 ∷ ts) [] t = otherwise
 betweenOr otherwise t0 f0 (t1 ∷ ts) (f1 ∷ fs) t = cond (lt t0 t && lt t t1) (ifFinite (betweenOf t0 f0 t1 f1 t)) otherwise
 
--- A.4: "A time on the list keeps its stored factor", "numbers compared, so -0 equals +0"; there is none "for times before the first or after the last point" and
--- "for a curve without points"
+-- A.4: "A time on the list keeps its stored factor" (by rule 8 "numbers compared, so -0 equals +0"); there is none "for times before the first or after the last
+-- point" and "for a curve without points"
 unfoldable pub factorAt : List Float → List Float → Float → Maybe
 unfolding betweenOr
 factorAt [] fs t = nothing

@@ -1,7 +1,7 @@
 // The factor at a time, the volatility at a time, and the times up to a time.
 ghost use mathlib.Core.Path.{_≡_};
 ghost use mathlib.Core.Bool.{true};
-ghost use Prim.Native.Nat.{_≤_, _-_};
+ghost use Prim.Native.Nat.{_+_, _-_, _≤_};
 ghost use lib.ListN.{length, take};
 ghost use Rattle.refusals.specs.Checks.{inOrder};
 ghost use Rattle.curve.specs.Lookups.{Front, Back, PartsAt, foundOf, ifFinite, betweenOf, factorAt, volatilityAt, upTo};
@@ -42,8 +42,11 @@ pub fn factor_near(times: &[f64], factors: &[f64], hint: usize, t: f64) -> Found
 }
 
 // Where a walk looks for the next time, t being at this place or between it and the one before: behind a point
-// at t itself, else at the same place, for between two points of a month there are many times.
-fn behind(times: &[f64], place: usize, t: f64) -> usize {
+// at t itself, else at the same place, for between two points of a month there are many times. It is a hint: no
+// outcome turns on it.
+fn behind(times: &[f64], place: usize, t: f64) -> usize
+    ensures { λ r. ⌜ (place ≤ r) × (r ≤ place + 1) ⌝ }
+{
     if times.len() <= place {
         return place;
     }

@@ -1,4 +1,4 @@
--- The order of floats, NaNs and infinities included: what is below y is below all that y is at most; two numbers of which one is below the other are not equal, and the other is not below the one; of two numbers that are not equal one is below the other.
+-- The order of floats, NaNs and infinities included: what is below y is below all that y is at most; of two numbers of which one is below the other, they are not equal and the other is not below the one; of two that are not equal one is below the other.
 use mathlib.Core.Path.{_≡_, refl, sym, ap, _∙_, subst}
 use mathlib.Core.Logic.{_⊎_, inl, inr, ⊎-elim}
 use mathlib.Core.Bool.{Bool, true, false, _&&_, _||_}
@@ -173,7 +173,7 @@ lt-unequal (fin s m e) (inf t) h = refl
 lt-unequal (fin s m e) (fin t n d) h = refuted (level s (m * up e * down d) t (n * up d * down e)) (unlevel s t (m * up e * down d) (n * up d * down e) h)
 
 -- ---- what is below y is not above it
-pub not-below-itself : (x : Float) → T (lt x x) → ⊥
+not-below-itself : (x : Float) → T (lt x x) → ⊥
 unfolding lt
 not-below-itself nan h = h
 not-below-itself (inf false) h = h
@@ -183,6 +183,12 @@ not-below-itself (fin true m e) h = let l : m * up e * down e < m * up e * down 
 
 pub lt-not-above : (x y : Float) → T (lt x y) → lt y x ≡ false
 lt-not-above x y h = refuted (lt y x) (λ k. not-below-itself x (lt-le x y x h (le-of-lt y x k)))
+
+pub above-unequal : (x y : Float) → T (lt y x) → eq x y ≡ false
+above-unequal x y h = refuted (eq x y) (λ k. not-below-itself y (lt-le y x y h (le-of-eq x y k)))
+
+pub equal-not-above : (x y : Float) → eq x y ≡ true → lt y x ≡ false
+equal-not-above x y h = refuted (lt y x) (λ k. not-below-itself y (lt-le y x y k (le-of-eq x y (holds (eq x y) h))))
 
 -- ---- of two numbers above a third one that neither is below the other nor equals it is above it
 unequal : (a b : ℕ) (c : Bool) → T c → (eqb a b && c) ≡ false → a ≡ b → ⊥

@@ -1,12 +1,12 @@
 -- Document 02, A.4: "A time strictly between two neighbours (t0, f0) and (t1, f1) is given exp(ln f0 + w × (ln f1 - ln f0)), where w = (t - t0)/(t1 - t0). A time on the list keeps its stored factor. Refusal 8 is left for times before the first or after the last point, for a curve without points, and for a factor so found that is not finite. .. Jobs served before keep their values."
 use mathlib.Core.Path.{_≡_, refl, sym, ap, _∙_}
-use mathlib.Core.Logic.{_⊎_, inl, inr, ⊎-elim}
-use mathlib.Core.Bool.{Bool, true, false, cond, _&&_, true≢false}
+use mathlib.Core.Bool.{Bool, true, false, cond, not, true≢false}
 use mathlib.Core.List.{List, [], _∷_}
-use Prim.Native.Nat.{ℕ, zero, suc, _+_, _-_, _*_, _≤_, _<_, _^_, suc-le-suc}
+use Prim.Native.Nat.{ℕ, suc, _+_, _-_, _*_, _≤_, _<_, _^_, suc-le-suc}
 use native.Mathlib.Omega.{arith}
-use native.Mathlib.Nat.{not-suc-le-zero, le-of-suc-le-suc, zero-lt-suc}
-use lib.Dec.{T}
+use native.Mathlib.Nat.{zero-lt-suc}
+use borrow.Author.Tests.{eqb-true, not-false}
+use lib.Dec.{T, ltb, eqb}
 use lib.ListN.{length, getD}
 use lib.Ieee.{Float, nan, inf, fin, binary64, add, sub, mul, div, neg, lt, le, eq, ne, isNan, ofInt, ofBits, size}
 use lib.Ieee.Scale.{finite}
@@ -15,10 +15,13 @@ use Rattle.ieee.specs.Numbers.{one, two}
 use Rattle.math_elementary.specs.Ln.{lnOf, places, significandOf, exponentOf, oddSeriesOf}
 use Rattle.math_exponential.specs.Exp.{expOf, nearestWhole, seriesOf}
 use Rattle.refusals.specs.declared.checks.Test.the-variants.{Finite}
+use Rattle.refusals.specs.Faults.{curveFaults}
 use Rattle.refusals.specs.Checks.{allOf, inOrderFrom, inOrder}
-use Rattle.refusals.proofs.Order.{both, holds, held, refuted, not-below-itself, lt-le, le-of-lt, le-of-eq, lt-unequal, lt-not-above, lt-otherwise}
-use Rattle.curve.specs.Lookups.{Front, PartsAt, Maybe, just, nothing, ifFinite, betweenOf, betweenOr, factorAt}
+use Rattle.refusals.proofs.Order.{both, holds, held, refuted, lt-le, le-of-lt, le-of-eq, lt-unequal, lt-not-above, above-unequal, equal-not-above, lt-otherwise}
+use Rattle.refusals.proofs.Outcomes.{neither}
+use Rattle.curve.specs.Lookups.{Front, Maybe, just, nothing, ifFinite, betweenOf, betweenOr, factorAt}
 use Rattle.curve.proofs.Halves.{rest, rises, front, back, back-none}
+use Rattle.curve.proofs.Laws.{none-found}
 use Rattle.curve.proofs.Factors as Factors
 
 -- ---- what a curve is behind rules 1, 2 and 4: as many factors as times, and times that are finite and strictly rise
@@ -26,6 +29,12 @@ pub record Curve (ts fs : List Float) : Type 0 where
   pub paired : length fs ≡ length ts
   pub numbers : allOf Finite ts ≡ true
   pub rising : inOrder true ts ≡ true
+
+-- what these rules let through is one
+pub let-through : (ts fs : List Float) → curveFaults ts fs .size ≡ false → curveFaults ts fs .«not_finite» ≡ false → curveFaults ts fs .order ≡ false → Curve ts fs
+let-through ts fs a b c =
+    let paired = eqb-true (length ts) (length fs) (not-false (eqb (length ts) (length fs)) (neither (ltb 2048 (length ts)) (not (eqb (length ts) (length fs))) a .1)) in
+    record { paired = sym paired; numbers = both (allOf Finite ts) (allOf Finite fs) (not-false _ b) .0; rising = not-false (inOrder true ts) c }
 
 -- place k has t, numbers compared
 pub record On (ts : List Float) (t : Float) (k : ℕ) : Type 0 where
@@ -41,8 +50,9 @@ pub record Between (ts : List Float) (t : Float) (k : ℕ) : Type 0 where
 abbrev pub Before : List Float → Float → Type 0
 Before ts t = T (lt t (getD ts 0 nan))
 
-abbrev pub After : List Float → Float → Type 0
-After ts t = T (lt (getD ts (length ts - 1) nan) t)
+pub record After (ts : List Float) (t : Float) : Type 0 where
+  pub some : 0 < length ts
+  pub above : T (lt (getD ts (length ts - 1) nan) t)
 
 -- what a time between the points at k and behind it is given
 abbrev pub between : List Float → List Float → Float → ℕ → Float
@@ -51,12 +61,6 @@ between ts fs t k = betweenOf (getD ts k nan) (getD fs k nan) (getD ts (suc k) n
 -- ---- the place of t
 equal-not-below : (x t : Float) → eq x t ≡ true → lt x t ≡ false
 equal-not-below x t e = refuted (lt x t) (λ l. true≢false (sym e ∙ lt-unequal x t l))
-
-above-unequal : (x t : Float) → T (lt t x) → eq x t ≡ false
-above-unequal x t l = refuted (eq x t) (λ e. not-below-itself t (lt-le t x t l (le-of-eq x t e)))
-
-last-place : (ts : List Float) → 0 < length ts → length ts - 1 + 1 ≡ length ts
-last-place ts h = omega arith
 
 module _ (ts fs : List Float) (c : Curve ts fs) (t : Float) where
   -- "A time on the list keeps its stored factor."
@@ -92,12 +96,13 @@ module _ (ts fs : List Float) (c : Curve ts fs) (t : Float) where
   before l = Factors.before-first ts fs t (c .rising) (back true ts t 0 (c .rising) (lt-not-above t (getD ts 0 nan) l)) (above-unequal (getD ts 0 nan) t l)
 
   -- "or after the last point"
-  pub after : 0 < length ts → After ts t → factorAt ts fs t ≡ nothing
-  after h l =
+  pub after : After ts t → factorAt ts fs t ≡ nothing
+  after a =
+      let h = a .some in
       let m : length ts - 1 < length ts = omega arith in
-      let q = last-place ts h in
       let n : length ts ≤ length ts = omega arith in
-      let below : Front true ts t (length ts) = rw q at (front true ts t (length ts - 1) (c .rising) m (held (lt (getD ts (length ts - 1) nan) t) l)) in
+      let q : length ts - 1 + 1 ≡ length ts = omega arith in
+      let below : Front true ts t (length ts) = rw q at (front true ts t (length ts - 1) (c .rising) m (held (lt (getD ts (length ts - 1) nan) t) (a .above))) in
       Factors.after-last ts fs t (length ts) (n, below, back-none true ts t (length ts) n) n
 
 -- "for a curve without points"
@@ -113,25 +118,27 @@ pub data Stands (ts : List Float) (t : Float) : Type 0 where
   on : (k : ℕ) → On ts t k → Stands ts t
   between-two : (k : ℕ) → Between ts t k → Stands ts t
   before-first : Before ts t → Stands ts t
-  after-last : 0 < length ts → After ts t → Stands ts t
+  after-last : After ts t → Stands ts t
 
-low : (x : Float) → finite x ≡ true → T (lt (inf true) x)
+above-minus-infinity : (x : Float) → finite x ≡ true → T (lt (inf true) x)
 unfolding lt
-low nan h = absurd (true≢false (sym h))
-low (inf s) h = absurd (true≢false (sym h))
-low (fin s m e) h = tt
+above-minus-infinity nan h = absurd (true≢false (sym h))
+above-minus-infinity (inf s) h = absurd (true≢false (sym h))
+above-minus-infinity (fin s m e) h = tt
+
+after-one : (x t : Float) → T (lt x t) → Stands (x ∷ []) t
+after-one x t l = after-last (record { some = zero-lt-suc 0; above = l })
 
 next-place : (x : Float) (ts : List Float) (t : Float) → Stands ts t → T (lt x t) → Stands (x ∷ ts) t
-next-place x ts t (nowhere e) l = after-last (zero-lt-suc (length ts)) (rw e l)
-next-place x ts t (on k o) l = on (suc k) (record { listed = suc-le-suc (o .listed); equal = o .equal })
-next-place x ts t (between-two k b) l = between-two (suc k) (record { listed = suc-le-suc (b .listed); above = b .above; below = b .below })
-next-place x [] t (before-first b) l = after-last (zero-lt-suc 0) l
+next-place x [] t stands l = after-one x t l
+next-place x (y ∷ ts) t (nowhere e) l = absurd (let z : length (y ∷ ts) ≡ 0 = ap length e in let n : ⊥ = omega arith in n)
+next-place x (y ∷ ts) t (on k o) l = on (suc k) (record { listed = suc-le-suc (o .listed); equal = o .equal })
+next-place x (y ∷ ts) t (between-two k b) l = between-two (suc k) (record { listed = suc-le-suc (b .listed); above = b .above; below = b .below })
 next-place x (y ∷ ts) t (before-first b) l = between-two 0 (record { listed = suc-le-suc (zero-lt-suc (length ts)); above = l; below = b })
-next-place x [] t (after-last h a) l = after-last (zero-lt-suc 0) l
-next-place x (y ∷ ts) t (after-last h a) l =
+next-place x (y ∷ ts) t (after-last a) l =
     let p : length (x ∷ y ∷ ts) - 1 ≡ suc (length ts) = omega arith in
     let q : length (y ∷ ts) - 1 ≡ length ts = omega arith in
-    after-last (zero-lt-suc (length (y ∷ ts))) (rw p (rw q at a))
+    after-last (record { some = zero-lt-suc (length (y ∷ ts)); above = rw p (rw q at (a .above)) })
 
 pub stands : (ts : List Float) (t : Float) → allOf Finite ts ≡ true → finite t ≡ true → Stands ts t
 unfolding allOf
@@ -143,22 +150,19 @@ stands (x ∷ ts) t n f =
     go : Stands ts t → finite x ≡ true → (e l : Bool) → eq x t ≡ e → lt x t ≡ l → Stands (x ∷ ts) t
     go behind n true l p q = on 0 (record { listed = zero-lt-suc (length ts); equal = p })
     go behind n false true p q = next-place x ts t behind (holds (lt x t) q)
-    go behind n false false p q = before-first (lt-otherwise (inf true) x t (low x n) (low t f) q p)
+    go behind n false false p q = before-first (lt-otherwise (inf true) x t (above-minus-infinity x n) (above-minus-infinity t f) q p)
 
 -- what refusal 8 is left for
 pub data Left (ts fs : List Float) (t : Float) : Type 0 where
   for-no-points : ts ≡ [] → Left ts fs t
   for-before : Before ts t → Left ts fs t
-  for-after : 0 < length ts → After ts t → Left ts fs t
+  for-after : After ts t → Left ts fs t
   for-not-finite : (k : ℕ) → Between ts t k → finite (between ts fs t k) ≡ false → Left ts fs t
 
 -- what a factor is
 pub data Given (ts fs : List Float) (t factor : Float) : Type 0 where
   stored : (k : ℕ) → On ts t k → factor ≡ getD fs k nan → Given ts fs t factor
   worked : (k : ℕ) → Between ts t k → factor ≡ between ts fs t k → finite factor ≡ true → Given ts fs t factor
-
-none : {A : Type 0} {p : Float} → nothing ≡ just p → A
-none h = absurd (let z : _≡_ {A = ℕ} 0 1 = cc in let y : ⊥ = omega arith in y)
 
 same : {p q : Float} → just p ≡ just q → p ≡ q
 same h = cc
@@ -169,20 +173,20 @@ module _ (ts fs : List Float) (c : Curve ts fs) (t : Float) (f : finite t ≡ tr
   left-alone h = go (stands ts t (c .numbers) f)
     where
       judged : (k : ℕ) → Between ts t k → (b : Bool) → finite (between ts fs t k) ≡ b → Left ts fs t
-      judged k b true e = none (sym h ∙ found ts fs c t k b e)
+      judged k b true e = absurd (none-found (sym h ∙ found ts fs c t k b e))
       judged k b false e = for-not-finite k b e
 
       go : Stands ts t → Left ts fs t
       go (nowhere e) = for-no-points e
-      go (on k o) = none (sym h ∙ on-the-list ts fs c t k o)
+      go (on k o) = absurd (none-found (sym h ∙ on-the-list ts fs c t k o))
       go (between-two k b) = judged k b (finite (between ts fs t k)) refl
       go (before-first b) = for-before b
-      go (after-last l a) = for-after l a
+      go (after-last a) = for-after a
 
   pub left : Left ts fs t → factorAt ts fs t ≡ nothing
   left (for-no-points e) = rw e (no-points fs t)
   left (for-before b) = before ts fs c t b
-  left (for-after l a) = after ts fs c t l a
+  left (for-after a) = after ts fs c t a
   left (for-not-finite k b e) = not-finite ts fs c t k b e
 
   -- and a factor that is found is a stored one or one between two neighbours
@@ -191,14 +195,14 @@ module _ (ts fs : List Float) (c : Curve ts fs) (t : Float) (f : finite t ≡ tr
     where
       judged : (k : ℕ) → Between ts t k → (b : Bool) → finite (between ts fs t k) ≡ b → Given ts fs t factor
       judged k b true e = let q : factor ≡ between ts fs t k = same (sym h ∙ found ts fs c t k b e) in worked k b q (rw q e)
-      judged k b false e = none (sym (not-finite ts fs c t k b e) ∙ h)
+      judged k b false e = absurd (none-found (sym (not-finite ts fs c t k b e) ∙ h))
 
       go : Stands ts t → Given ts fs t factor
-      go (nowhere e) = none (sym (left (for-no-points e)) ∙ h)
+      go (nowhere e) = absurd (none-found (sym (left (for-no-points e)) ∙ h))
       go (on k o) = stored k o (same (sym h ∙ on-the-list ts fs c t k o))
       go (between-two k b) = judged k b (finite (between ts fs t k)) refl
-      go (before-first b) = none (sym (left (for-before b)) ∙ h)
-      go (after-last l a) = none (sym (left (for-after l a)) ∙ h)
+      go (before-first b) = absurd (none-found (sym (left (for-before b)) ∙ h))
+      go (after-last a) = absurd (none-found (sym (left (for-after a)) ∙ h))
 
 -- ---- "Jobs served before keep their values": what document 01's rule found is found still
 
@@ -211,8 +215,8 @@ listedAt (x ∷ ts) (f ∷ fs) t = cond (eq x t) (just f) (listedAt ts fs t)
 -- a listed time is above every time before it
 above-earlier : (before : Float) (ts fs : List Float) (t : Float) {p : Float} → inOrderFrom true before ts ≡ true → listedAt ts fs t ≡ just p → T (lt before t)
 unfolding inOrderFrom listedAt
-above-earlier before [] fs t h e = none e
-above-earlier before (x ∷ ts) [] t h e = none e
+above-earlier before [] fs t h e = absurd (none-found e)
+above-earlier before (x ∷ ts) [] t h e = absurd (none-found e)
 above-earlier before (x ∷ ts) (f ∷ fs) t {p} h e =
     let r = both (lt before x) (inOrderFrom true x ts) h in
     lt-le before x t (holds (lt before x) (r .0)) (go (λ k. above-earlier x ts fs t (r .1) k) (eq x t) refl e)
@@ -224,18 +228,18 @@ above-earlier before (x ∷ ts) (f ∷ fs) t {p} h e =
 -- and not below the first
 not-before : (ts fs : List Float) (t : Float) {p : Float} → inOrder true ts ≡ true → listedAt ts fs t ≡ just p → lt t (getD ts 0 nan) ≡ false
 unfolding inOrder listedAt
-not-before [] fs t h e = none e
-not-before (x ∷ ts) [] t h e = none e
+not-before [] fs t h e = absurd (none-found e)
+not-before (x ∷ ts) [] t h e = absurd (none-found e)
 not-before (x ∷ ts) (f ∷ fs) t {p} h e = go (eq x t) refl e
   where
     go : (b : Bool) → eq x t ≡ b → cond b (just f) (listedAt ts fs t) ≡ just p → lt t x ≡ false
-    go true q k = refuted (lt t x) (λ l. true≢false (sym q ∙ above-unequal x t l))
+    go true q k = equal-not-above x t q
     go false q k = lt-not-above x t (above-earlier x ts fs t h k)
 
 pub kept : (ts fs : List Float) (t : Float) {p : Float} → inOrder true ts ≡ true → listedAt ts fs t ≡ just p → factorAt ts fs t ≡ just p
 unfolding listedAt factorAt inOrder
-kept [] fs t h e = none e
-kept (x ∷ ts) [] t h e = none e
+kept [] fs t h e = absurd (none-found e)
+kept (x ∷ ts) [] t h e = absurd (none-found e)
 kept (x ∷ ts) (f ∷ fs) t {p} h e = go (λ k. kept ts fs t (rest x ts h) k) (eq x t) refl e
   where
     go : (listedAt ts fs t ≡ just p → factorAt ts fs t ≡ just p) → (b : Bool) → eq x t ≡ b → cond b (just f) (listedAt ts fs t) ≡ just p → cond (eq x t) (just f) (betweenOr (factorAt ts fs t) x f ts fs t) ≡ just p
@@ -253,7 +257,7 @@ pub nan-refused : factorAt (neg (decimal (10 ^ 308) 0) ∷ decimal (12 * 10 ^ 30
 unfolding factorAt betweenOr betweenOf expOf nearestWhole seriesOf lnOf places significandOf exponentOf oddSeriesOf decimal add sub mul div neg lt le eq ne isNan ofInt ofBits size
 nan-refused = refl
 
--- the largest f64 as the upper factor, w one f64 below 1: exp is infinite
+-- the largest f64 as the upper factor: w has rounded to 1, ln f0 + (ln f1 - ln f0) is an f64 above ln f1, and exp of it is infinite
 pub infinity-refused : factorAt (decimal 7057691290677448 16 ∷ decimal 32464201598086486 16 ∷ []) (decimal 9469050158921633 253 ∷ largest ∷ []) (decimal 3246420159808648 15) ≡ nothing
 unfolding factorAt betweenOr betweenOf expOf nearestWhole seriesOf lnOf places significandOf exponentOf oddSeriesOf decimal add sub mul div neg lt le eq ne isNan ofInt ofBits size
 infinity-refused = refl

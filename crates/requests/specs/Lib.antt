@@ -5,3 +5,4 @@ pub mod AsWritten
 pub mod WorkAhead
 pub mod CouponWork
 pub mod BetweenPoints
+pub mod JobsKept

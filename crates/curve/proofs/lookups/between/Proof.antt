@@ -1,6 +1,6 @@
--- `between` meets its contract.
-use mathlib.Core.Path.{_≡_, refl, sym, ap, _∙_}
-use mathlib.Core.Bool.{Bool, true, false, cond}
+-- `between` meets its contract: the formula, and then whether it is finite.
+use mathlib.Core.Path.{_≡_}
+use mathlib.Core.Bool.{Bool, true, false}
 use lib.Ieee.{Float}
 use lib.Ieee.Scale.{finite}
 use Rattle.ieee.specs.Rounded.{_⊕_, _⊖_, _⊗_, _⊘_}
