@@ -103,11 +103,23 @@ def spread(points, jobs=128):
     return run(alpha=ALPHA, curve=listed, jobs=[caplet_job(1, i, pairs) for i in range(jobs)])
 
 
-def path(points, curve_points, pillar_count, jobs):
+def path(points, curve_points, pillar_count, jobs, kind=12):
     grid = [(0.25 + 0.015625 * i, (i * 0.6180339887498949 % 1.0) * 4.0 - 2.0) for i in range(points)]
     needed = sorted({t for t, _ in grid} | {t + H for t, _ in grid})
     size = curve_points if curve_points == MONTH_ENDS else max(curve_points, len(needed))
-    return run(alpha=ALPHA, pillars=pillars(pillar_count), curve=curve(size, needed), grid=grid, jobs=[job(12)] * jobs)
+    return run(alpha=ALPHA, pillars=pillars(pillar_count), curve=curve(size, needed), grid=grid, jobs=[job(kind)] * jobs)
+
+
+def for_the_rust(section, data):
+    """The file that the Rust is given: it has no kind 13, and is timed on kind 12 over the same lists."""
+    if section != "published":
+        return data
+    at, size = struct.unpack_from("<2I", data, 40)
+    made = bytearray(data)
+    for place in range(at, at + size, 40):
+        if struct.unpack_from("<Q", made, place) == (13,):
+            struct.pack_into("<Q", made, place, 12)
+    return bytes(made)
 
 
 def basket(count, curve_points=128):
@@ -134,7 +146,8 @@ def mixed(jobs):
     return run(alpha=ALPHA, pillars=pillars(8), curve=curve(64, needed), coupons=payments, jobs=made)
 
 
-# (section, name, file). The section says how it is called: in rounds, as a basket, or the whole program.
+# (section, name, file). The section says how it is called: in rounds, as a basket, or the whole program; and of what is `published` the Rust is given
+# another kind (`for_the_rust`).
 CASES = [("kinds", f"kind {kind}, 128 jobs", caplets(kind)) for kind in (1, 2, 3, 4)]
 CASES += [("kinds", f"kind {kind}, 128 jobs, 10 coupons", swaptions(kind, 10, 128)) for kind in (5, 6, 7)]
 # A fixed-rate scenario: the search is run, and no normal function.
@@ -150,6 +163,10 @@ CASES += [("month-end", f"kind {kind}, 128 jobs, 10 coupons, month-end curve", s
 CASES += [("month-end", "kind 12, 128 jobs of 64 points, month-end curve", path(64, MONTH_ENDS, 8, 128))]
 CASES += [("month-end", "kind 12, 1 job of 1,024 points, month-end curve", path(1024, MONTH_ENDS, 64, 1))]
 CASES += [("basket", "a basket of 64 caplets, month-end curve", basket(64, MONTH_ENDS))]
+# Over one pillar: kind 12, and kind 13, of which the Rust has none.
+for points, word in ((2048, "2,048 points"), (MONTH_ENDS, "month-end curve")):
+    CASES += [("large", f"kind 12, 1 job of 1,024 points, one pillar, {word}", path(1024, points, 1, 1))]
+    CASES += [("published", f"kind 13, 1 job of 1,024 points, one pillar, {word} (the Rust has no kind 13: its kind 12)", path(1024, points, 1, 1, 13))]
 # On a curve scaled by 1e8 no residual of job 11 is below 1e-12: all 200 halvings are run.
 CASES += [("large", f"kind {kind}, 1 job, 64 coupons, {word}", swaptions(kind, 64, [11], 72, scale))
           for kind in (10, 11) for word, scale in (("converging", 1.0), ("unconverged", 1e8))]

@@ -66,7 +66,8 @@ extern "C" {
 #define CALSTWID_PIECE_BYTES 131072
 
 /*
- * The answers. A call gives the first number that applies; a search or a fit meets 8 to 12 in the order of its evaluations.
+ * The answers. A call gives the first that applies, in the order 1 to 7, 15, 8 to 13: a number says nothing of its place, and 15 is
+ * met after 7 and before 8. A search or a fit meets 8 to 12 in the order of its evaluations. No answer is 14.
  */
 enum calstwid_answer {
     CALSTWID_SERVED = 0,
@@ -82,7 +83,8 @@ enum calstwid_answer {
     CALSTWID_NO_BRACKET = 10,
     CALSTWID_FLAT_DERIVATIVE = 11,
     CALSTWID_NO_SIGN_CHANGE = 12,
-    CALSTWID_OVERFLOW = 13
+    CALSTWID_OVERFLOW = 13,
+    CALSTWID_SEVERAL_PILLARS = 15
 };
 
 /* What an answer says, as a sentence without its full stop; "unknown answer" for a number that is none. */
@@ -120,6 +122,8 @@ static inline const char *calstwid_sentence(uint64_t answer)
         return "the residuals at 1e-8 and 2.0 have the same sign: no sigma between them fits";
     case CALSTWID_OVERFLOW:
         return "a float of the answer is not finite";
+    case CALSTWID_SEVERAL_PILLARS:
+        return "a path centred as published serves one pillar, and there is more than one";
     default:
         return "unknown answer";
     }
@@ -477,18 +481,32 @@ calstwid_critical_rate_report calstwid_find_critical_rate(const double *coeffici
 calstwid_implicit_rate_report calstwid_implicit_critical_rate(const double *coefficients, size_t n_coefficients,
                                                               const double *affines, size_t n_affines, const double *b, size_t n_b);
 
-/* ---- paths: kind 12 ---- */
+/* ---- paths: kinds 12 and 13 ---- */
 
 /*
  * The short rate at each time of the grid, written to the front of `out`, one standard normal draw a step; count is the number of
  * the grid's times. `out` is no shorter than the grid, else 1. Needs the curve at each grid time and 1.0 / 365.0 after it. An
- * empty grid is served and needs no time; no pillars are refused with 7.
+ * empty grid is served and needs no time; no pillars are refused with 7. The rate at a point is the state x, which walks from 0 and
+ * has the mean 0, plus a shift: the forward rate plus half the variance of the state. Averaged over many paths, exp(-integral of
+ * the rate) so misses the curve's factors; calstwid_generate_published does not.
  * Answers 0, 1, 2, 3, 4, 5, 6, 7, 8, 13.
  */
 calstwid_count_report calstwid_generate(double alpha, const double *pillars, size_t n_pillars, const double *sigmas,
                                         size_t n_sigmas, const double *times, size_t n_times, const double *factors,
                                         size_t n_factors, const double *grid, size_t n_grid, const double *draws, size_t n_draws,
                                         double *out, size_t n_out);
+
+/*
+ * The same walk centred as Brigo and Mercurio publish it, kind 13: at a grid time t the shift is f + 0.5 * (g * g), f being the
+ * forward rate as before and g = (sigma / alpha) * (1.0 - calstwid_exp((-alpha) * t)), every operation rounded once and none fused.
+ * It serves one pillar, whose sigma holds at all times. No pillars are refused with 7, and more than one directly after it, with
+ * 15: before any time is looked up on the curve. 65 pillars are over their limit and so 1. All else is as in calstwid_generate.
+ * Answers 0, 1, 2, 3, 4, 5, 6, 7, 8, 13, 15.
+ */
+calstwid_count_report calstwid_generate_published(double alpha, const double *pillars, size_t n_pillars, const double *sigmas,
+                                                  size_t n_sigmas, const double *times, size_t n_times, const double *factors,
+                                                  size_t n_factors, const double *grid, size_t n_grid, const double *draws,
+                                                  size_t n_draws, double *out, size_t n_out);
 
 /* ---- run files ---- */
 

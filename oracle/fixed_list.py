@@ -11,8 +11,8 @@ HERE = os.path.dirname(os.path.realpath(__file__))
 TURNED = os.path.join(HERE, "fixed", "turned.txt")
 TURNED_CALLS = os.path.join(HERE, "fixed_calls", "turned.txt")
 # The base's, then one for each request that brought files or calls of its own.
-LISTS = ["base", "A.2", "A.4"]
-CALL_LISTS = ["edges", "random", "A.2", "A.4"]
+LISTS = ["base", "A.2", "A.4", "A.6"]
+CALL_LISTS = ["edges", "random", "A.2", "A.4", "A.6"]
 
 
 def records(run, part, form):
@@ -35,7 +35,7 @@ def needed(run, number):
         return [b, c]
     if kind in (3, 4):
         return [a, b]
-    if kind == 12:
+    if kind in (12, 13):
         return [time + step for time, _ in records(run, 4, "2d") for step in (0.0, H)]
     return [b, b + H, *(coupon[0] for coupon in records(run, 3, "3d"))]
 
@@ -54,6 +54,17 @@ def between_points(run, old, now):
     return inside and all(map(line.fullmatch, now.split(" / ")))
 
 
+def published(run, old, now):
+    """A.6: "Kind 13 is a path". A file that broke its layout by a job of kind 13 alone is read now: it has such a job, and none of a kind
+    that is still unknown. What is printed begins with the header and has a line at least for each job."""
+    if old != "refused 1":
+        return False
+    kinds = [kind for kind, *_ in records(run, 5, "Q4d")]
+    header, *lines = now.split(" / ")
+    numbers = sorted({int(line.split()[0]) for line in lines})
+    return header == HEADER and 13 in kinds and all(1 <= kind <= 13 for kind in kinds) and numbers == list(range(len(kinds)))
+
+
 def no_pillars_call(call, old, now):
     """A.2 in a call; `old` and `now` are what follows the arrow."""
     name, _, pillars, sigmas, _, _, payments = (call.split() + [""] * 6)[:7]
@@ -67,12 +78,13 @@ def between_points_call(call, old, now):
     return call.split()[0] in FETCHING and old.split()[0] == "8" and now.split()[0] in ("0", "9", "10", "11", "12", "13")
 
 
+HEADER = "job kind answer value note"
 FETCHING = """A zcb_price theta forward_rate_from_curve swap_annuity_from_curve caplet_price floorlet_price bond_put_price bond_call_price
     swaption_price payer_swaption_value receiver_swaption_value fit_caplet_black fit_caplet_normal fit_swaption_black fit_swaption_normal
     calibrate_to_instruments generate""".split()
 # What a request may turn: whether it names this line of a run file's output, or this call, and whether it can become that. What two
 # requests have turned, one behind the other, stands under the first.
-REQUESTS = {"A.2": no_pillars, "A.4": between_points}
+REQUESTS = {"A.2": no_pillars, "A.4": between_points, "A.6": published}
 CALL_REQUESTS = {"A.2": no_pillars_call, "A.4": between_points_call}
 
 

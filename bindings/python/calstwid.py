@@ -39,7 +39,8 @@ __all__ = (
     "A B Basket Bracket CriticalRate D1D2 Fit ImplicitRate PIECE_BYTES Refused SENTENCES Swaption Valuation"
     " bachelier_call black_call black_put bond_call_price bond_put_price calibrate_to_instruments caplet_price d1_d2 exp"
     " exp_m1 find_critical_rate fit_caplet_black fit_caplet_normal fit_swaption_black fit_swaption_normal floorlet_price"
-    " forward_rate_from_curve fused generate generate_into hull_white_piecewise_variance implicit_critical_rate ln"
+    " forward_rate_from_curve fused generate generate_into generate_published generate_published_into"
+    " hull_white_piecewise_variance implicit_critical_rate ln"
     " midpoint norm_cdf norm_cdf_dual norm_pdf payer_swaption_value piece pillars_reached receiver_swaption_value"
     " run_file short_rate_variance signum sqrt swap_annuity_from_curve swaption_price theta transition_variances"
     " transition_variances_into volatility zcb_price zcb_price_volatility"
@@ -50,7 +51,7 @@ Numbers = Iterable[float]  # or a buffer of float64
 # The room that a piece of a run file's output wants.
 PIECE_BYTES = 131072
 
-# What each answer says, by document 01's number.
+# What each answer says, by the number that documents 01 and 02 give it. A number says nothing of its place: the order is 1 to 7, 15, 8 to 13.
 SENTENCES = {
     1: "a list is over its limit, paired lists differ in length, or an output is too short",
     2: "an input number is NaN or infinite",
@@ -67,11 +68,14 @@ SENTENCES = {
     11: "the critical-rate derivative is below 1e-14 in size",
     12: "the residuals at 1e-8 and 2.0 have the same sign: no sigma between them fits",
     13: "a float of the answer is not finite",
+    15: "a path centred as published serves one pillar, and there is more than one",
 }
 
 
 class Refused(Exception):
-    """A call was turned down: `number` is document 01's, 1 to 13, and `sentence` says why."""
+    """A call was turned down: `number` is 1 to 13 or 15, as documents 01 and 02 have it, and `sentence` says why.
+
+    The first that applies is given, in the order 1 to 7, 15, 8 to 13: a number says nothing of its place."""
 
     def __init__(self, number: int):
         self.number = number
@@ -438,6 +442,18 @@ _calibrate_to_instruments = _declare(
 )
 _generate = _declare(
     "calstwid_generate",
+    _CountReport,
+    alpha=_F64,
+    pillars=_LIST,
+    sigmas=_LIST,
+    times=_LIST,
+    factors=_LIST,
+    grid=_LIST,
+    draws=_LIST,
+    out=_OUT,
+)
+_generate_published = _declare(
+    "calstwid_generate_published",
     _CountReport,
     alpha=_F64,
     pillars=_LIST,
@@ -1041,14 +1057,9 @@ def calibrate_to_instruments(
 # ---- paths and run files
 
 
-def generate_into(
-    alpha: float, pillars: Numbers, sigmas: Numbers, times: Numbers, factors: Numbers, grid: Numbers, draws: Numbers, out
-) -> int:
-    """Writes the path to the front of `out`, an array('d') or a numpy array of float64, and says how many values were written.
-
-    `out` is untouched where the call is refused."""
+def _path_into(function, alpha, pillars, sigmas, times, factors, grid, draws, out) -> int:
     return _writing(
-        _generate,
+        function,
         out,
         _number("alpha", alpha),
         *_list("pillars", pillars),
@@ -1060,16 +1071,50 @@ def generate_into(
     )
 
 
+def _path(function, alpha, pillars, sigmas, times, factors, grid, draws) -> List[float]:
+    grid = grid if hasattr(grid, "__len__") else list(grid)
+    out = array("d", bytes(8 * len(grid)))
+    return out[: _path_into(function, alpha, pillars, sigmas, times, factors, grid, draws, out)].tolist()
+
+
+def generate_into(
+    alpha: float, pillars: Numbers, sigmas: Numbers, times: Numbers, factors: Numbers, grid: Numbers, draws: Numbers, out
+) -> int:
+    """Writes the path to the front of `out`, an array('d') or a numpy array of float64, and says how many values were written.
+
+    `out` is untouched where the call is refused."""
+    return _path_into(_generate, alpha, pillars, sigmas, times, factors, grid, draws, out)
+
+
 def generate(
     alpha: float, pillars: Numbers, sigmas: Numbers, times: Numbers, factors: Numbers, grid: Numbers, draws: Numbers
 ) -> List[float]:
     """Kind 12: the short rate at each of at most 1,024 grid times, `draws` having a standard normal number for each.
 
     `pillars` and `sigmas` are the model's volatility: a sigma holds from its time to the next, the first from the start. Needs the curve at each grid
-    time and 1/365 after it."""
-    grid = grid if hasattr(grid, "__len__") else list(grid)
-    out = array("d", bytes(8 * len(grid)))
-    return out[: generate_into(alpha, pillars, sigmas, times, factors, grid, draws, out)].tolist()
+    time and 1/365 after it.
+
+    The rate is a state, which walks from 0 and has the mean 0, plus a shift: the forward rate plus half the state's variance. Averaged over many paths,
+    exp(-integral of the rate) so misses the curve's factors; generate_published does not."""
+    return _path(_generate, alpha, pillars, sigmas, times, factors, grid, draws)
+
+
+def generate_published_into(
+    alpha: float, pillars: Numbers, sigmas: Numbers, times: Numbers, factors: Numbers, grid: Numbers, draws: Numbers, out
+) -> int:
+    """generate_published as generate_into: writes to the front of `out`, which is untouched where the call is refused."""
+    return _path_into(_generate_published, alpha, pillars, sigmas, times, factors, grid, draws, out)
+
+
+def generate_published(
+    alpha: float, pillars: Numbers, sigmas: Numbers, times: Numbers, factors: Numbers, grid: Numbers, draws: Numbers
+) -> List[float]:
+    """Kind 13: the walk of generate centred as Brigo and Mercurio publish it.
+
+    At a grid time t the shift is f + 0.5 * (g * g), f being the forward rate and g = (sigma / alpha) * (1 - exp((-alpha) * t)) by this module's exp, every
+    operation rounded once. It serves one pillar: none is refused with 7, and more than one directly after it with 15, before the curve is looked at. All
+    else is as in generate."""
+    return _path(_generate_published, alpha, pillars, sigmas, times, factors, grid, draws)
 
 
 def piece(file: bytes, k: int) -> bytes:

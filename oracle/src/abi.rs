@@ -363,6 +363,9 @@ functions! {
     calstwid_generate generate CountReport
         (number alpha, floats pillars, floats sigmas, floats times, floats factors, floats grid,
          floats draws, room out);
+    calstwid_generate_published generate_published CountReport
+        (number alpha, floats pillars, floats sigmas, floats times, floats factors, floats grid,
+         floats draws, room out);
     calstwid_piece piece CountReport (bytes file, size k, byte_room out);
 }
 

@@ -96,13 +96,14 @@ fn lines(
             }
             solved.x
         }
-        _ => {
+        12 => {
             model.generate(&lent.times, &lent.draws, points)?;
             for (point, value) in points.iter().enumerate() {
                 line(text, number, kind, *value, point);
             }
             return Ok(());
         }
+        _ => panic!("kind {kind} is not the Rust's"),
     };
     line(text, number, kind, value, note);
     Ok(())

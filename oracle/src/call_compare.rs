@@ -184,9 +184,12 @@ impl Stream {
         if pricer && answer == 0 && call.length(1) == 0 {
             add("swaption values served without pillars".to_string());
         }
+        if call.name() == "generate_published" && answer == 0 && call.length(5) == 0 {
+            add("published paths served without a grid".to_string());
+        }
         let (room, needed) = match call.name() {
             "transition_variances" => (call.length(5), call.size(3)),
-            "generate" => (call.length(7), call.length(5) as u64),
+            "generate" | "generate_published" => (call.length(7), call.length(5) as u64),
             "piece" => (call.length(2), call_rules::PIECE_BYTES as u64),
             _ => return,
         };
@@ -230,7 +233,7 @@ impl Stream {
     /// Functions by answers.
     fn table(&self) -> String {
         let mut text = format!("{:30} |", "call");
-        let columns = 0..=13;
+        let columns = (0..=13).chain([15]);
         for answer in columns.clone() {
             let head = if answer == 0 {
                 "served".to_string()
@@ -283,6 +286,7 @@ fn can_give(name: &str) -> &'static [u64] {
         "find_critical_rate" => &[0, 1, 2, 9, 10, 13],
         "implicit_critical_rate" => &[0, 1, 2, 9, 10, 11, 13],
         "generate" => &[0, 1, 2, 3, 4, 5, 6, 7, 8, 13],
+        "generate_published" => &[0, 1, 2, 3, 4, 5, 6, 7, 8, 13, 15],
         "piece" => &[0, 1],
         _ => &[0],
     }
@@ -538,10 +542,15 @@ fn slips(count: u64, seed: u64) -> i32 {
 
 // ------------------------------------------------------------ the fixed lists
 
-/// The calls of a list, each with the outcome that it must have.
+/// The calls of a list, each with the outcome that it must have. A list that was made
+/// before a function was there goes on declaring those that it declares.
 fn fixed(list: &str) -> Result<i32, String> {
     let mut lists = abi::Lists::new();
-    let mut text = declarations();
+    let declared: Vec<&str> = list
+        .lines()
+        .filter_map(|line| line.strip_prefix("function ")?.split(' ').next())
+        .collect();
+    let mut text = declarations(&declared);
     for line in list.lines() {
         if line.starts_with("function ") {
             continue;
@@ -560,10 +569,14 @@ fn fixed(list: &str) -> Result<i32, String> {
     Ok(0)
 }
 
-/// What the functions take and give, for a reader that has no table of them.
-fn declarations() -> String {
+/// What these functions take and give, or all where none is named, for a reader that has
+/// no table of them.
+fn declarations(named: &[&str]) -> String {
     let mut text = String::new();
     for row in FUNCTIONS {
+        if !named.is_empty() && !named.contains(&row.name) {
+            continue;
+        }
         write!(text, "function {}", row.name).unwrap();
         for (argument, kind) in row.arguments {
             let kind = match kind {

@@ -29,6 +29,7 @@ fn weight(name: &str) -> u64 {
             24
         }
         "swaption_price" | "payer_swaption_value" | "receiver_swaption_value" | "generate" => 28,
+        "generate_published" => 40,
         "find_critical_rate" | "implicit_critical_rate" | "transition_variances" | "piece" => 26,
         _ if FUNCTIONS
             .iter()
@@ -135,12 +136,19 @@ impl Inputs {
             "find_critical_rate" | "implicit_critical_rate" => self.terms(function),
             _ => match kind(name) {
                 // Kinds that are cheap to make are made here as well.
-                Some(1..=4 | 8 | 9 | 12) if self.dice.below(3) == 0 => made(&mut self.dice, name),
+                Some(1..=4 | 8 | 9 | 12 | 13) if self.dice.below(3) == 0 => {
+                    made(&mut self.dice, name)
+                }
                 Some(kind) => self.job(kind),
                 None => made(&mut self.dice, name),
             },
         };
-        Call { function, args }
+        let mut call = Call { function, args };
+        // Most files have several pillars, of which kind 13 serves one.
+        if name == "generate_published" && call.length(1) > 1 && self.dice.below(4) > 0 {
+            keep_one(&mut self.dice, &mut call);
+        }
+        call
     }
 
     // ------------------------------------------------ from the other makers
@@ -347,7 +355,24 @@ fn rare(kind: u64) -> &'static [&'static str] {
             "limit/mixed-signs",
             "limit/wild-terms",
         ],
+        13 => &[
+            "path/overflow",
+            "path/overflow",
+            "path/probe",
+            "path/extreme",
+            "path/pillars",
+        ],
         _ => &[],
+    }
+}
+
+/// One of the pillars alone.
+fn keep_one(dice: &mut Dice, call: &mut Call) {
+    let kept = dice.below(call.length(1) as u64) as usize;
+    for place in [1, 2] {
+        if let Arg::Floats(list) = &mut call.args[place] {
+            *list = list.get(kept).copied().into_iter().collect();
+        }
     }
 }
 
@@ -393,7 +418,7 @@ fn arguments(run: &Run, job: &Job) -> Vec<Arg> {
     }
     let number = Arg::Number;
     let mut args = vec![number(run.alpha)];
-    if matches!(job.kind, 6 | 7 | 12) {
+    if matches!(job.kind, 6 | 7 | 12 | 13) {
         args.extend([
             list(&run.pillars, |row| row.0),
             list(&run.pillars, |row| row.1),
@@ -415,7 +440,7 @@ fn arguments(run: &Run, job: &Job) -> Vec<Arg> {
             number(job.d),
         ]),
         5 | 10 | 11 => args.extend([number(job.a), number(job.b), number(job.c)]),
-        12 => args.extend([
+        12 | 13 => args.extend([
             list(&run.grid, |row| row.0),
             list(&run.grid, |row| row.1),
             Arg::Room(run.grid.len() + (job.a.to_bits() % 3) as usize),
@@ -786,7 +811,7 @@ fn made(dice: &mut Dice, name: &str) -> Vec<Arg> {
             };
             with_curve(dice, &[t, end], &[strike, t, end, vol])
         }
-        "generate" => {
+        "generate" | "generate_published" => {
             let count = match dice.below(64) {
                 0 => 1024,
                 1 => 0,
@@ -969,7 +994,8 @@ fn tie(dice: &mut Dice) -> f64 {
 
 // -------------------------------------------------------------------- faults
 
-/// The refusals at which faults of a call can be aimed: 1 to 8, and 13.
+/// The refusals at which faults of a call can be aimed, in their order: 1 to 7, 15, 8,
+/// and 13.
 fn rules(name: &str) -> Vec<u64> {
     let function = FUNCTIONS
         .iter()
@@ -1001,6 +1027,9 @@ fn rules(name: &str) -> Vec<u64> {
     }
     if has("pillars") || (has("payments") && function.position("times") != Some(0)) {
         rules.push(7);
+    }
+    if name == "generate_published" {
+        rules.push(15);
     }
     if has("times") {
         rules.push(8);
@@ -1127,6 +1156,16 @@ fn fault(dice: &mut Dice, call: &mut Call, rule: u64, turn: usize) {
             }
         }
         8 => lookups(dice, call, turn),
+        // More pillars than the one that kind 13 serves, up to the limit; an empty grid now
+        // and then.
+        15 => {
+            let count = *pick(dice, &[2, 2, 2, 3, 3, 5, 63, 64]);
+            grow(call, &[1, 2], count.max(call.length(1)));
+            if dice.below(4) == 0 {
+                call.args[5] = Arg::Floats(Vec::new());
+                call.args[6] = Arg::Floats(Vec::new());
+            }
+        }
         _ if turn % 2 == 0 && overflow(dice, call) => {}
         _ => {
             let number = *pick(
@@ -1244,7 +1283,7 @@ fn overflow(dice: &mut Dice, call: &mut Call) -> bool {
 fn lengths(dice: &mut Dice, call: &mut Call, turn: usize) {
     if let Some(out) = call.table().position("out") {
         let needed = match call.name() {
-            "generate" => call.length(5),
+            "generate" | "generate_published" => call.length(5),
             _ => call.size(3) as usize,
         };
         match turn % 6 {
@@ -1256,8 +1295,13 @@ fn lengths(dice: &mut Dice, call: &mut Call, turn: usize) {
                 call.args[out] = Arg::Room(0);
                 return;
             }
-            2 if call.name() == "generate" => {
+            2 if call.name().starts_with("generate") => {
                 grow(call, &[5, 6], 1025);
+                return;
+            }
+            // 65 pillars, which the turns below never come to beside an output.
+            3 if call.name().starts_with("generate") && turn % 24 == 9 => {
+                grow(call, &[1, 2], 65);
                 return;
             }
             2 if call.name() == "transition_variances" => {

@@ -1,10 +1,10 @@
 //! What a call of the library must give: the refusals by the judge's reading of
 //! documents 01 and 02, and where it serves, the bits of the Rust.
 //!
-//! Kinds 1 to 12 and the basket are judged by `judge.rs` and put to the Rust by
-//! `confront.rs`; here stand rule 1 of every call, the rules of the calls that
-//! are no kind, and the reports. A served call that is no kind is the Rust's
-//! own function.
+//! Kinds 1 to 13 and the basket are judged by `judge.rs` and put to the Rust by
+//! `confront.rs`, of kind 13 the walk alone; here stand rule 1 of every call, the
+//! rules of the calls that are no kind, and the reports. A served call that is no
+//! kind is the Rust's own function.
 
 use crate::abi::{Arg, Call, Outcome};
 use crate::confront;
@@ -44,6 +44,9 @@ pub fn judged(call: &Call, slip: &str) -> Result<Outcome, String> {
     if slip == "order-1" && has_bad_number(call) {
         return Ok(call.refused(2));
     }
+    if slip == "65-pillars-15" && call.length(1) > 64 && call.length(1) == call.length(2) {
+        return Ok(call.refused(15));
+    }
     if breaks_rule_1(call, slip) {
         return Ok(call.refused(1));
     }
@@ -78,7 +81,7 @@ pub fn groups(name: &str) -> &'static [(&'static [usize], usize)] {
         }
         "calibrate_to_instruments" => &[(&[1, 2], 2048), (&[3, 4, 5, 6, 7], 64)],
         "find_critical_rate" | "implicit_critical_rate" => &[(&[0, 1, 2], 64)],
-        "generate" => &[(&[1, 2], 64), (&[3, 4], 2048), (&[5, 6], 1024)],
+        "generate" | "generate_published" => &[(&[1, 2], 64), (&[3, 4], 2048), (&[5, 6], 1024)],
         _ => &[],
     }
 }
@@ -113,7 +116,7 @@ fn breaks_rule_1(call: &Call, slip: &str) -> bool {
             let steps = call.size(3);
             steps > limit_of(1024) as u64 || room_short(call.length(5), steps)
         }
-        "generate" => room_short(call.length(7), call.length(5) as u64),
+        "generate" | "generate_published" => room_short(call.length(7), call.length(5) as u64),
         _ => false,
     }
 }
@@ -143,6 +146,7 @@ pub fn kind(name: &str) -> Option<u64> {
         "fit_swaption_black" => 10,
         "fit_swaption_normal" => 11,
         "generate" => 12,
+        "generate_published" => 13,
         _ => return None,
     })
 }

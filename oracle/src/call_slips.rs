@@ -175,6 +175,115 @@ const RULE_SLIPS: &[(&str, &[&str], &str)] = &[
         "no pillars are served, at a volatility of 0",
     ),
     (
+        "published-half-variance",
+        PUBLISHED,
+        "half the state's variance is kept, as in kind 12",
+    ),
+    (
+        "published-no-shift",
+        PUBLISHED,
+        "the shift is the forward alone",
+    ),
+    (
+        "published-step",
+        PUBLISHED,
+        "g over t less the grid time before it",
+    ),
+    ("published-at-t-plus-h", PUBLISHED, "g at t + h"),
+    (
+        "published-square-fused",
+        PUBLISHED,
+        "(0.5 × g) × g and f with one rounding",
+    ),
+    (
+        "published-half-first",
+        PUBLISHED,
+        "(0.5 × g) × g in place of 0.5 × (g × g)",
+    ),
+    ("published-not-halved", PUBLISHED, "f + g × g"),
+    ("published-not-squared", PUBLISHED, "f + 0.5 × g"),
+    (
+        "published-exp-m1",
+        PUBLISHED,
+        "exp_m1 in g in place of 1 - exp",
+    ),
+    ("published-by-b", PUBLISHED, "g is sigma × B(0, t)"),
+    (
+        "published-divided-last",
+        PUBLISHED,
+        "g is (sigma × (1 - exp))/alpha",
+    ),
+    (
+        "published-multiplied-out",
+        PUBLISHED,
+        "g is sigma/alpha - (sigma/alpha) × exp",
+    ),
+    (
+        "published-multiplied-out-fused",
+        PUBLISHED,
+        "the same with one rounding",
+    ),
+    (
+        "published-2-alpha",
+        PUBLISHED,
+        "g has exp((-2 × alpha) × t)",
+    ),
+    (
+        "published-state-first",
+        PUBLISHED,
+        "(x + f) + 0.5 × (g × g)",
+    ),
+    (
+        "published-variance-refused",
+        PUBLISHED,
+        "13 where the state's variance is not finite",
+    ),
+    (
+        "path-step-unfused",
+        PUBLISHED,
+        "the state's step with products and sums",
+    ),
+    (
+        "several-pillars-pass",
+        PUBLISHED,
+        "any number of pillars is served",
+    ),
+    ("two-pillars-pass", PUBLISHED, "15 from three pillars on"),
+    (
+        "15-with-a-grid-alone",
+        PUBLISHED,
+        "an empty grid does not meet 15",
+    ),
+    ("15-before-2", PUBLISHED, "15 directly after rule 1"),
+    ("15-before-6", PUBLISHED, "15 before rule 6"),
+    ("15-behind-8", PUBLISHED, "15 after rule 8"),
+    ("15-last", PUBLISHED, "15 after rule 13"),
+    (
+        "65-pillars-15",
+        PUBLISHED,
+        "more than 64 pillars are refused by 15",
+    ),
+    (
+        "no-pillars-published",
+        PUBLISHED,
+        "no pillars are served, at a volatility of 0",
+    ),
+    (
+        "published-empty-unchecked",
+        PUBLISHED,
+        "an empty grid is served before rules 2 to 7 and 15",
+    ),
+    (
+        "published-in-kind-12",
+        &["generate"],
+        "over one pillar kind 13's shift",
+    ),
+    (
+        "15-in-kind-12",
+        &["generate"],
+        "more than one pillar is refused by 15",
+    ),
+    (
         "no-pillars-pass",
         &["volatility", "pillars_reached", "transition_variances"],
         "no pillars pass rule 7",
@@ -535,6 +644,7 @@ const LISTS: &[&str] = &[
     "find_critical_rate",
     "implicit_critical_rate",
     "generate",
+    "generate_published",
 ];
 /// Calls that fetch factors.
 const FETCHING: &[&str] = &[
@@ -556,8 +666,10 @@ const FETCHING: &[&str] = &[
     "fit_swaption_normal",
     "calibrate_to_instruments",
     "generate",
+    "generate_published",
 ];
-const OUTPUTS: &[&str] = &["transition_variances", "generate"];
+const OUTPUTS: &[&str] = &["transition_variances", "generate", "generate_published"];
+const PUBLISHED: &[&str] = &["generate_published"];
 const PRICER: &[&str] = &["payer_swaption_value", "receiver_swaption_value"];
 const TERMS: &[&str] = &["find_critical_rate", "implicit_critical_rate"];
 const NO_KINDS: &[&str] = &[

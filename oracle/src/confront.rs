@@ -1,7 +1,8 @@
 //! Puts an accepted job to the cut-out Rust and compares, bit by bit, all that
 //! the Rust gives: values, critical rates, every rate at which a search asked,
 //! every sigma at which a fit asked with its residual, status, points of a
-//! path. NaNs are not told apart.
+//! path. NaNs are not told apart. Kind 13 the Rust does not have; of it the walk alone
+//! is compared, by the rates that kind 12 has over it.
 
 use crate::cut::{self, hullwhitecalibration as calibration, parameters, pricer};
 use crate::cut::{CapletQuote, HullWhite};
@@ -31,7 +32,7 @@ fn served<T>(what: &str, result: shim::Result<T>) -> Result<T, String> {
 }
 
 /// What the Rust returns for a job, asked as it stands, with no rule of
-/// document 01 before it.
+/// document 01 before it; for kind 13 kind 12's path.
 pub fn rust(run: &Run, job: &Job) -> shim::Result<Vec<f64>> {
     let Job { kind, a, b, c, d } = *job;
     let curve = TableCurve::new(&run.curve);
@@ -114,18 +115,29 @@ pub fn job(case: &Case, answer: &Answer, trace: &Trace) -> Check {
         5 => model_swaption(run, &job, answer, trace),
         6 | 7 => pricer_swaption(case, answer, trace),
         8..=11 => fit(run, &job, &answer.fit, trace),
-        12 => {
-            let points = served("generate", rust(run, &job))?;
-            if points.len() != answer.path.len() {
-                return Err("path: another number of points".into());
-            }
-            for (place, (judged, rust)) in answer.path.iter().zip(&points).enumerate() {
-                equal(&format!("point {place}"), *judged, *rust)?;
-            }
-            Ok(())
+        12 => path(&answer.path, run, &job),
+        // No Rust stands behind kind 13's shift. The state, its variance and the forward are
+        // those of kind 12, whose rates over them must be the Rust's, finite or not.
+        13 => {
+            let rates = case
+                .walk(|place| case.rust_rate(place))
+                .map_err(|code| format!("walk: refusal {code}"))?;
+            path(&rates, run, &job)
         }
         _ => equal("value", answer.value, served("price", rust(run, &job))?[0]),
     }
+}
+
+/// Every point against `generate`.
+fn path(judged: &[f64], run: &Run, job: &Job) -> Check {
+    let points = served("generate", rust(run, job))?;
+    if points.len() != judged.len() {
+        return Err("path: another number of points".into());
+    }
+    for (place, (judged, rust)) in judged.iter().zip(&points).enumerate() {
+        equal(&format!("point {place}"), *judged, *rust)?;
+    }
+    Ok(())
 }
 
 /// Kind 5. In one evaluation of the sum the Rust calls exp five times for each

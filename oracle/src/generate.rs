@@ -3,12 +3,14 @@
 //! Everything here is worked out with the four operations, square roots and
 //! fused steps, which round alike on every machine, so a seed gives the same
 //! bytes everywhere. Each file belongs to a category, named "group/variant"; of
-//! every category that is no damaged file some have no pillars, and some a curve of
-//! month ends in place of the times that the jobs need, or all if asked:
+//! every category that is no damaged file some have no pillars, some one alone, and some
+//! a curve of month ends in place of the times that the jobs need, or all if asked.
+//! Behind most jobs of kind 12 stands one of kind 13, over the same lists:
 //!
 //! - desk:    realistic books, every kind of job;
 //! - fit:     files of fits, converging or, with scaled curves, not;
 //! - curve:   times on, beside, between and outside the points of a curve;
+//! - path:    paths of kinds 12 and 13 over one pillar, and over none or several;
 //! - limit:   full lists, empty lists, zeros, huge and tiny numbers;
 //! - refusal: faults planted one by one or several at a time;
 //! - near:    numbers on a limit of document 01 and one step beside it;
@@ -613,7 +615,7 @@ fn add_job(b: &mut Builder, dice: &mut Dice, kind: u64, t: f64) {
         5 | 6 | 7 => add_swaption(b, dice, kind, t),
         8 | 9 => add_caplet_fit(b, dice, kind),
         10 | 11 => add_swaption_fit(b, dice, kind, t),
-        _ => b.job(12, 0.0, 0.0, 0.0, 0.0),
+        _ => b.job(kind, 0.0, 0.0, 0.0, 0.0),
     }
 }
 
@@ -1066,6 +1068,200 @@ fn curve_wild(dice: &mut Dice) -> Desk {
     }
     asked.sort_by(f64::total_cmp);
     at_times(dice, curve, &asked[..4], &asked[4..])
+}
+
+// ---------------------------------------------------------------------------
+// path: kinds 12 and 13
+// ---------------------------------------------------------------------------
+
+/// A builder with one pillar, its grid still empty.
+fn one_pillar(shape: Shape, alpha: f64, time: f64, sigma: f64) -> Builder {
+    let mut b = Builder::new(shape, alpha);
+    b.desk.pillars = vec![(time, sigma)];
+    b
+}
+
+/// A path along these times, draws of that size; kind 13 comes beside it later.
+fn along(mut b: Builder, dice: &mut Dice, times: &[f64], size: f64) -> Desk {
+    for &time in times {
+        let draw = if size == 0.0 { 0.0 } else { size * dice.draw() };
+        b.desk.grid.push((time, draw));
+        b.need_forward(time);
+    }
+    b.job(12, 0.0, 0.0, 0.0, 0.0);
+    b.finish()
+}
+
+/// Rising times from 0 on, some of them twice.
+fn grid_times(dice: &mut Dice, count: usize, space: f64) -> Vec<f64> {
+    let mut time = dice.pick(&[0.0, 0.0, -0.0, space]);
+    let mut times = Vec::new();
+    for _ in 0..count {
+        times.push(time);
+        if !dice.one_in(8) {
+            time += space * dice.between(0.5, 1.5);
+        }
+    }
+    times
+}
+
+/// A market's path over one pillar, whose time may lie anywhere.
+fn path_centred(dice: &mut Dice) -> Desk {
+    let shape = Shape::market(dice);
+    let alpha = market_alpha(dice);
+    let pillar = dice.pick(&[0.0, -1.0, 0.5, 100.0]);
+    let b = one_pillar(shape, alpha, pillar, market_sigma(dice));
+    let (count, space) = (dice.range(1, 40), dice.pick(&[H, 0.1, 0.25, 1.0, 5.0]));
+    let times = grid_times(dice, count, space);
+    along(b, dice, &times, 1.0)
+}
+
+/// On factors of 1 and without draws a rate of kind 13 is 0.5 × (g × g) alone, down to
+/// a square that is subnormal.
+fn path_probe(dice: &mut Dice) -> Desk {
+    let sigma = match dice.below(3) {
+        0 => dice.log_between(1e-164, 1e-150),
+        _ => dice.log_between(1e-6, 10.0),
+    };
+    let alpha = dice.log_between(1e-3, 10.0);
+    let b = one_pillar(Shape::FLAT, alpha, 0.0, sigma);
+    let (count, space) = (dice.range(1, 24), dice.pick(&[0.01, 0.1, 1.0, 10.0]));
+    let times = grid_times(dice, count, space);
+    along(b, dice, &times, 0.0)
+}
+
+/// Alpha and sigma of any size, sigma 0, times from -0 and the least float on to
+/// the largest.
+fn path_extreme(dice: &mut Dice) -> Desk {
+    let alpha = match dice.below(4) {
+        0 => dice.log_between(1e-18, 1e-6),
+        1 => dice.log_between(10.0, 1e18),
+        2 => dice.wild(),
+        _ => market_alpha(dice),
+    };
+    let sigma = match dice.below(4) {
+        0 => dice.pick(&[0.0, -0.0, TINY, 1e-300]),
+        1 => dice.wild(),
+        _ => market_sigma(dice),
+    };
+    let shape = if dice.one_in(3) { Shape::FLAT } else { Shape::market(dice) };
+    let mut b = one_pillar(shape, alpha, dice.pick(&[0.0, -0.0, -1.0, 2.0]), sigma);
+    let mut times = vec![dice.pick(&[0.0, -0.0, TINY, 1e-300, 0.5])];
+    for _ in 0..dice.below(6) {
+        let last = times[times.len() - 1];
+        times.push(match dice.below(8) {
+            0 => last,
+            1 => last + 1.0 / alpha.clamp(1e-3, 1e300),
+            2 => last + 746.0 / alpha.clamp(0.1, 1e300),
+            3 => last + dice.log_between(1e-300, 1.0),
+            4 => last + dice.log_between(100.0, 1e6),
+            _ => last + dice.between(0.0, 2.0),
+        });
+    }
+    if dice.one_in(6) {
+        let far = dice.pick(&[1e16, 1e200, 1e308, f64::MAX]);
+        times.push(far);
+        b.shape = Shape::FLAT;
+    }
+    let size = dice.pick(&[0.0, 1.0, 1.0, -1.0]);
+    along(b, dice, &times, size)
+}
+
+/// A sigma whose square is infinite, or nearly: kind 12 is refused for its variance, and
+/// kind 13 looks at none. Or g is so large that its square is infinite, its half not; or
+/// sigma/alpha is infinite, which at time 0 gives NaN.
+fn path_overflow(dice: &mut Dice) -> Desk {
+    let (alpha, sigma) = match dice.below(5) {
+        0 => (dice.log_between(1e-200, 1e-100), dice.log_between(1e150, 1e300)),
+        1 => {
+            let alpha = dice.log_between(0.1, 10.0);
+            (alpha, alpha * 1.34e154 * dice.between(0.9, 1.6))
+        }
+        2 => (dice.wild(), dice.log_between(1e153, 1e156)),
+        _ => (dice.log_between(1e3, 1e40), dice.log_between(1e153, 1e157)),
+    };
+    let shape = if dice.one_in(2) { Shape::FLAT } else { Shape::market(dice) };
+    let b = one_pillar(shape, alpha, 0.0, sigma);
+    let (count, space) = (dice.range(1, 4), dice.pick(&[1e-9, 0.5, 40.0]));
+    let times = grid_times(dice, count, space);
+    let size = dice.pick(&[0.0, 1.0, 1e-10]);
+    along(b, dice, &times, size)
+}
+
+/// No pillars, one, two and more, alone and beside one or two faults of other rules; the
+/// grid may be empty.
+fn path_pillars(dice: &mut Dice) -> Desk {
+    let shape = Shape::market(dice);
+    let mut b = Builder::new(shape, market_alpha(dice));
+    let pillars = dice.pick(&[0, 1, 1, 2, 2, 2, 3, 6, 63, 64]);
+    b.pillars(dice, pillars);
+    let (count, space) = (dice.pick(&[0, 1, 2, 3, 5]), dice.pick(&[0.1, 1.0]));
+    let times = grid_times(dice, count, space);
+    let mut desk = along(b, dice, &times, 1.0);
+    for _ in 0..dice.pick(&[0, 0, 1, 1, 1, 2]) {
+        match dice.below(9) {
+            0 => desk.alpha = dice.bad(),
+            1 => desk.alpha = dice.pick(&[0.0, -0.0, -0.1]),
+            2 => spoil_pillars(dice, &mut desk),
+            3 => spoil_grid(dice, &mut desk),
+            4 => spoil_curve(dice, &mut desk),
+            5 | 6 => cut_curve(dice, &mut desk),
+            // A pillar's sigma below 0, or so large that a rate is infinite.
+            7 => {
+                let sigma = dice.pick(&[-0.01, -TINY, f64::MAX, 1e300]);
+                desk.pillars.iter_mut().take(1).for_each(|pillar| pillar.1 = sigma);
+            }
+            _ => desk.grid.iter_mut().take(1).for_each(|point| point.1 = f64::MAX),
+        }
+    }
+    desk
+}
+
+/// Puts a job of kind 13 behind most of kind 12, for as long as there is room.
+fn add_published(dice: &mut Dice, desk: &mut Desk) {
+    let mut room = 128 - desk.jobs.len().min(128);
+    let mut jobs = Vec::new();
+    for &job in &desk.jobs {
+        jobs.push(job);
+        if job.kind == 12 && room > 0 && !dice.one_in(8) {
+            jobs.push(Job { kind: 13, ..job });
+            room -= 1;
+        }
+    }
+    // The other way round now and then.
+    if dice.one_in(4) && jobs.iter().all(|job| job.kind >= 12) {
+        jobs.reverse();
+    }
+    desk.jobs = jobs;
+}
+
+/// Makes a file one about paths: few other jobs, one pillar mostly, and a path where there
+/// was none, along times of its curve.
+fn to_paths(dice: &mut Dice, desk: &mut Desk) {
+    desk.jobs.retain(|job| job.kind == 12 || dice.one_in(8));
+    if !desk.jobs.iter().any(|job| job.kind == 12) {
+        desk.jobs.push(Job { kind: 12, f: [0.0; 4] });
+    }
+    if let (true, [first, .., last]) = (desk.grid.is_empty(), desk.curve.as_slice()) {
+        let (from, to) = (first.0.max(0.0), last.0 - H);
+        if from < to && to.is_finite() && !dice.one_in(8) {
+            let mut times: Vec<f64> = (0..dice.range(1, 6)).map(|_| dice.between(from, to)).collect();
+            times.sort_by(f64::total_cmp);
+            desk.grid = times.iter().map(|&time| (time, dice.draw())).collect();
+        }
+    }
+    if desk.pillars.is_empty() && !dice.one_in(8) {
+        desk.pillars.push((dice.pick(&[0.0, 1.0]), market_sigma(dice)));
+    }
+    if desk.pillars.len() > 1 && !dice.one_in(4) {
+        keep_one(dice, desk);
+    }
+}
+
+/// Keeps one of the pillars, any of them.
+fn keep_one(dice: &mut Dice, desk: &mut Desk) {
+    let kept = dice.pick(&desk.pillars);
+    desk.pillars = vec![kept];
 }
 
 // ---------------------------------------------------------------------------
@@ -2792,7 +2988,7 @@ fn layout_base(dice: &mut Dice) -> Desk {
     let grid = dice.range(1, 3);
     let (mut b, start) = market(dice, coupons, grid);
     for _ in 0..dice.range(1, 4) {
-        let kind = dice.pick(&[1, 2, 3, 4, 5, 6, 7, 12]);
+        let kind = dice.pick(&[1, 2, 3, 4, 5, 6, 7, 12, 13]);
         add_job(&mut b, dice, kind, start);
     }
     b.finish()
@@ -2866,8 +3062,10 @@ fn layout_kind(dice: &mut Dice) -> Vec<u8> {
         0,
         0,
         13,
-        13,
         14,
+        14,
+        14,
+        15,
         255,
         256,
         257,
@@ -2876,6 +3074,7 @@ fn layout_kind(dice: &mut Dice) -> Vec<u8> {
         0x8000_0000_0000_0001,
         u64::MAX,
         u64::MAX - 11,
+        u64::MAX - 12,
         0x3ff0_0000_0000_0000,
     ]);
     if dice.one_in(2) {
@@ -3058,6 +3257,11 @@ const CATEGORIES: &[(&str, u32, Maker)] = &[
     ("curve/last-digit", 20, Curve(curve_last_digit)),
     ("curve/not-finite", 15, Curve(curve_not_finite)),
     ("curve/wild", 15, Curve(curve_wild)),
+    ("path/centred", 30, Contents(path_centred)),
+    ("path/probe", 15, Contents(path_probe)),
+    ("path/extreme", 20, Contents(path_extreme)),
+    ("path/overflow", 15, Contents(path_overflow)),
+    ("path/pillars", 25, Contents(path_pillars)),
     ("limit/one-coupon", 10, Contents(limit_one_coupon)),
     ("limit/64-coupons", 6, Contents(limit_64_coupons)),
     ("limit/64-pillars", 8, Contents(limit_64_pillars)),
@@ -3130,30 +3334,35 @@ const CATEGORIES: &[(&str, u32, Maker)] = &[
 /// Which files are made.
 #[derive(Clone, Copy, PartialEq)]
 pub enum Files {
-    /// All. One in eight that would have pillars has none, one in eight has a curve of
-    /// month ends; damaged files have both as they are.
+    /// All. Of eight that would have pillars one has none and two have one of them, and one in
+    /// eight has a curve of month ends; damaged files have all as they are.
     All,
     /// Files without pillars; there are no damaged ones then.
     NoPillars,
     /// Files with curves of month ends, and four times as many of the group curve, which
     /// are as they are; there are no damaged ones then.
     MonthEnds,
+    /// Files about paths, in which other jobs are few, and sixteen times as many of the group
+    /// path, which keep the pillars that they have; there are no damaged ones then.
+    Paths,
 }
 
 /// The run file of a seed and an index, with its category.
 pub fn generate(seed: u64, index: u64, files: Files) -> (Vec<u8>, &'static str) {
     let mut dice = Dice::new(seed, index);
-    let weight = |weight: u32, maker: Maker| match (files, maker) {
-        (Files::NoPillars | Files::MonthEnds, Bytes(_)) => 0,
+    let weight = |name: &str, weight: u32, maker: Maker| match (files, maker) {
+        (Files::All, _) => weight,
+        (_, Bytes(_)) => 0,
         (Files::MonthEnds, Curve(_)) => 4 * weight,
+        (Files::Paths, _) if name.starts_with(PATH) => 16 * weight,
         _ => weight,
     };
-    let total: u32 = CATEGORIES.iter().map(|row| weight(row.1, row.2)).sum();
+    let total: u32 = CATEGORIES.iter().map(|row| weight(row.0, row.1, row.2)).sum();
     let mut place = dice.below(total as usize) as u32;
     for &(name, plain, maker) in CATEGORIES {
-        let weight = weight(plain, maker);
+        let weight = weight(name, plain, maker);
         if place < weight {
-            return (make(&mut dice, maker, files), name);
+            return (make(&mut dice, name, maker, files), name);
         }
         place -= weight;
     }
@@ -3163,17 +3372,29 @@ pub fn generate(seed: u64, index: u64, files: Files) -> (Vec<u8>, &'static str) 
 /// The run file of a category, a seed and an index.
 pub fn of_category(category: &str, seed: u64, index: u64) -> Vec<u8> {
     let row = CATEGORIES.iter().find(|row| row.0 == category).expect("a category's name");
-    make(&mut Dice::new(seed, index), row.2, Files::All)
+    make(&mut Dice::new(seed, index), row.0, row.2, Files::All)
 }
 
-fn make(dice: &mut Dice, maker: Maker, files: Files) -> Vec<u8> {
+/// What the names of the group path begin with.
+const PATH: &str = "path/";
+
+fn make(dice: &mut Dice, name: &str, maker: Maker, files: Files) -> Vec<u8> {
     let mut desk = match maker {
         Contents(build) | Curve(build) => build(dice),
         Bytes(build) => return build(dice),
     };
-    if files == Files::NoPillars || dice.one_in(8) {
-        desk.pillars.clear();
+    let paths = name.starts_with(PATH);
+    if files == Files::Paths && !paths {
+        to_paths(dice, &mut desk);
     }
+    match dice.below(8) {
+        _ if files == Files::NoPillars => desk.pillars.clear(),
+        _ if files == Files::Paths || paths => {}
+        0 => desk.pillars.clear(),
+        1 | 2 if !desk.pillars.is_empty() => keep_one(dice, &mut desk),
+        _ => {}
+    }
+    add_published(dice, &mut desk);
     let keeps = matches!(maker, Curve(_));
     if !keeps && (files == Files::MonthEnds || dice.one_in(8)) {
         to_month_ends(dice, &mut desk);

@@ -24,6 +24,8 @@ pub struct Outcome {
     pub unmoved: u32,
     /// Served jobs with a factor between two points of the curve.
     pub between: u32,
+    /// Served jobs of kind 13 whose state's variance is not finite.
+    pub overflown: u32,
 }
 
 /// The six lists of a run file.
@@ -171,7 +173,12 @@ pub fn read(bytes: &[u8], slip: Slip) -> Option<Run> {
         })
         .collect();
     let least = if slip == Slip::KindZero { 0 } else { 1 };
-    if jobs.iter().any(|job| job.kind < least || job.kind > 12) {
+    let last = match slip {
+        Slip::Kind13Unknown => 12,
+        Slip::Kind14Served => 14,
+        _ => 13,
+    };
+    if jobs.iter().any(|job| job.kind < least || job.kind > last) {
         return None;
     }
     Some(Run {
@@ -289,7 +296,17 @@ impl Case<'_> {
     }
 
     fn uses_pillars(&self) -> bool {
-        matches!(self.job.kind, 6 | 7 | 12) || self.slips(Slip::PillarsAlways)
+        matches!(self.job.kind, 6 | 7) || self.is_path() || self.slips(Slip::PillarsAlways)
+    }
+
+    /// Kinds 12 and 13, and 14 with the slip that lets it in.
+    fn is_path(&self) -> bool {
+        matches!(self.job.kind, 12..=14)
+    }
+
+    /// Document 02, A.6: "Kind 13 is a path whose shift is f + 0.5 × (g × g)".
+    fn is_published(&self) -> bool {
+        self.is_path() && self.job.kind != 12
     }
 
     fn uses_coupons(&self) -> bool {
@@ -306,7 +323,7 @@ impl Case<'_> {
         match kind {
             _ if self.slips(Slip::UnusedFields) => vec![a, b, c, d],
             5 | 10 | 11 => vec![a, b, c],
-            12 => vec![],
+            12.. => vec![],
             _ => vec![a, b, c, d],
         }
     }
@@ -330,17 +347,17 @@ impl Case<'_> {
         let (option, later) = self.times();
         let mut times: Vec<f64> = match self.job.kind {
             5 if later.is_empty() => Vec::new(),
-            12 => self.run.grid.iter().map(|point| point.0).collect(),
+            12.. => self.run.grid.iter().map(|point| point.0).collect(),
             _ => option.into_iter().collect(),
         };
-        if matches!(self.job.kind, 5..=7 | 10..=12) {
+        if matches!(self.job.kind, 5..=7 | 10..) {
             times.extend(times.clone().iter().map(|t| t + H));
         }
         times.extend(later);
         times
     }
 
-    /// Whether the call breaks one of the rules 2 to 7.
+    /// Whether the call breaks one of the rules 2 to 7, or 15.
     fn breaks(&self, rule: Refusal) -> bool {
         let run = self.run;
         let Job { kind, a, c, d, .. } = self.job;
@@ -359,7 +376,7 @@ impl Case<'_> {
                 if self.uses_own_factors() {
                     numbers.extend(run.coupons.iter().map(|coupon| coupon.2));
                 }
-                if kind == 12 {
+                if self.is_path() {
                     numbers.extend(run.grid.iter().flat_map(|point| [point.0, point.1]));
                 }
                 numbers.iter().any(|number| !number.is_finite())
@@ -373,7 +390,7 @@ impl Case<'_> {
                 };
                 !strictly_rising(&run.curve, loosely)
                     || (self.uses_pillars() && !strictly_rising(&run.pillars, loosely))
-                    || (kind == 12 && run.grid.windows(2).any(falls))
+                    || (self.is_path() && run.grid.windows(2).any(falls))
             }
             5 => {
                 let (option, later) = self.times();
@@ -425,17 +442,29 @@ impl Case<'_> {
                 let no_pillars = run.pillars.is_empty()
                     && match kind {
                         6 | 7 => self.slips(Slip::PillarsNeeded),
-                        _ => kind == 12 && !self.slips(Slip::PathUnmoved),
+                        12 => !self.slips(Slip::PathUnmoved),
+                        _ => self.is_published() && !self.slips(Slip::PublishedUnmoved),
                     };
                 no_coupons || no_pillars
+            }
+            // A.6: "It serves one pillar only", "more than one in kind 13 is refused as 15".
+            15 => {
+                let most = match self.n.slip {
+                    Slip::SeveralPass => 64,
+                    Slip::TwoPass => 2,
+                    Slip::SeveralWithGrid if run.grid.is_empty() => 64,
+                    _ => 1,
+                };
+                let meets = self.is_published() || (kind == 12 && self.slips(Slip::SeveralIn12));
+                meets && run.pillars.len() > most
             }
             _ => unreachable!(),
         }
     }
 
-    /// The rules 2 to 7 in document 01's order.
+    /// The rules 2 to 7 in document 01's order, and A.6's 15 directly after them.
     fn check(&self) -> Result<(), Refusal> {
-        let mut order = [2, 3, 4, 5, 6, 7];
+        let mut order = vec![2, 3, 4, 5, 6, 7];
         match self.n.slip {
             Slip::Order23 => order.swap(0, 1),
             Slip::Order34 => order.swap(1, 2),
@@ -443,6 +472,13 @@ impl Case<'_> {
             Slip::Order56 => order.swap(3, 4),
             Slip::Order67 => order.swap(4, 5),
             _ => {}
+        }
+        match self.n.slip {
+            Slip::SeveralFirst => order.insert(0, 15),
+            Slip::SeveralBefore6 => order.insert(4, 15),
+            Slip::SeveralBefore7 => order.insert(5, 15),
+            Slip::SeveralBehind8 | Slip::SeveralLast => {}
+            _ => order.push(15),
         }
         for rule in order {
             if rule == 7 && self.slips(Slip::Order78) && matches!(self.job.kind, 6 | 7 | 10 | 11) {
@@ -475,7 +511,7 @@ impl Case<'_> {
         let h = self.step();
         let now = self.factor(t)?;
         let plus = match self.factor(t + h) {
-            Err(_) if self.slips(Slip::NoStepNeeded) && self.job.kind != 12 => return Ok(0.0),
+            Err(_) if self.slips(Slip::NoStepNeeded) && !self.is_path() => return Ok(0.0),
             other => other?,
         };
         Ok(-self.n.ln(plus / now) / h)
@@ -1148,8 +1184,19 @@ impl Case<'_> {
 
     // ----------------------------------------------------------------- path
 
-    /// `generate`.
+    /// The points of a path, kind 12's as in `generate`.
     fn path(&self) -> Result<Vec<f64>, Refusal> {
+        let too = self.slips(Slip::PublishedRustToo) && self.run.pillars.len() == 1;
+        if self.is_published() || too {
+            self.walk(|place| self.published_rate(place))
+        } else {
+            self.walk(|place| self.rust_rate(place))
+        }
+    }
+
+    /// The walk that both kinds of path share: a rate for each of its places. Confronting
+    /// kind 13 goes by it with kind 12's rate.
+    pub fn walk(&self, rate: impl Fn(&Place) -> f64) -> Result<Vec<f64>, Refusal> {
         let alpha = self.run.alpha;
         let mut points = Vec::new();
         let (mut state, mut before, mut variance) = (0.0, 0.0, 0.0);
@@ -1166,18 +1213,73 @@ impl Case<'_> {
                 .n
                 .fused(Slip::PathStepUnfused, -alpha * state, dt, shock);
             let forward = self.forward(t)?;
-            let shift = if self.slips(Slip::PathNoShift) {
-                forward
-            } else {
-                self.n.fused(Slip::PathShiftUnfused, 0.5, variance, forward)
-            };
-            points.push(state + shift);
+            points.push(rate(&Place {
+                t,
+                before,
+                sigma,
+                state,
+                variance,
+                forward,
+            }));
             if self.slips(Slip::PathEarly) && !points[points.len() - 1].is_finite() {
                 return Err(13);
             }
             before = t;
         }
         Ok(points)
+    }
+
+    /// Kind 12: "the shift is the forward plus half the state variance, as in `generate`".
+    pub fn rust_rate(&self, place: &Place) -> f64 {
+        let shift = if self.slips(Slip::PathNoShift) {
+            place.forward
+        } else {
+            self.n
+                .fused(Slip::PathShiftUnfused, 0.5, place.variance, place.forward)
+        };
+        place.state + shift
+    }
+
+    /// Kind 13: the state plus "f + 0.5 × (g × g)", each product and the sum rounded by
+    /// itself. The state's variance is none of it.
+    fn published_rate(&self, place: &Place) -> f64 {
+        let (x, f, g) = (place.state, place.forward, self.published_g(place));
+        let shift = match self.n.slip {
+            Slip::PublishedState => 0.5f64.mul_add(place.variance, f),
+            Slip::PublishedNoShift => f,
+            Slip::PublishedSquareFused => (0.5 * g).mul_add(g, f),
+            Slip::PublishedHalfFirst => f + (0.5 * g) * g,
+            Slip::PublishedWhole => f + g * g,
+            Slip::PublishedPlain => f + 0.5 * g,
+            Slip::PublishedOneSum => return (x + f) + 0.5 * (g * g),
+            Slip::PublishedVariance if !place.variance.is_finite() => f64::NAN,
+            _ => self.n.plain(Slip::PublishedHalfFused, 0.5, g * g, f),
+        };
+        x + shift
+    }
+
+    /// "g = (sigma/alpha) × (1 - exp((-alpha) × t))"
+    fn published_g(&self, place: &Place) -> f64 {
+        let (alpha, sigma) = (self.run.alpha, place.sigma);
+        let t = match self.n.slip {
+            Slip::PublishedStep => place.t - place.before,
+            Slip::PublishedLater => place.t + self.step(),
+            _ => place.t,
+        };
+        let exponent = match self.n.slip {
+            Slip::PublishedTwice => (-2.0 * alpha) * t,
+            Slip::PublishedMinus => -(alpha * t),
+            _ => (-alpha) * t,
+        };
+        let (rate, kept) = (sigma / alpha, self.n.exp(exponent));
+        match self.n.slip {
+            Slip::PublishedExpM1 => rate * -self.n.exp_m1(exponent),
+            Slip::PublishedB => sigma * self.b(0.0, t),
+            Slip::PublishedDivided => (sigma * (1.0 - kept)) / alpha,
+            Slip::PublishedSpread => rate - rate * kept,
+            Slip::PublishedSpreadFused => (-rate).mul_add(kept, rate),
+            _ => rate * (1.0 - kept),
+        }
     }
 
     // --------------------------------------------------------------- a call
@@ -1211,7 +1313,10 @@ impl Case<'_> {
         if kind == 0 {
             return Err(1); // only with the slip that lets it in
         }
-        if empty_swap && self.slips(Slip::EmptyUnchecked) {
+        let empty_grid = self.is_published() && self.run.grid.is_empty();
+        if empty_swap && self.slips(Slip::EmptyUnchecked)
+            || empty_grid && self.slips(Slip::PublishedUnchecked)
+        {
             return Ok(Answer::default());
         }
         self.check()?;
@@ -1233,6 +1338,9 @@ impl Case<'_> {
             8 | 9 => answer.fit = self.fit_caplet(&self.job_caplet(), &mut trace.asked)?,
             10 | 11 => answer.fit = self.fit_swaption(kind == 11, &mut trace.asked)?,
             _ => answer.path = self.path()?,
+        }
+        if self.slips(Slip::SeveralBehind8) && self.breaks(15) {
+            return Err(15);
         }
         if matches!(kind, 8..=11) {
             answer.value = answer.fit.sigma;
@@ -1256,8 +1364,22 @@ impl Case<'_> {
         if floats.iter().any(|float| !float.is_finite()) {
             return Err(13);
         }
+        if self.slips(Slip::SeveralLast) && self.breaks(15) {
+            return Err(15);
+        }
         Ok(answer)
     }
+}
+
+/// Where a path is at a grid time: the time and the one before it, the volatility looked
+/// up there, the state with its variance, and the forward.
+pub struct Place {
+    t: f64,
+    before: f64,
+    sigma: f64,
+    state: f64,
+    pub variance: f64,
+    forward: f64,
 }
 
 /// A swap under option, with what does not depend on sigma.
@@ -1411,6 +1533,7 @@ pub fn judge(bytes: &[u8], slip: Option<&str>) -> Outcome {
         unconverged: 0,
         unmoved: 0,
         between: 0,
+        overflown: 0,
     };
     let header: &[u8] = b"job kind answer value note\n";
     let Some(run) = read(bytes, slip) else {
@@ -1454,12 +1577,23 @@ pub fn judge(bytes: &[u8], slip: Option<&str>) -> Outcome {
         if answer.code == 0 && case.fetched().iter().any(unlisted) {
             outcome.between += 1;
         }
+        if answer.code == 0 && job.kind == 13 {
+            let variances = case.walk(|place| place.variance).unwrap_or_default();
+            outcome.overflown += u32::from(variances.iter().any(|one| !one.is_finite()));
+        }
     }
     outcome
 }
 
 fn print_job(out: &mut Vec<u8>, number: usize, case: &Case, answer: &Answer) {
-    let kind = case.job.kind;
+    let kind = match case.job.kind {
+        13 if case.slips(Slip::PublishedColumn) => 12,
+        kind => kind,
+    };
+    let empty = case.job.kind == 13 && case.run.grid.is_empty() && answer.code == 0;
+    if empty && case.slips(Slip::PublishedSilent) {
+        return;
+    }
     let mut line = |value: f64, note: u32| {
         writeln!(
             out,

@@ -122,6 +122,10 @@ fn what_the_rust_does(bytes: &[u8]) -> i32 {
     let outcome = judge::judge(bytes, None);
     std::panic::set_hook(Box::new(|_| {}));
     for (number, job) in run.jobs.iter().enumerate() {
+        if job.kind == 13 {
+            println!("{number} 13 {} rust has no such path", outcome.jobs[number].1);
+            continue;
+        }
         let result = std::panic::catch_unwind(|| confront::rust(&run, job));
         let mut text = match result {
             Ok(Ok(values)) => format!("serves{}", words(&values)),

@@ -1,10 +1,10 @@
 //! The comparison runner: generated files through a program and the judge.
 //!
-//! - `generate SEED INDEX [--no-pillars|--month-end]` writes one run file;
-//! - `compare PROGRAM N SEED [--detail] [--no-pillars|--month-end] [--keep DIR]`
+//! - `generate SEED INDEX [--no-pillars|--month-end|--paths]` writes one run file;
+//! - `compare PROGRAM N SEED [--detail] [--no-pillars|--month-end|--paths] [--keep DIR]`
 //!   compares a program with the judge on N files, none of which has pillars, or all of
-//!   which have curves of month ends, if so asked; a PROGRAM of `-` is none, and the
-//!   judge is held to the Rust alone;
+//!   which have curves of month ends, or are about paths, if so asked; a PROGRAM of `-` is
+//!   none, and the judge is held to the Rust alone;
 //! - `sensitivity N SEED` tells the judge's slips apart from the judge.
 
 use crate::generate::{generate, Files};
@@ -26,8 +26,8 @@ const PATIENCE: Duration = Duration::from_secs(60);
 const KEPT: usize = 10;
 
 const USAGE: &str = "usage:
-  oracle generate SEED INDEX [--no-pillars|--month-end] > FILE
-  oracle compare PROGRAM N SEED [--detail] [--no-pillars|--month-end] [--keep DIR]
+  oracle generate SEED INDEX [--no-pillars|--month-end|--paths] > FILE
+  oracle compare PROGRAM N SEED [--detail] [--no-pillars|--month-end|--paths] [--keep DIR]
   oracle sensitivity N SEED";
 
 /// Runs a subcommand and gives the exit code: 0 all well, 1 a difference,
@@ -38,6 +38,7 @@ pub fn main(args: &[String]) -> i32 {
         ["generate", seed, index] => generate_command(seed, index, Files::All),
         ["generate", seed, index, "--no-pillars"] => generate_command(seed, index, Files::NoPillars),
         ["generate", seed, index, "--month-end"] => generate_command(seed, index, Files::MonthEnds),
+        ["generate", seed, index, "--paths"] => generate_command(seed, index, Files::Paths),
         ["compare", program, count, seed, options @ ..] => {
             compare_command(program, count, seed, options)
         }
@@ -186,6 +187,7 @@ struct Tally {
     unconverged: u64,
     unmoved: u64,
     between: u64,
+    overflown: u64,
     differences: u64,
 }
 
@@ -195,6 +197,7 @@ impl Tally {
         self.unconverged += u64::from(outcome.unconverged);
         self.unmoved += u64::from(outcome.unmoved);
         self.between += u64::from(outcome.between);
+        self.overflown += u64::from(outcome.overflown);
         self.differences += u64::from(different);
         self.refused += u64::from(outcome.printed == b"refused 1\n");
         for &(kind, answer) in &outcome.jobs {
@@ -283,8 +286,12 @@ fn print_tally(tally: &Tally, seconds: f64) {
     println!("unconverged fits {}", tally.unconverged);
     println!("served in kinds 6 and 7 without pillars {}", tally.unmoved);
     println!("served with a factor between curve points {}", tally.between);
+    println!("served in kind 13 beside a variance that is not finite {}", tally.overflown);
     let served: u64 = tally.jobs.iter().filter(|((_, answer), _)| *answer == 0).map(|(_, n)| n).sum();
-    println!("served and put to the Rust {served}");
+    // Of kind 13 the walk alone is put to the Rust.
+    let published = tally.jobs.get(&(13, 0)).copied().unwrap_or(0);
+    println!("served and put to the Rust {}", served - published);
+    println!("served in kind 13 by document 02 alone {published}");
     println!("refused and not put to it {}", tally.jobs.values().sum::<u64>() - served);
     println!("files per second {:.0}", tally.files as f64 / seconds.max(1e-9));
     println!("differences {}", tally.differences);
@@ -434,6 +441,7 @@ fn compare_command(
             ("--detail", _) => work.detail = true,
             ("--no-pillars", _) => work.files = Files::NoPillars,
             ("--month-end", _) => work.files = Files::MonthEnds,
+            ("--paths", _) => work.files = Files::Paths,
             ("--keep", [folder, ..]) => {
                 work.keep = PathBuf::from(folder);
                 options.next();

@@ -3,10 +3,13 @@
     python3 -m unittest discover bindings/python/tests
 """
 import glob
+import importlib.util
 import math
 import os
 import pickle
+import random
 import struct
+import subprocess
 import sys
 import unittest
 from array import array
@@ -62,8 +65,9 @@ class RunFile:
         if kind in (10, 11):
             fit = (calstwid.fit_swaption_black, calstwid.fit_swaption_normal)[kind - 10](*curve, *coupons, a, b, c)
             return [(fit.sigma, fit.halvings if fit.converged else 0)]
-        path = calstwid.generate(self.alpha, self.pillars, self.sigmas, self.times, self.factors, self.grid, self.draws)
-        return [(value, point) for point, value in enumerate(path)] or [(0.0, 0)]
+        path = {12: calstwid.generate, 13: calstwid.generate_published}[kind]
+        rates = path(self.alpha, self.pillars, self.sigmas, self.times, self.factors, self.grid, self.draws)
+        return [(value, point) for point, value in enumerate(rates)] or [(0.0, 0)]
 
     def printed(self):
         """What the program prints, each job by its call."""
@@ -170,7 +174,7 @@ class Files(unittest.TestCase):
                 self.assertEqual(RunFile(data).printed(), expected.decode(), entry)
                 calls += 1
             seen += 1
-        self.assertEqual(seen, 879)
+        self.assertEqual(seen, 1025)
         self.assertGreater(calls, 300)
 
     def test_files_that_break_their_layout(self):
@@ -447,6 +451,214 @@ class BetweenPoints(Refusals):
         self.assertEqual(bits(self.factor([-1.0, 1.0], [0.7, 0.68], 0.9999999999999999)), "3fe5c28f5c28f5c2")
 
 
+class Published(Refusals):
+    """Document 02, A.6: kind 13, a path centred as published."""
+
+    def walked(self, alpha, sigma, times, factors, grid, draws, centre):
+        """A path worked here over the library's fused, sqrt, exp and forward rate: `centre` has a point's shift, from the forward rate, the state's
+        variance, the time and the time that has passed."""
+        rates, x, before, variance = [], 0.0, 0.0, 0.0
+        for t, draw in zip(grid, draws):
+            dt = t - before
+            decay = calstwid.exp(-2.0 * alpha * dt)
+            x = x + calstwid.fused(-alpha * x, dt, draw * sigma * calstwid.sqrt(dt))
+            variance = calstwid.fused(variance, decay, sigma * sigma * (1.0 - decay) / (2.0 * alpha))
+            rates.append(x + centre(calstwid.forward_rate_from_curve(times, factors, t), variance, t, dt))
+            before = t
+        return rates
+
+    @staticmethod
+    def published(alpha, sigma):
+        def centre(f, variance, t, dt):
+            g = (sigma / alpha) * (1.0 - calstwid.exp((-alpha) * t))
+            return f + 0.5 * (g * g)
+
+        return centre
+
+    @staticmethod
+    def slips(alpha, sigma):
+        """Centres that are wrong in one place each."""
+
+        def g(t):
+            return (sigma / alpha) * (1.0 - calstwid.exp((-alpha) * t))
+
+        def other_g(t):
+            return sigma * (1.0 - calstwid.exp((-alpha) * t)) / alpha
+
+        return {
+            "half the state's variance": lambda f, variance, t, dt: f + 0.5 * variance,
+            "fused": lambda f, variance, t, dt: calstwid.fused(0.5 * g(t), g(t), f),
+            "the step for t": lambda f, variance, t, dt: f + 0.5 * (g(dt) * g(dt)),
+            "the product, then the division": lambda f, variance, t, dt: f + 0.5 * (other_g(t) * other_g(t)),
+        }
+
+    def cases(self):
+        """Models, curves and grids, from 0 too, and with times that stand still."""
+        d, m = desk(), example("month-end.run")
+        days = [day / 365 for day in range(0, 1800, 7)]
+        chance = random.Random(20261117)
+        draws = [chance.gauss(0.0, 1.0) for _ in days]
+        for alpha, sigma in ((0.1, 0.01), (0.05, 0.013), (1e-9, 0.02), (3.0, 0.3), (0.7, 0.0), (40.0, 1.5)):
+            yield alpha, sigma, m.times, m.factors, days, draws
+            yield alpha, sigma, m.times, m.factors, m.grid, m.draws
+            yield alpha, sigma, d.times, d.factors, [0.0, 0.0, 0.25, 0.5, 0.5, 1.0, 2.0], draws[:7]
+
+    def test_formula(self):
+        seen, unlike = 0, set()
+        for alpha, sigma, times, factors, grid, draws in self.cases():
+            for first in (0.0, 0.5, 3.0):
+                rest = times, factors, grid, draws
+                twelve = calstwid.generate(alpha, [first], [sigma], *rest)
+                thirteen = calstwid.generate_published(alpha, [first], [sigma], *rest)
+                due = self.walked(alpha, sigma, *rest, lambda f, variance, t, dt: calstwid.fused(0.5, variance, f))
+                self.assertEqual(list(map(bits, twelve)), list(map(bits, due)))
+                due = self.walked(alpha, sigma, *rest, self.published(alpha, sigma))
+                self.assertEqual(list(map(bits, thirteen)), list(map(bits, due)))
+                seen += len(grid)
+            unlike |= {name for name, slip in self.slips(alpha, sigma).items() if self.walked(alpha, sigma, *rest, slip) != thirteen}
+        self.assertGreater(seen, 4000)
+        self.assertEqual(unlike, set(self.slips(1.0, 1.0)))
+
+    def test_centre(self):
+        """Both kinds differ in the shift alone: at time 0 and at a sigma of 0 not at all."""
+        m = example("month-end.run")
+        rest = m.times, m.factors
+        still = [0.0, 1.0, 4.5], [0.4, -0.3, 1.2]
+        flat = calstwid.generate_published(0.1, [1.0], [0.0], *rest, *still)
+        self.assertEqual(flat, calstwid.generate(0.1, [1.0], [0.0], *rest, *still))
+        self.assertEqual(flat, [calstwid.forward_rate_from_curve(*rest, t) for t in still[0]])
+        start = [0.0, 0.0], [0.4, -0.3]
+        self.assertEqual(calstwid.generate_published(0.1, [1.0], [0.01], *rest, *start), calstwid.generate(0.1, [1.0], [0.01], *rest, *start))
+        # g * g / 2 is above half the state's variance once time has passed, by as much as is written here
+        one, other = (path(0.1, [1.0], [0.01], *rest, [4.5], [0.0])[0] for path in (calstwid.generate, calstwid.generate_published))
+        g, variance = 0.1 * (1 - math.exp(-0.45)), 1e-4 * (1 - math.exp(-0.9)) / 0.2
+        self.assertAlmostEqual(other - one, (g * g - variance) / 2, places=15)
+        self.assertGreater(other - one, 4e-4)
+
+    def test_turned_down(self):
+        m = example("month-end.run")
+        rest, path = (m.times, m.factors, m.grid, m.draws), calstwid.generate_published
+        late = m.times, m.factors, [0.25, 0.5, 1.0, 9.0], m.draws
+        none = [], [], m.grid, m.draws
+        two, jump = ([1.0, 2.0], [0.01, 0.01]), ([1.0, 1.0 + H, 5.0], [5e-324, 1.0, 1.0])
+        self.refused(7, path, 0.1, [], [], *rest)
+        self.refused(15, path, 0.1, *two, *rest)
+        self.refused(15, path, 0.1, [float(i) for i in range(64)], [0.01] * 64, *rest)
+        # an empty grid needs no time, and its pillars are looked at
+        self.refused(7, path, 0.1, [], [], m.times, m.factors, [], [])
+        self.refused(15, path, 0.1, *two, m.times, m.factors, [], [])
+        self.assertEqual(path(0.1, [1.0], [0.01], m.times, m.factors, [], []), [])
+        self.assertEqual(path(0.1, [1.0], [0.01], [], [], [], []), [])
+        # 15 before 8, 7 before 8, and 8 where there is one pillar
+        for pillars, number in ((two, 15), (([], []), 7), (([1.0], [0.01]), 8)):
+            self.refused(number, path, 0.1, *pillars, *late)
+            self.refused(number, path, 0.1, *pillars, *none)
+        # 15 after 1 to 6
+        self.refused(1, path, 0.1, [float(i) for i in range(65)], [0.01] * 65, *rest)
+        self.refused(1, path, 0.1, two[0], [0.01], *rest)
+        self.refused(1, path, 0.1, *two, m.times, m.factors, m.grid, m.draws[:-1])
+        self.refused(2, path, 0.1, two[0], [0.01, NAN], *rest)
+        self.refused(2, path, NAN, *two, *rest)
+        self.refused(3, path, 0.0, *two, *rest)
+        self.refused(4, path, 0.1, [2.0, 1.0], two[1], *rest)
+        self.refused(4, path, 0.1, *two, m.times, m.factors, m.grid[::-1], m.draws)
+        self.refused(5, path, 0.1, *two, m.times, m.factors, [-0.25, *m.grid[1:]], m.draws)
+        self.refused(6, path, 0.1, two[0], [0.01, -0.01], *rest)
+        # 13 last: an infinite rate, and behind it a time that the curve does not reach
+        self.refused(13, path, 0.1, [1.0], [0.01], *jump, [1.0], [0.0])
+        self.refused(13, path, 1e-300, [1.0], [1e10], m.times, m.factors, [1.0], [0.0])
+        self.refused(8, path, 0.1, [1.0], [0.01], *jump, [1.0, 6.0], [0.0, 0.0])
+        self.refused(15, path, 0.1, *two, *jump, [1.0], [0.0])
+        # kind 12 is asked nothing new
+        self.assertEqual(len(calstwid.generate(0.1, *two, *rest)), 4)
+        self.refused(8, calstwid.generate, 0.1, *two, *late)
+
+    def test_lent_list(self):
+        m = example("month-end.run")
+        one, rest, into = ([1.0], [0.01]), (m.times, m.factors, m.grid), calstwid.generate_published_into
+        before = array("d", [7.0, 8.0, 9.0, 10.0, 11.0])
+        out = array("d", before)
+        self.refused(15, into, 0.1, [1.0, 2.0], [0.01, 0.01], *rest, m.draws, out)
+        self.refused(7, into, 0.1, [], [], *rest, m.draws, out)
+        self.refused(8, into, 0.1, *one, m.times, m.factors, [0.25, 0.5, 1.0, 9.0], m.draws, out)
+        self.refused(13, into, 1e-300, [1.0], [1e10], *rest, m.draws, out)
+        self.refused(2, into, 0.1, *one, *rest, [0.3, -1.1, NAN, 0.05], out)
+        short = array("d", [7.0, 8.0, 9.0])
+        self.refused(1, into, 0.1, *one, *rest, m.draws, short)
+        self.assertEqual((out, short), (before, before[:3]))
+        self.assertEqual(into(0.1, *one, *rest, m.draws, out), 4)
+        path = calstwid.generate_published(0.1, *one, *rest, m.draws)
+        self.assertEqual(out.tolist(), [*path, 11.0])
+        self.assertEqual(calstwid.generate_published(0.1, *one, m.times, m.factors, iter(m.grid), iter(m.draws)), path)
+        self.assertEqual(into(0.1, *one, m.times, m.factors, [], [], out), 0)
+        report = calstwid._generate_published(0.1, *[part for xs in ([1.0, 2.0], [0.01] * 2, *rest, m.draws, out) for part in calstwid._list("xs", xs)])
+        self.assertEqual((report.answer, report.count), (15, 0))
+
+    def test_run_file(self):
+        m = example("month-end.run")
+        lists = {"alpha": 0.1, "curve": list(zip(m.times, m.factors)), "grid": list(zip(m.grid, m.draws))}
+        data = run(**lists, pillars=[(1.0, 0.01)], jobs=[job(13), job(12), job(13, NAN, NAN, NAN, NAN)])
+        lines = [line.split() for line in calstwid.run_file(data).decode().splitlines()[1:]]
+        due = [calstwid.generate_published(0.1, [1.0], [0.01], m.times, m.factors, m.grid, m.draws)]
+        due.append(calstwid.generate(0.1, [1.0], [0.01], m.times, m.factors, m.grid, m.draws))
+        expected = [[str(place), kind, "0", bits(rate), str(note)] for place, kind, path in ((0, "13", 0), (1, "12", 1), (2, "13", 0))
+                    for note, rate in enumerate(due[path])]
+        self.assertEqual(lines, expected)
+        self.assertEqual(RunFile(data).printed(), calstwid.run_file(data).decode())
+        lists["grid"] = []
+        header, zeros = "job kind answer value note\n", "0 13 0 0000000000000000 0\n"
+        self.assertEqual(calstwid.run_file(run(**lists, pillars=[(1.0, 0.01)], jobs=[job(13)])).decode(), header + zeros)
+        for pillars, answer in (([], 7), ([(1.0, 0.01), (2.0, 0.01)], 15)):
+            printed = calstwid.run_file(run(**lists, pillars=pillars, jobs=[job(13)])).decode()
+            self.assertEqual(printed, header + f"0 13 {answer} 0000000000000000 0\n")
+        self.assertEqual(calstwid.run_file(run(**lists, pillars=[(1.0, 0.01)], jobs=[job(13), job(14)])), b"refused 1\n")
+
+
+class AveragedPaths(unittest.TestCase):
+    """examples/python/average_paths.py in small: paths of kind 13 average to the curve, and those of kind 12 do not."""
+
+    @classmethod
+    def setUpClass(cls):
+        path = os.path.join(ROOT, "examples", "python", "average_paths.py")
+        spec = importlib.util.spec_from_file_location("average_paths", path)
+        cls.example = importlib.util.module_from_spec(spec)
+        spec.loader.exec_module(cls.example)
+
+    def test_misses(self):
+        alpha, sigma = self.example.ALPHA, 0.015
+        rows = self.example.averaged(pairs=300, seed=7, sigma=sigma)
+        self.assertEqual([row.maturity for row in rows], self.example.MATURITIES)
+        for row in rows:
+            own, other, t = row.kinds[13], row.kinds[12], row.maturity
+            # what the grid's steps and the forward's day cost, and then chance
+            self.assertLess(abs(own.forward_due), 0.1, row)
+            self.assertLess(abs(own.zero_due), 0.1, row)
+            self.assertLess(abs(own.forward_miss), 4 * own.forward_error + 0.1, row)
+            self.assertLess(abs(own.zero_miss), 4 * own.zero_error + 0.1, row)
+            # both have the same draws, so that chance is left out of what lies between them: half the variance of the state less g * g / 2
+            g, variance = sigma / alpha * (1 - math.exp(-alpha * t)), sigma**2 * (1 - math.exp(-2 * alpha * t)) / (2 * alpha)
+            self.assertAlmostEqual(other.forward_miss - own.forward_miss, 1e4 * (variance - g * g) / 2, delta=0.1)
+            self.assertAlmostEqual(other.forward_due - own.forward_due, 1e4 * (variance - g * g) / 2, delta=0.1)
+            self.assertAlmostEqual(1e4 * (own.mean - row.forward), 1e4 * g * g / 2, delta=0.1)
+            self.assertAlmostEqual(1e4 * (other.mean - row.forward), 1e4 * variance / 2, delta=0.1)
+            if t >= 3.0:
+                self.assertGreater(abs(other.forward_miss), 5 * other.forward_error + 0.1, row)
+            if t >= 4.0:
+                self.assertGreater(abs(other.zero_miss), 5 * other.zero_error + 0.1, row)
+
+    def test_printed(self):
+        environment = {**os.environ, "PYTHONDONTWRITEBYTECODE": "1"}
+        command = [sys.executable, self.example.__file__, "--paths", "40", "--seed", "3", "--no-picture"]
+        printed = subprocess.run(command, capture_output=True, text=True, env=environment, timeout=120)
+        self.assertEqual((printed.returncode, printed.stderr), (0, ""), printed)
+        self.assertEqual(printed.stdout, subprocess.run(command, capture_output=True, text=True, env=environment, timeout=120).stdout)
+        self.assertRegex(printed.stdout, "(?m)^kind 12: over all paths .* 27[.]8[0-9]* bp;.*\nkind 13: over all paths .* 0[.]0[0-9]* bp;")
+        rows = [line for line in printed.stdout.splitlines() if line[:6].strip().replace(".", "").isdigit()]
+        self.assertEqual(len(rows), 3 * len(self.example.MATURITIES), printed.stdout)
+        wrong = subprocess.run([*command, "--paths", "0"], capture_output=True, text=True, env=environment, timeout=120)
+        self.assertEqual(wrong.returncode, 2)
+
+
 class Numbers(unittest.TestCase):
     """Document 01's proved cases, and the rest of the functions that refuse nothing."""
 
@@ -582,9 +794,10 @@ class TurnedDown(Refusals):
         self.refused(11, payer, 1.0, [0.0], [0.01], *tiny, [1e-300], [0.0], [0.0], 0.0, 0.0, 1.0, 1.0)
         self.refused(12, calstwid.fit_caplet_black, 0.5, *small, 0.03, 1.0, 2.0, 1e-9)
         self.refused(13, calstwid.bond_put_price, 0.5, [1.0, 2.0], [1e308, 1.0], 1.0, 2.0, 1e10, 0.01)
+        self.refused(15, calstwid.generate_published, 0.5, [1.0, 2.0], [0.01, 0.01], *small, [1.0], [0.3])
 
     def test_sentences(self):
-        self.assertEqual(sorted(calstwid.SENTENCES), list(range(1, 14)))
+        self.assertEqual(sorted(calstwid.SENTENCES), [*range(1, 14), 15])
         refused = calstwid.Refused(3)
         self.assertEqual(str(refused), "refused 3: alpha is zero or negative")
         again = pickle.loads(pickle.dumps(refused))

@@ -385,5 +385,22 @@ extern "C" {
         out: *mut f64,
         n_out: usize,
     ) -> CountReport;
+    pub fn calstwid_generate_published(
+        alpha: f64,
+        pillars: *const f64,
+        n_pillars: usize,
+        sigmas: *const f64,
+        n_sigmas: usize,
+        times: *const f64,
+        n_times: usize,
+        factors: *const f64,
+        n_factors: usize,
+        grid: *const f64,
+        n_grid: usize,
+        draws: *const f64,
+        n_draws: usize,
+        out: *mut f64,
+        n_out: usize,
+    ) -> CountReport;
     pub fn calstwid_piece(file: *const u8, n_file: usize, k: usize, out: *mut u8, n_out: usize) -> CountReport;
 }

@@ -33,6 +33,7 @@ pub struct Curve<'a> {
 
 /// The model's volatility: strictly rising times and the sigma from each on, at most 64. Before the first time the first sigma holds. Without any,
 /// [`payer_swaption_value`] and [`receiver_swaption_value`] value a fixed-rate scenario, and calls that look a sigma up are refused.
+/// [`generate_published`] takes one alone.
 #[derive(Clone, Copy, Debug)]
 pub struct Pillars<'a> {
     pub times: &'a [f64],
@@ -508,9 +509,50 @@ pub fn calibrate_to_instruments(alpha: f64, curve: Curve, caplets: Caplets) -> R
 
 /// Kind 12: writes the short rate at each of at most 1,024 grid times to the front of `out`, and says how many were written; `draws` has a standard
 /// normal number for each. Needs the curve at each grid time and 1/365 after it. `out` is untouched where the call is refused.
+///
+/// The rate is a state, which walks from 0 and has the mean 0, plus a shift: the forward rate plus half the state's variance. Averaged over many
+/// paths, exp(-integral of the rate) so misses the curve's factors; [`generate_published`] does not.
 pub fn generate(alpha: f64, pillars: Pillars, curve: Curve, grid: &[f64], draws: &[f64], out: &mut [f64]) -> Result<usize, Refusal> {
     count(call!(
         calstwid_generate,
+        alpha,
+        [pillars.times],
+        [pillars.sigmas],
+        [curve.times],
+        [curve.factors],
+        [grid],
+        [draws],
+        mut [out]
+    ))
+}
+
+/// Kind 13: the walk of [`generate`] centred as Brigo and Mercurio publish it. At a grid time t the shift is f + 0.5 × (g × g), f being the forward
+/// rate and g = (sigma / alpha) × (1 - exp((-alpha) × t)), every operation rounded once. It serves one pillar: more are refused with
+/// [`Refusal::SeveralPillars`], after [`Refusal::Empty`] and before [`Refusal::OffCurve`]. All else is as in [`generate`].
+///
+/// ```
+/// use calstwid::{exp, forward_rate_from_curve, generate_published, Curve, Pillars, Refusal};
+///
+/// let curve = Curve { times: &[0.0, 1.0, 2.0], factors: &[1.0, 0.97, 0.94] };
+/// let pillars = Pillars { times: &[0.0], sigmas: &[0.01] };
+/// let mut out = [0.0];
+/// assert_eq!(generate_published(0.1, pillars, curve, &[1.0], &[0.0], &mut out)?, 1);
+/// let g = (0.01 / 0.1) * (1.0 - exp(-0.1 * 1.0));
+/// assert_eq!(out[0], forward_rate_from_curve(curve, 1.0)? + 0.5 * (g * g)); // a draw of 0 leaves the state at 0
+/// let two = Pillars { times: &[0.0, 1.0], sigmas: &[0.01, 0.01] };
+/// assert_eq!(generate_published(0.1, two, curve, &[1.0], &[0.0], &mut out), Err(Refusal::SeveralPillars));
+/// # Ok::<(), Refusal>(())
+/// ```
+pub fn generate_published(
+    alpha: f64,
+    pillars: Pillars,
+    curve: Curve,
+    grid: &[f64],
+    draws: &[f64],
+    out: &mut [f64],
+) -> Result<usize, Refusal> {
+    count(call!(
+        calstwid_generate_published,
         alpha,
         [pillars.times],
         [pillars.sigmas],

@@ -63,9 +63,10 @@ impl RunFile {
         Coupons { payments: &self.coupons[0], accruals: &self.coupons[1] }
     }
 
-    fn path(&self) -> Result<Vec<f64>, Refusal> {
+    fn path(&self, kind: u64) -> Result<Vec<f64>, Refusal> {
         let mut out = vec![0.0; self.grid[0].len()];
-        let written = generate(self.alpha, self.pillars(), self.curve(), &self.grid[0], &self.grid[1], &mut out)?;
+        let call = if kind == 12 { generate } else { generate_published };
+        let written = call(self.alpha, self.pillars(), self.curve(), &self.grid[0], &self.grid[1], &mut out)?;
         assert_eq!(written, out.len());
         Ok(out)
     }
@@ -87,7 +88,8 @@ impl RunFile {
             10 => fitted(fit_swaption_black(alpha, curve, coupons, a, b, c)?),
             11 => fitted(fit_swaption_normal(alpha, curve, coupons, a, b, c)?),
             _ => {
-                let path: Vec<_> = self.path()?.into_iter().zip(0..).collect();
+                assert!(kind == 12 || kind == 13);
+                let path: Vec<_> = self.path(kind)?.into_iter().zip(0..).collect();
                 return Ok(if path.is_empty() { vec![(0.0, 0)] } else { path });
             }
         };
@@ -182,7 +184,7 @@ fn fixed_list(name: &str) -> usize {
 
 #[test]
 fn fixed_run_files() {
-    assert_eq!(["base", "A.2", "A.4"].map(fixed_list), [570, 129, 180]);
+    assert_eq!(["base", "A.2", "A.4", "A.6"].map(fixed_list), [570, 129, 180, 146]);
 }
 
 #[test]
@@ -228,7 +230,7 @@ fn desk() {
         assert!(fit.residual.abs() < 1e-12 && fit.low < sigma && sigma < fit.high);
         assert!(fit.low_residual < 0.0 && fit.high_residual > 0.0);
     }
-    assert_eq!(desk.path(), Ok(vec![0.031512192643853264, 0.025986290645509974, 0.031659410562398474, 0.03215463750724506]));
+    assert_eq!(desk.path(12), Ok(vec![0.031512192643853264, 0.025986290645509974, 0.031659410562398474, 0.03215463750724506]));
 }
 
 #[test]
@@ -344,6 +346,7 @@ fn refusals() {
     let tiny = Curve { times: &[0.0, 1e-300, h], factors: &[1.0; 3] };
     let at_once = Coupons { payments: &[1e-300], accruals: &[0.0] };
     let from_0 = Pillars { times: &[0.0], sigmas: &[0.01] };
+    let several = Pillars { times: &[0.0, 1.0], sigmas: &[0.01; 2] };
     let all = [
         caplet(0.5, Curve { times: &[1.0, 2.0], factors: &[1.0] }, 1.0, 2.0, 0.01),
         caplet(0.5, small, 1.0, 2.0, f64::NAN),
@@ -358,12 +361,13 @@ fn refusals() {
         payer_swaption_value(1.0, from_0, tiny, at_once, &[0.0], 0.0, 0.0, 1.0, 1.0).map(|it| it.value),
         fit_caplet_black(0.5, small, 0.03, 1.0, 2.0, 1e-9).map(|it| it.sigma),
         bond_put_price(0.5, Curve { times: &[1.0, 2.0], factors: &[1e308, 1.0] }, 1.0, 2.0, 1e10, 0.01),
+        generate_published(0.5, several, small, &[1.0], &[0.3], &mut [0.0]).map(|written| written as f64),
     ];
     assert_eq!(Refusal::ALL.len(), all.len());
-    for (place, outcome) in all.into_iter().enumerate() {
+    for ((place, outcome), number) in all.into_iter().enumerate().zip((1..14).chain([15])) {
         let refusal = outcome.unwrap_err();
-        assert_eq!((refusal, refusal.number()), (Refusal::ALL[place], place as u64 + 1));
-        assert_eq!(refusal.to_string(), format!("refused {}: {}", place + 1, refusal.sentence()));
+        assert_eq!((refusal, refusal.number()), (Refusal::ALL[place], number));
+        assert_eq!(refusal.to_string(), format!("refused {number}: {}", refusal.sentence()));
     }
     assert_eq!(caplet(0.5, Curve { times: &[], factors: &[] }, 1.0, 2.0, 0.01), Err(Refusal::OffCurve));
     let error: Box<dyn std::error::Error> = Refusal::MeanReversion.into();
@@ -495,6 +499,86 @@ fn factors_not_found_and_not_between() {
     }
 }
 
+/// Document 02, A.6: kind 13, a path centred as published, beside its formula over the library's own exp, fused, sqrt and forward rate.
+#[test]
+fn published() {
+    let month_end = RunFile::example("month-end.run");
+    let (curve, grid, draws) = (month_end.curve(), &month_end.grid[0][..], &month_end.grid[1][..]);
+    let weeks: Vec<f64> = (0..250).map(|week| f64::from(7 * week) / 365.0).collect();
+    let spread: Vec<f64> = (0..250).map(|step| 3.0 * (f64::from(step) * 2.399).sin()).collect();
+    let (mut seen, mut unlike) = (0, [0; 4]);
+    for (alpha, sigma) in [(0.1, 0.01), (0.05, 0.013), (1e-9, 0.02), (3.0, 0.3), (0.7, 0.0), (40.0, 1.5)] {
+        for (grid, draws) in [(grid, draws), (&weeks[..], &spread[..]), (&[0.0, 0.0, 0.5, 0.5, 2.0][..], &spread[..5])] {
+            let pillars = Pillars { times: &[1.0], sigmas: &[sigma] };
+            let mut rates = [(); 2].map(|()| vec![7.0; grid.len() + 1]);
+            assert_eq!(generate(alpha, pillars, curve, grid, draws, &mut rates[0]), Ok(grid.len()));
+            assert_eq!(generate_published(alpha, pillars, curve, grid, draws, &mut rates[1]), Ok(grid.len()));
+            assert_eq!(rates.each_ref().map(|path| path[grid.len()]), [7.0; 2]);
+            let (mut x, mut before, mut variance) = (0.0, 0.0, 0.0);
+            for (point, (&t, &draw)) in grid.iter().zip(draws).enumerate() {
+                let dt = t - before;
+                let decay = exp(-2.0 * alpha * dt);
+                x += fused(-alpha * x, dt, draw * sigma * sqrt(dt));
+                variance = fused(variance, decay, sigma * sigma * (1.0 - decay) / (2.0 * alpha));
+                let f = forward_rate_from_curve(curve, t).unwrap();
+                let g = |t: f64| (sigma / alpha) * (1.0 - exp((-alpha) * t));
+                let other_g = sigma * (1.0 - exp((-alpha) * t)) / alpha;
+                let due = [x + fused(0.5, variance, f), x + (f + 0.5 * (g(t) * g(t)))];
+                assert_eq!(rates.each_ref().map(|path| path[point].to_bits()), due.map(f64::to_bits), "{alpha} {sigma} {t}");
+                // slips, each of which other points tell
+                let slips = [f + 0.5 * variance, fused(0.5 * g(t), g(t), f), f + 0.5 * (g(dt) * g(dt)), f + 0.5 * (other_g * other_g)];
+                for (place, slip) in slips.into_iter().enumerate() {
+                    unlike[place] += usize::from(x + slip != due[1]);
+                }
+                before = t;
+                seen += 1;
+            }
+        }
+    }
+    assert!(seen > 1500 && unlike.iter().all(|&times| times > 0), "{seen} {unlike:?}");
+}
+
+/// Document 02, A.6: 15 stands between 7 and 8, and what is refused leaves the output as it was.
+#[test]
+fn published_turned_down() {
+    let month_end = RunFile::example("month-end.run");
+    let (curve, grid, draws) = (month_end.curve(), &month_end.grid[0][..], &month_end.grid[1][..]);
+    let (times, sigmas): (Vec<f64>, Vec<f64>) = ((0..65).map(f64::from).collect(), vec![0.01; 65]);
+    let pillars = |count: usize| Pillars { times: &times[..count], sigmas: &sigmas[..count] };
+    let (nowhere, late) = (Curve { times: &[], factors: &[] }, [0.25, 0.5, 1.0, 9.0]);
+    let jump = Curve { times: &[1.0, 1.0 + 1.0 / 365.0, 5.0], factors: &[5e-324, 1.0, 1.0] };
+    let before = [7.0, 8.0, 9.0, 10.0, 11.0];
+    let mut out = before;
+    let mut call = |alpha, pillars, curve, grid: &[f64], draws: &[f64]| generate_published(alpha, pillars, curve, grid, draws, &mut out);
+    for (count, refusal) in [(0, Refusal::Empty), (2, Refusal::SeveralPillars), (64, Refusal::SeveralPillars), (65, Refusal::Size)] {
+        assert_eq!(call(0.1, pillars(count), curve, grid, draws), Err(refusal));
+        assert_eq!(call(0.1, pillars(count), curve, &late, draws), Err(refusal));
+        assert_eq!(call(0.1, pillars(count), nowhere, grid, draws), Err(refusal));
+        assert_eq!(call(0.1, pillars(count), curve, &[], &[]), Err(refusal));
+    }
+    assert_eq!(call(0.1, pillars(1), curve, &late, draws), Err(Refusal::OffCurve));
+    assert_eq!(call(0.1, pillars(1), nowhere, grid, draws), Err(Refusal::OffCurve));
+    assert_eq!(call(0.1, pillars(1), jump, &[1.0, 6.0], &[0.0; 2]), Err(Refusal::OffCurve));
+    assert_eq!(call(0.1, pillars(1), jump, &[1.0], &[0.0]), Err(Refusal::Overflow));
+    assert_eq!(call(0.1, pillars(2), jump, &[1.0], &[0.0]), Err(Refusal::SeveralPillars));
+    // 1 to 6 come before it
+    assert_eq!(call(0.1, Pillars { times: &[1.0, 2.0], sigmas: &[0.01] }, curve, grid, draws), Err(Refusal::Size));
+    assert_eq!(call(f64::NAN, pillars(2), curve, grid, draws), Err(Refusal::NotFinite));
+    assert_eq!(call(0.0, pillars(2), curve, grid, draws), Err(Refusal::MeanReversion));
+    assert_eq!(call(0.1, Pillars { times: &[2.0, 1.0], sigmas: &[0.01; 2] }, curve, grid, draws), Err(Refusal::Order));
+    assert_eq!(call(0.1, pillars(2), curve, &[-1.0], &[0.0]), Err(Refusal::Times));
+    assert_eq!(call(0.1, Pillars { times: &[1.0, 2.0], sigmas: &[0.01, -0.01] }, curve, grid, draws), Err(Refusal::Domain));
+    assert_eq!(call(0.1, pillars(1), curve, &[], &[]), Ok(0));
+    assert_eq!(out, before);
+    assert_eq!(generate_published(0.1, pillars(1), curve, grid, draws, &mut out[..3]), Err(Refusal::Size));
+    assert_eq!(out, before);
+    assert_eq!(generate_published(0.1, pillars(1), curve, grid, draws, &mut out), Ok(4));
+    assert_eq!(out[4], 11.0);
+    // kind 12 is asked nothing new
+    assert_eq!(generate(0.1, pillars(64), curve, grid, draws, &mut out), Ok(4));
+    assert_eq!(generate(0.1, pillars(2), curve, &late, draws, &mut out), Err(Refusal::OffCurve));
+}
+
 #[test]
 fn long_and_unpaired_lists() {
     let times: Vec<f64> = (0..2049).map(f64::from).collect();
@@ -525,7 +609,7 @@ fn lent_lists() {
     assert_eq!(out, before);
     assert_eq!(generate(alpha, pillars, curve, &[], &[], &mut out), Ok(0));
     assert_eq!(generate(alpha, pillars, curve, grid, draws, &mut out), Ok(4));
-    assert_eq!((&out[..4], out[4]), (&desk.path().unwrap()[..], 11.0));
+    assert_eq!((&out[..4], out[4]), (&desk.path(12).unwrap()[..], 11.0));
 
     let mut out = before;
     assert_eq!(transition_variances(alpha, pillars, 5, 0.0, &mut out), Err(Refusal::Times));

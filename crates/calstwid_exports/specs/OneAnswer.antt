@@ -1,13 +1,14 @@
 -- A report is that of one answer alone: from its number and fields the answer can be made again, so what `Told` says of some answer with this report is said of what the report says.
 use mathlib.Core.Path.{_≡_, refl, sym, _∙_, ap}
 use mathlib.Core.Bool.{cond}
-use Prim.Native.Nat.{ℕ}
+use native.Mathlib.Omega.{arith}
+use borrow.Author.Tests.{ne-eqb}
 use lib.Dec.{eqb}
 use Rattle.refusals.specs.declared.refusals.Refusal.{Refusal}
-use Rattle.refusals.specs.declared.refusals.Refusal.the-variants as R
 use Rattle.refusals.specs.declared.refusals.Answer.{Answer}
 use Rattle.refusals.specs.declared.refusals.Answer.the-variants as A
 use Rattle.refusals.specs.Refusals.{numberOf}
+use Rattle.refusals.proofs.Numbered.{refusalOf, numbered}
 use Rattle.pricer_critical_rate.specs.declared.find.CriticalRate.{CriticalRate}
 use Rattle.pricer_critical_rate.specs.declared.find.CriticalRate.the-variants as C
 use Rattle.pricer_critical_rate.specs.declared.implicit.ImplicitRate.{ImplicitRate}
@@ -27,26 +28,9 @@ use Rattle.calstwid_exports.specs.declared.reports.FitReport.{FitReport}
 use Rattle.calstwid_exports.specs.declared.reports.BasketReport.{BasketReport}
 use Rattle.calstwid_exports.specs.Reports.{criticalRateTold, implicitRateTold, swaptionTold, valuationTold, fitTold, basketTold}
 
--- ---- the refusal with a number
-abbrev refusalOf : ℕ → Refusal
-refusalOf n =
-    cond (eqb n 1) R.Size (cond (eqb n 2) R.NotFinite (cond (eqb n 3) R.MeanReversion (cond (eqb n 4) R.Order (cond (eqb n 5) R.Times (cond (eqb n 6) R.Domain (cond (eqb n 7) R.Empty (cond (eqb n 8) R.OffCurve (cond (eqb n 9) R.NanReached (cond (eqb n 10) R.NoBracket (cond (eqb n 11) R.FlatDerivative (cond (eqb n 12) R.NoSignChange R.Overflow)))))))))))
-
--- a refusal's number is no 0, and the refusal with that number is the refusal
+-- ---- a refusal's number is no 0, and the refusal with that number is the refusal
 again : {A : Type 0} (served : A) (from : Refusal → A) (r : Refusal) → cond (eqb (numberOf r) 0) served (from (refusalOf (numberOf r))) ≡ from r
-again served from R.Size = refl
-again served from R.NotFinite = refl
-again served from R.MeanReversion = refl
-again served from R.Order = refl
-again served from R.Times = refl
-again served from R.Domain = refl
-again served from R.Empty = refl
-again served from R.OffCurve = refl
-again served from R.NanReached = refl
-again served from R.NoBracket = refl
-again served from R.FlatDerivative = refl
-again served from R.NoSignChange = refl
-again served from R.Overflow = refl
+again served from r = rw (ne-eqb (numberOf r) 0 (λ e. let a = numbered r .above in let z : ⊥ = omega (arith, a, e) in z), numbered r .back)
 
 module _ {A R : Type 0} (told : A → R) (back : R → A) (made : (a : A) → back (told a) ≡ a) where
   one : (a b : A) → told a ≡ told b → a ≡ b

@@ -1,12 +1,14 @@
-// Lists that are written: the variances of equal steps, and a short-rate path.
+// Lists that are written: the variances of equal steps, and a short-rate path, centred in two ways.
 ghost use mathlib.Core.Path.{_≡_};
 ghost use lib.ListN.{length};
 ghost use Rattle.hullwhite_transitions.specs.Written.{storedOf};
 ghost use Rattle.hullwhite_transitions.specs.Transition.{transitionOutcome};
+ghost use Rattle.hullwhite_points.specs.declared.walk.Centre.the-variants.{StateVariance, Published};
 ghost use Rattle.hullwhite_paths.specs.Generate.{generateOutcome};
 ghost use Rattle.calstwid_exports.specs.Reports.{countReportOf};
 use super::reports;
 use super::reports::CountReport;
+use hullwhite_points::Centre;
 
 // The values are written over the front of `out`, as many as there are steps; a refusal leaves it as it was.
 #[no_mangle]
@@ -44,10 +46,40 @@ pub extern "C" fn calstwid_generate(
     draws: &[f64],
     out: &mut [f64],
 ) -> CountReport
-    ensures answer { λ r. ⌜ r ≡ countReportOf (generateOutcome alpha (now (pillars .entry)) (now (sigmas .entry)) (now (times .entry)) (now (factors .entry)) (now (grid .entry)) (now (draws .entry)) (length (now (out .entry)))) ⌝ }
-    ensures output { λ r. ⌜ now (out .exit) ≡ storedOf (generateOutcome alpha (now (pillars .entry)) (now (sigmas .entry)) (now (times .entry)) (now (factors .entry)) (now (grid .entry)) (now (draws .entry)) (length (now (out .entry)))) (now (out .entry)) ⌝ }
+    ensures answer { λ r. ⌜ r ≡ countReportOf (generateOutcome StateVariance alpha (now (pillars .entry)) (now (sigmas .entry)) (now (times .entry)) (now (factors .entry)) (now (grid .entry)) (now (draws .entry)) (length (now (out .entry)))) ⌝ }
+    ensures output { λ r. ⌜ now (out .exit) ≡ storedOf (generateOutcome StateVariance alpha (now (pillars .entry)) (now (sigmas .entry)) (now (times .entry)) (now (factors .entry)) (now (grid .entry)) (now (draws .entry)) (length (now (out .entry)))) (now (out .entry)) ⌝ }
 {
     let answer = hullwhite_paths::generate(
+        Centre::StateVariance,
+        alpha,
+        pillars,
+        sigmas,
+        times,
+        factors,
+        grid,
+        draws,
+        out,
+    );
+    reports::count_report(answer, grid.len() as u64)
+}
+
+// Kind 13: the same, centred as published.
+#[no_mangle]
+pub extern "C" fn calstwid_generate_published(
+    alpha: f64,
+    pillars: &[f64],
+    sigmas: &[f64],
+    times: &[f64],
+    factors: &[f64],
+    grid: &[f64],
+    draws: &[f64],
+    out: &mut [f64],
+) -> CountReport
+    ensures answer { λ r. ⌜ r ≡ countReportOf (generateOutcome Published alpha (now (pillars .entry)) (now (sigmas .entry)) (now (times .entry)) (now (factors .entry)) (now (grid .entry)) (now (draws .entry)) (length (now (out .entry)))) ⌝ }
+    ensures output { λ r. ⌜ now (out .exit) ≡ storedOf (generateOutcome Published alpha (now (pillars .entry)) (now (sigmas .entry)) (now (times .entry)) (now (factors .entry)) (now (grid .entry)) (now (draws .entry)) (length (now (out .entry)))) (now (out .entry)) ⌝ }
+{
+    let answer = hullwhite_paths::generate(
+        Centre::Published,
         alpha,
         pillars,
         sigmas,

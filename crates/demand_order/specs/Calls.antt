@@ -36,8 +36,9 @@ use Rattle.hullwhite_model.specs.Curves as Curves
 use Rattle.hullwhite_transitions.specs.Written.{finishingList}
 use Rattle.hullwhite_transitions.specs.Transition.{transitionRules, variancesOf, transitionOutcome}
 use Rattle.hullwhite_points.specs.declared.walk.State.{State}
+use Rattle.hullwhite_points.specs.declared.walk.Centre.{Centre}
 use Rattle.hullwhite_points.specs.Path.{stateAfter, startState, pathFrom}
-use Rattle.hullwhite_paths.specs.Generate.{startsBelow, pathRules, generateOutcome}
+use Rattle.hullwhite_paths.specs.Generate.{startsBelow, severalFor, pathRules, generateOutcome}
 use Rattle.hullwhite_terms.specs.Terms.{factorsAt}
 use Rattle.fit_objective.specs.Market.{annuityOnto, annuityOf}
 use Rattle.demand_order.specs.Stages.{off-curve, finished, Only, Met}
@@ -213,9 +214,9 @@ pub transition-met : (alpha : Float) (ts ss : List Float) (steps : ℕ) (timeSte
 unfolding transitionOutcome
 transition-met alpha ts ss steps timeStep room = plain _ _ _ _ _ tt (λ z. never []) list-only refl
 
--- ---- kind 12: the points, each from the factors at t and t + h; behind the rules they are refused by 8 alone
-module _ (alpha : Float) (ps ss ts fs : List Float) (there : (t : Float) → (s : Float) × (volatilityAt ps ss t ≡ just s)) where
-  points-only : (s : State) (grid draws : List Float) → Only off-curve (pathFrom alpha ps ss ts fs s grid draws)
+-- ---- kinds 12 and 13: the points, each from the factors at t and t + h; behind the rules they are refused by 8 alone
+module _ (centre : Centre) (alpha : Float) (ps ss ts fs : List Float) (there : (t : Float) → (s : Float) × (volatilityAt ps ss t ≡ just s)) where
+  points-only : (s : State) (grid draws : List Float) → Only off-curve (pathFrom centre alpha ps ss ts fs s grid draws)
   unfolding pathFrom
   points-only s [] draws = never []
   points-only s (t ∷ grid) [] = never []
@@ -223,20 +224,20 @@ module _ (alpha : Float) (ps ss ts fs : List Float) (there : (t : Float) → (s 
       required-only R.Empty (volatilityAt ps ss t) (there t) (λ sigma.
       needing-only (factorAt ts fs t) (λ p.
       needing-only (factorAt ts fs (t ⊕ h)) (λ q.
-      prepend-only _ (pathFrom alpha ps ss ts fs (stateAfter alpha sigma t draw s) grid draws) (points-only (stateAfter alpha sigma t draw s) grid draws))))
+      prepend-only _ (pathFrom centre alpha ps ss ts fs (stateAfter alpha sigma t draw s) grid draws) (points-only (stateAfter alpha sigma t draw s) grid draws))))
 
-module _ (alpha : Float) (ps ss ts fs grid draws : List Float) (room : ℕ) where
+module _ (centre : Centre) (alpha : Float) (ps ss ts fs grid draws : List Float) (room : ℕ) where
   abbrev pub pathRulesOn : List Rule
-  pathRulesOn = pathRules (pillarFaults ps ss) (curveFaults ts fs) (gridFaults grid draws) (eqb (length ps) 0) (startsBelow grid) (ltb room (length grid)) alpha
+  pathRulesOn = pathRules (pillarFaults ps ss) (curveFaults ts fs) (gridFaults grid draws) (eqb (length ps) 0) (severalFor centre (length ps)) (startsBelow grid) (ltb room (length grid)) alpha
 
-  points-behind : firstOf pathRulesOn ≡ A.Served → Only off-curve (pathFrom alpha ps ss ts fs startState grid draws)
+  points-behind : firstOf pathRulesOn ≡ A.Served → Only off-curve (pathFrom centre alpha ps ss ts fs startState grid draws)
   points-behind e =
       let none = none-applies pathRulesOn .0 e in
       let three-lists = neither (pillarFaults ps ss .size || curveFaults ts fs .size || gridFaults grid draws .size) (ltb room (length grid)) (none .0) .0 in
       let two-lists = neither (pillarFaults ps ss .size || curveFaults ts fs .size) (gridFaults grid draws .size) three-lists .0 in
       let size = neither (pillarFaults ps ss .size) (curveFaults ts fs .size) two-lists .0 in
-      points-only alpha ps ss ts fs (λ t. pillars-there ps ss t size (none .1 .1 .1 .1 .1 .1 .0)) startState grid draws
+      points-only centre alpha ps ss ts fs (λ t. pillars-there ps ss t size (none .1 .1 .1 .1 .1 .1 .0)) startState grid draws
 
-  pub path-met : Met pathRulesOn (pathFrom alpha ps ss ts fs startState grid draws) served finishingList (generateOutcome alpha ps ss ts fs grid draws room)
+  pub path-met : Met pathRulesOn (pathFrom centre alpha ps ss ts fs startState grid draws) served finishingList (generateOutcome centre alpha ps ss ts fs grid draws room)
   unfolding generateOutcome
   path-met = plain _ _ (λ points. points) _ _ tt points-behind list-only refl

@@ -12,6 +12,7 @@ use Rattle.quotes.specs.Utils.{d1d2Outcome, blackCallOutcome, blackPutOutcome, 
 use Rattle.hullwhite_options.specs.Options.{bondOptionOutcome, optionletOutcome}
 use Rattle.hullwhite_model.specs.Curves as Curves
 use Rattle.hullwhite_parameters.specs.Parameters as Schedules
+use Rattle.hullwhite_points.specs.declared.walk.Centre.{Centre}
 use Rattle.hullwhite_paths.specs.Generate.{generateOutcome}
 use Rattle.hullwhite_transitions.specs.Transition.{transitionOutcome}
 use Rattle.demand_order.specs.Stages.{evaluated, stageOf, Met}
@@ -87,6 +88,6 @@ variance-never alpha ts ss start end = unsought (variance-met alpha ts ss start 
 pub transition-never : (alpha : Float) (ts ss : List Float) (steps : ℕ) (timeStep : Float) (room : ℕ) → NeverNoBracket (transitionOutcome alpha ts ss steps timeStep room)
 transition-never alpha ts ss steps timeStep room = unsought (transition-met alpha ts ss steps timeStep room)
 
--- ---- kind 12
-pub path-never : (alpha : Float) (ps ss ts fs grid draws : List Float) (room : ℕ) → NeverNoBracket (generateOutcome alpha ps ss ts fs grid draws room)
-path-never alpha ps ss ts fs grid draws room = unsought (path-met alpha ps ss ts fs grid draws room)
+-- ---- kinds 12 and 13
+pub path-never : (centre : Centre) (alpha : Float) (ps ss ts fs grid draws : List Float) (room : ℕ) → NeverNoBracket (generateOutcome centre alpha ps ss ts fs grid draws room)
+path-never centre alpha ps ss ts fs grid draws room = unsought (path-met centre alpha ps ss ts fs grid draws room)

@@ -105,8 +105,8 @@ volatility-rules pillars empty t = tt
 pub transition-rules : (pillars : Faults) (empty : Bool) (alpha : Float) (steps room : ℕ) (timeStep : Float) → InOrder (transitionRules pillars empty alpha steps room timeStep)
 transition-rules pillars empty alpha steps room timeStep = tt
 
-pub path-rules : (schedule curve points : Faults) (empty below short : Bool) (alpha : Float) → InOrder (pathRules schedule curve points empty below short alpha)
-path-rules schedule curve points empty below short alpha = tt
+pub path-rules : (schedule curve points : Faults) (empty several below short : Bool) (alpha : Float) → InOrder (pathRules schedule curve points empty several below short alpha)
+path-rules schedule curve points empty several below short alpha = tt
 
 pub model-rules : (curve coupons : Faults) (later : Bool) (alpha strike t sigma : Float) → InOrder (modelRules curve coupons later alpha strike t sigma)
 model-rules curve coupons later alpha strike t sigma = tt

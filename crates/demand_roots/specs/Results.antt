@@ -11,6 +11,7 @@ use Rattle.refusals.specs.declared.refusals.Refusal.{Refusal}
 use Rattle.refusals.specs.declared.refusals.Refusal.the-variants as R
 use Rattle.refusals.specs.Refusals.{Outcome, served, refused, numberOf, answerOf, answerNumber, following}
 use Rattle.refusals.proofs.Outcomes.{not-both}
+use Rattle.refusals.proofs.Numbered.{numbered, one-number}
 use Rattle.demand_order.specs.Grounds.{NeverNoBracket, optionlet-never, bond-option-never}
 use Rattle.hullwhite_swaptions.proofs.Demand3 as Swaptions
 use Rattle.pricer.proofs.Demand3 as Pricers
@@ -25,30 +26,6 @@ use Rattle.file_layout.specs.Request.{Request}
 use Rattle.file_jobs.specs.declared.results.JobResult.{JobResult}
 use Rattle.file_jobs.specs.Results.{resultOfPrice, resultOfFit, noteOf, optionResult, swaptionResult, fitResult, jobResultOf}
 use Rattle.demand_roots.specs.Owed.{Owed, optionOwed, modelOwed, pricerOwed, capletOwed, swaptionOwed, optionsOwed, swaptionsOwed, fitsOwed, owedOf, Accepted, ResultHolds}
-
--- ---- numbers: a refusal's is none of 0, and at most 13; 10 is that of one refusal alone
-pub record Numbered (r : Refusal) : Type 0 where
-  pub above : 0 < numberOf r
-  pub within : numberOf r ≤ 13
-  pub so : numberOf r ≡ 10 → r ≡ R.NoBracket
-
-other : (r : Refusal) → 0 < numberOf r → numberOf r ≤ 13 → (numberOf r ≡ 10 → ⊥) → Numbered r
-other r a w h = record { above = a; within = w; so = λ e. absurd (h e) }
-
-pub numbered : (r : Refusal) → Numbered r
-numbered R.Size = other R.Size (omega arith) (omega arith) (λ e. omega arith)
-numbered R.NotFinite = other R.NotFinite (omega arith) (omega arith) (λ e. omega arith)
-numbered R.MeanReversion = other R.MeanReversion (omega arith) (omega arith) (λ e. omega arith)
-numbered R.Order = other R.Order (omega arith) (omega arith) (λ e. omega arith)
-numbered R.Times = other R.Times (omega arith) (omega arith) (λ e. omega arith)
-numbered R.Domain = other R.Domain (omega arith) (omega arith) (λ e. omega arith)
-numbered R.Empty = other R.Empty (omega arith) (omega arith) (λ e. omega arith)
-numbered R.OffCurve = other R.OffCurve (omega arith) (omega arith) (λ e. omega arith)
-numbered R.NanReached = other R.NanReached (omega arith) (omega arith) (λ e. omega arith)
-numbered R.NoBracket = record { above = omega arith; within = omega arith; so = λ e. refl }
-numbered R.FlatDerivative = other R.FlatDerivative (omega arith) (omega arith) (λ e. omega arith)
-numbered R.NoSignChange = other R.NoSignChange (omega arith) (omega arith) (λ e. omega arith)
-numbered R.Overflow = other R.Overflow (omega arith) (omega arith) (λ e. omega arith)
 
 -- ---- the law: what is told of a call whose outcome has what is owed, holds
 abbrev resultBy : {A : Type 0} → (A → Float) → (A → ℕ) → Outcome A → JobResult
@@ -72,7 +49,7 @@ held owed k = go (owed .outcome) refl
     }
     go (refused r) e = record {
       accepted = λ z. absurd (let a = numbered r .above in let y : ⊥ = omega arith in y);
-      no-bracket = (λ z. k .so .0 (e ∙ ap refused (numbered r .so z)), λ w. ap (λ (o : Outcome (owed .Given)). answerNumber (answerOf o)) (sym e ∙ k .so .1 w));
+      no-bracket = (λ z. k .so .0 (e ∙ ap refused (one-number r R.NoBracket z)), λ w. ap (λ (o : Outcome (owed .Given)). answerNumber (answerOf o)) (sym e ∙ k .so .1 w));
     }
 
 -- ---- sort by sort
@@ -164,9 +141,9 @@ module _ (q : Request) (j : Job) where
   result-holds = let t = tells in subst (ResultHolds (owedOf q j)) (sym (t .is)) (held (owedOf q j) (t .kept))
 
   -- what is told is a number of document 01
-  pub result-small : jobResultOf q j .answer ≤ 13
-  result-small = let t = tells in subst (λ (told : JobResult). told .answer ≤ 13) (sym (t .is)) (go (owedOf q j .outcome))
+  pub result-small : jobResultOf q j .answer ≤ 15
+  result-small = let t = tells in subst (λ (told : JobResult). told .answer ≤ 15) (sym (t .is)) (go (owedOf q j .outcome))
     where
-      go : (o : Outcome (owedOf q j .Given)) → resultBy (owedOf q j .value) (owedOf q j .note) o .answer ≤ 13
+      go : (o : Outcome (owedOf q j .Given)) → resultBy (owedOf q j .value) (owedOf q j .note) o .answer ≤ 15
       go (served v) = omega arith
       go (refused r) = numbered r .within

@@ -78,8 +78,8 @@ job-known file at (suc n) (suc k) t h =
     rw z (job-known file (at + 40) n k (both (known (eightBytes file at)) (allKnown file (at + 40) n) t .1) (omega arith))
 
 -- "another kind breaks the layout"
-pub kind-known : (file : List ℕ) (l : Layout) → layoutOf file ≡ Parts l → (k : ℕ) → k < l .jobs .length / 40 → (1 ≤ eightBytes file (l .jobs .offset + 40 * k)) × (eightBytes file (l .jobs .offset + 40 * k) ≤ 12)
+pub kind-known : (file : List ℕ) (l : Layout) → layoutOf file ≡ Parts l → (k : ℕ) → k < l .jobs .length / 40 → (1 ≤ eightBytes file (l .jobs .offset + 40 * k)) × (eightBytes file (l .jobs .offset + 40 * k) ≤ 13)
 kind-known file l e k h =
     let kind = eightBytes file (l .jobs .offset + 40 * k) in
-    let b = both (leb 1 kind) (leb kind 12) (job-known file (l .jobs .offset) (l .jobs .length / 40) k (kept file l e .kinds) h) in
-    (leb-true 1 kind (b .0), leb-true kind 12 (b .1))
+    let b = both (leb 1 kind) (leb kind 13) (job-known file (l .jobs .offset) (l .jobs .length / 40) k (kept file l e .kinds) h) in
+    (leb-true 1 kind (b .0), leb-true kind 13 (b .1))

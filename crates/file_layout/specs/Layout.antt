@@ -62,9 +62,9 @@ sized l =
     && records 16 1024 (l .grid)
     && records 40 128 (l .jobs)
 
--- "Kinds: 1 caplet, .. 12 path .. another kind breaks the layout"
+-- "Kinds: 1 caplet, .. 12 path .. another kind breaks the layout"; document 02, A.6: "Kind 13 is a path"
 abbrev pub known : ℕ → Bool
-known kind = leb 1 kind && leb kind 12
+known kind = leb 1 kind && leb kind 13
 
 -- the n jobs from place `at` on have such kinds
 unfoldable pub allKnown : List ℕ → ℕ → ℕ → Bool

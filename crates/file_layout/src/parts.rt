@@ -113,7 +113,7 @@ fn records(width: u32, limit: u32, p: Part) -> bool
     (p.length % width == 0) & (p.length / width <= limit)
 }
 
-// Whether every job has a kind of document 01. A caller has asked before whether the parts are in their places,
+// Whether every job has a kind of document 01, or 13 of document 02. A caller has asked before whether the parts are in their places,
 // within the file.
 fn all_known(file: &[u8], jobs: Part) -> bool
     requires { ⌜ endOf jobs ≤ length (now file) ⌝ }
@@ -134,5 +134,5 @@ fn all_known(file: &[u8], jobs: Part) -> bool
 fn known(kind: u64) -> bool
     ensures { λ r. ⌜ r ≡ Layout·known kind ⌝ }
 {
-    (1 <= kind) & (kind <= 12)
+    (1 <= kind) & (kind <= 13)
 }

@@ -5,5 +5,4 @@ mod lines;
 pub use lines::Line;
 pub use lines::write_header;
 pub use lines::write_line;
-pub use lines::write_point;
 pub use lines::write_refused;

@@ -43,16 +43,3 @@ pub fn write_line(l: Line, out: &mut [u8], at: usize) -> usize
     let note = file_fields::put_hex(file_fields::bits_of(l.value), b' ', out, value);
     file_fields::put_decimal(l.note, b'\n', out, note)
 }
-
-// The same with the line of a point of a served path: its kind is 12 and its answer 0. A caller has room for
-// 128 bytes a point.
-pub fn write_point(job: u64, value: f64, note: u64, out: &mut [u8], at: usize) -> usize
-    requires { ⌜ at + 128 ≤ length (now out) ⌝ }
-    ensures end { λ r. ⌜ (r ≡ at + length (lineOf job 12 0 (bitsOf value) note)) × (r ≤ at + 128) ⌝ }
-    ensures output { λ r. ⌜ now (out .exit) ≡ pasted (now (out .entry)) at (lineOf job 12 0 (bitsOf value) note) ⌝ }
-{
-    let kind = file_fields::put_decimal(job, b' ', out, at);
-    let bits = file_fields::put(b"12 0", b' ', out, kind);
-    let last = file_fields::put_hex(file_fields::bits_of(value), b' ', out, bits);
-    file_fields::put_decimal(note, b'\n', out, last)
-}

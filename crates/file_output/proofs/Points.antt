@@ -12,15 +12,15 @@ use Rattle.file_lines.specs.Lines.{lineOf}
 use Rattle.file_output.specs.Output.{pointLines}
 
 -- one point more
-pub points-snoc : (k i : ℕ) (xs : List Float) (x : Float) → pointLines k i (xs ++ x ∷ []) ≡ pointLines k i xs ++ lineOf k 12 0 (bitsOf x) (i + length xs)
+pub points-snoc : (k kind i : ℕ) (xs : List Float) (x : Float) → pointLines k kind i (xs ++ x ∷ []) ≡ pointLines k kind i xs ++ lineOf k kind 0 (bitsOf x) (i + length xs)
 unfolding pointLines
-points-snoc k i [] x = rw append-nil (ap (lineOf k 12 0 (bitsOf x)) (let z : i ≡ i + 0 = omega arith in z))
-points-snoc k i (y ∷ ys) x =
+points-snoc k kind i [] x = rw append-nil (ap (lineOf k kind 0 (bitsOf x)) (let z : i ≡ i + 0 = omega arith in z))
+points-snoc k kind i (y ∷ ys) x =
     let z : suc i + length ys ≡ i + suc (length ys) = omega arith in
-    rw (points-snoc k (suc i) ys x, z, append-assoc)
+    rw (points-snoc k kind (suc i) ys x, z, append-assoc)
 
 -- the lines of the first i points, and then of one more
-pub points-turn : (k : ℕ) (xs : List Float) (i : ℕ) → i < length xs → pointLines k 0 (take (i + 1) xs) ≡ pointLines k 0 (take i xs) ++ lineOf k 12 0 (bitsOf (getD xs i nan)) i
-points-turn k xs i h =
+pub points-turn : (k kind : ℕ) (xs : List Float) (i : ℕ) → i < length xs → pointLines k kind 0 (take (i + 1) xs) ≡ pointLines k kind 0 (take i xs) ++ lineOf k kind 0 (bitsOf (getD xs i nan)) i
+points-turn k kind xs i h =
     let z : 0 + length (take i xs) ≡ i = rw (length-take-le i xs (omega arith)) (omega arith) in
-    rw (add-one, take-suc xs i nan, points-snoc k 0 (take i xs) (getD xs i nan), z)
+    rw (add-one, take-suc xs i nan, points-snoc k kind 0 (take i xs) (getD xs i nan), z)

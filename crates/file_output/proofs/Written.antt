@@ -11,6 +11,7 @@ use Rattle.refusals.specs.declared.refusals.Refusal.{Refusal}
 use Rattle.refusals.specs.declared.refusals.Answer.{Answer}
 use Rattle.refusals.specs.declared.refusals.Answer.the-variants as A
 use Rattle.refusals.specs.Refusals.{Outcome, served, refused, answerOf, numberOf}
+use Rattle.hullwhite_points.specs.declared.walk.Centre.the-variants as C
 use Rattle.hullwhite_transitions.specs.Written.{storedOf}
 use Rattle.refusals.proofs.Lending.{lent-is}
 use Rattle.file_layout.specs.declared.parts.Layout.{Layout}
@@ -56,15 +57,15 @@ module _ (f : ℕ → Outcome (List Float)) (work : List Float) (n : ℕ) (fits 
       z ∙ rw (e, drop-of-length-le (take n work) y, append-nil)
 
 -- ---- the lines of a path
-module _ (k : ℕ) (o : Outcome (List Float)) (res : ℕ) (d out : List ℕ) where
-  pub refused-line : (r : Refusal) (n : ℕ) → o ≡ refused r → n ≡ numberOf r → Begins res (lineOf k 12 n (bitsOf Numbers.zero) 0) d out → Begins res (pathLines k o) d out
+module _ (k kind : ℕ) (o : Outcome (List Float)) (res : ℕ) (d out : List ℕ) where
+  pub refused-line : (r : Refusal) (n : ℕ) → o ≡ refused r → n ≡ numberOf r → Begins res (lineOf k kind n (bitsOf Numbers.zero) 0) d out → Begins res (pathLines k kind o) d out
   refused-line r n e q b = rw e (rw q at b)
 
-  pub empty-line : (xs : List Float) → o ≡ served xs → length xs ≡ 0 → Begins res (lineOf k 12 0 (bitsOf Numbers.zero) 0) d out → Begins res (pathLines k o) d out
+  pub empty-line : (xs : List Float) → o ≡ served xs → length xs ≡ 0 → Begins res (lineOf k kind 0 (bitsOf Numbers.zero) 0) d out → Begins res (pathLines k kind o) d out
   empty-line [] e h b = rw e b
   empty-line (x ∷ xs) e h b = absurd (let z : ⊥ = omega arith in z)
 
-  pub point-by-point : (xs vs : List Float) → o ≡ served xs → (length xs ≡ 0 → ⊥) → vs ≡ xs → Begins res (pointLines k 0 vs) d out → Begins res (pathLines k o) d out
+  pub point-by-point : (xs vs : List Float) → o ≡ served xs → (length xs ≡ 0 → ⊥) → vs ≡ xs → Begins res (pointLines k kind 0 vs) d out → Begins res (pathLines k kind o) d out
   point-by-point [] vs e h q b = absurd (h refl)
   point-by-point (x ∷ xs) vs e h q b = rw e (rw q at b)
 
@@ -73,17 +74,21 @@ pub same-told : (k kind res : ℕ) (d out : List ℕ) (t t′ : JobResult) → t
 same-told k kind res d out t t′ e b = rw (← e) b
 
 module _ (q q′ : Request) (j j′ : Job) (k res : ℕ) (d out : List ℕ) (e : q ≡ q′) (f : j ≡ j′) where
-  pub path-job : j .kind ≡ 12 → Begins res (pathLines k (pathOf q)) d out → Begins res (jobLines q′ k j′) d out
+  pub path-job : j .kind ≡ 12 → Begins res (pathLines k 12 (pathOf C.StateVariance q)) d out → Begins res (jobLines q′ k j′) d out
   unfolding jobLines
   path-job h b = rw (← e, ← f, eq-eqb (j .kind) 12 h) b
 
+  pub published-job : j .kind ≡ 13 → Begins res (pathLines k 13 (pathOf C.Published q)) d out → Begins res (jobLines q′ k j′) d out
+  unfolding jobLines
+  published-job h b = rw (← e, ← f, ne-eqb (j .kind) 12 (λ z. let y : ⊥ = omega arith in y), eq-eqb (j .kind) 13 h) b
+
   pub option-job : (t : JobResult) → j .kind < 5 → t ≡ optionResult q j → Begins res (resultLine k (j .kind) t) d out → Begins res (jobLines q′ k j′) d out
   unfolding jobLines jobResultOf
-  option-job t h p b = rw (← e, ← f, ne-eqb (j .kind) 12 (λ z. let y : ⊥ = omega arith in y), lt-ltb (j .kind) 5 h, ← p) b
+  option-job t h p b = rw (← e, ← f, ne-eqb (j .kind) 12 (λ z. let y : ⊥ = omega arith in y), ne-eqb (j .kind) 13 (λ z. let y : ⊥ = omega arith in y), lt-ltb (j .kind) 5 h, ← p) b
 
-  pub worked-job : (w : Whole) → (j .kind ≡ 12 → ⊥) → 5 ≤ j .kind → w ≡ workOf q j → Begins res (resultLine k (j .kind) (resultFrom w)) d out → Begins res (jobLines q′ k j′) d out
+  pub worked-job : (w : Whole) → (j .kind ≡ 12 → ⊥) → (j .kind ≡ 13 → ⊥) → 5 ≤ j .kind → w ≡ workOf q j → Begins res (resultLine k (j .kind) (resultFrom w)) d out → Begins res (jobLines q′ k j′) d out
   unfolding jobLines
-  worked-job w h i p b = rw (← e, ← f, ne-eqb (j .kind) 12 h, ← result-is q j (le-ltb (j .kind) 5 i), ← p) b
+  worked-job w h g i p b = rw (← e, ← f, ne-eqb (j .kind) 12 h, ne-eqb (j .kind) 13 g, ← result-is q j (le-ltb (j .kind) 5 i), ← p) b
 
 -- kinds 1 to 4 look at alpha and the curve alone, kinds 5 to 11 at no grid and at no other job
 module _ (alpha : Float) (pillars sigmas times factors payments accruals owns grid draws : List Float) (jobs : List Job) (j : Job) where

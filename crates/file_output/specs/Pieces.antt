@@ -9,6 +9,7 @@ use lib.ListN.{length, getD}
 use lib.Ieee.{Float}
 use Rattle.ieee.specs.Numbers as Numbers
 use Rattle.refusals.specs.Refusals.{Outcome, served, refused, numberOf}
+use Rattle.hullwhite_points.specs.declared.walk.Centre.the-variants as C
 use Rattle.file_layout.specs.declared.parts.Layout.{Layout}
 use Rattle.file_layout.specs.declared.parts.Laid.{Laid}
 use Rattle.file_layout.specs.declared.parts.Laid.the-variants.{Parts, Broken}
@@ -108,11 +109,11 @@ line-full : (job kind answer bits note : ℕ) → 0 < length (lineOf job kind an
 unfolding lineOf
 line-full job kind answer bits note = behind (ending 32 (decimalOf job) ++ ending 32 (decimalOf kind) ++ ending 32 (decimalOf answer) ++ ending 32 (hexOf bits)) (ending 10 (decimalOf note)) (behind (decimalOf note) (10 ∷ []) (omega arith))
 
-path-full : (k : ℕ) (o : Outcome (List Float)) → 0 < length (pathLines k o)
+path-full : (k kind : ℕ) (o : Outcome (List Float)) → 0 < length (pathLines k kind o)
 unfolding pointLines
-path-full k (served []) = line-full k 12 0 (bitsOf Numbers.zero) 0
-path-full k (served (x ∷ xs)) = before (lineOf k 12 0 (bitsOf x) 0) (pointLines k 1 xs) (line-full k 12 0 (bitsOf x) 0)
-path-full k (refused r) = line-full k 12 (numberOf r) (bitsOf Numbers.zero) 0
+path-full k kind (served []) = line-full k kind 0 (bitsOf Numbers.zero) 0
+path-full k kind (served (x ∷ xs)) = before (lineOf k kind 0 (bitsOf x) 0) (pointLines k kind 1 xs) (line-full k kind 0 (bitsOf x) 0)
+path-full k kind (refused r) = line-full k kind (numberOf r) (bitsOf Numbers.zero) 0
 
 either-full : (b : Bool) (xs ys : List ℕ) → 0 < length xs → 0 < length ys → 0 < length (cond b xs ys)
 either-full true xs ys h k = h
@@ -120,7 +121,11 @@ either-full false xs ys h k = k
 
 job-full : (q : Request) (k : ℕ) (j : Job) → 0 < length (jobLines q k j)
 unfolding jobLines
-job-full q k j = either-full (eqb (j .kind) 12) (pathLines k (pathOf q)) (resultLine k (j .kind) (jobResultOf q j)) (path-full k (pathOf q)) (line-full k (j .kind) (jobResultOf q j .answer) (bitsOf (jobResultOf q j .value)) (jobResultOf q j .note))
+job-full q k j =
+    let told = jobResultOf q j in
+    either-full (eqb (j .kind) 12) (pathLines k 12 (pathOf C.StateVariance q)) _ (path-full k 12 (pathOf C.StateVariance q))
+    (either-full (eqb (j .kind) 13) (pathLines k 13 (pathOf C.Published q)) (resultLine k (j .kind) told) (path-full k 13 (pathOf C.Published q))
+    (line-full k (j .kind) (told .answer) (bitsOf (told .value)) (told .note)))
 
 jobs-full : (q : Request) (k i : ℕ) (js : List Job) → i < length (jobPieces q k js) → 0 < length (getD (jobPieces q k js) i [])
 unfolding jobPieces

@@ -17,18 +17,27 @@ use file_jobs::JobResult;
 use file_jobs::Worked;
 use file_layout::Layout;
 use file_lines::Line;
+use hullwhite_points::Centre;
 use refusals::Answer;
 use refusals::Faults;
 
 // A line for each point of a path, the note being the point from 0. A caller lends 128 bytes for each.
-fn point_lines(k: u64, values: &[f64], out: &mut [u8]) -> usize
+fn point_lines(k: u64, kind: u64, values: &[f64], out: &mut [u8]) -> usize
     requires { ⌜ 128 * length (now values) ≤ length (now out) ⌝ }
-    ensures { λ r. ⌜ Begins r (pointLines k 0 (now (values .entry))) (now (out .entry)) (now (out .exit)) ⌝ }
+    ensures { λ r. ⌜ Begins r (pointLines k kind 0 (now (values .entry))) (now (out .entry)) (now (out .exit)) ⌝ }
 {
     let mut at = 0;
     let mut i = 0;
     while i < values.len() {
-        at = file_lines::write_point(k, values[i], i as u64, out, at);
+        let value = values[i];
+        let point = Line {
+            job: k,
+            kind,
+            answer: 0,
+            value,
+            note: i as u64,
+        };
+        at = file_lines::write_line(point, out, at);
         i += 1;
     }
     at
@@ -67,9 +76,11 @@ pub fn worked_line(k: u64, kind: u64, worked: Worked, out: &mut [u8]) -> usize
     result_line(k, kind, file_jobs::job_result(worked), out)
 }
 
-// Kind 12. A grid without points is served with one line of zeros. A caller has the curve's faults and the grid
-// of a run file, at most 1,024 points, and lends 128 bytes for each.
+// Kinds 12 and 13. A grid without points is served with one line of zeros. A caller has the curve's faults and the
+// grid of a run file, at most 1,024 points, and lends 128 bytes for each.
 fn path_lines(
+    centre: Centre,
+    kind: u64,
     curve: Faults,
     alpha: f64,
     pillars: &[f64],
@@ -82,11 +93,12 @@ fn path_lines(
     out: &mut [u8],
 ) -> usize
     requires { ⌜ (curve ≡ curveFaults (now times) (now factors)) × (length (now grid) ≤ 1024) × (131072 ≤ length (now out)) ⌝ }
-    ensures { λ r. ⌜ Begins r (pathLines k (generateOutcome alpha (now (pillars .entry)) (now (sigmas .entry)) (now (times .entry)) (now (factors .entry)) (now (grid .entry)) (now (draws .entry)) (length (now (grid .entry))))) (now (out .entry)) (now (out .exit)) ⌝ }
+    ensures { λ r. ⌜ Begins r (pathLines k kind (generateOutcome centre alpha (now (pillars .entry)) (now (sigmas .entry)) (now (times .entry)) (now (factors .entry)) (now (grid .entry)) (now (draws .entry)) (length (now (grid .entry))))) (now (out .entry)) (now (out .exit)) ⌝ }
 {
     let n = grid.len();
     let mut values = [0.0; 1024];
     let answer = hullwhite_paths::generate_on(
+        centre,
         curve,
         alpha,
         pillars,
@@ -101,7 +113,7 @@ fn path_lines(
         return one_line(
             Line {
                 job: k,
-                kind: 12,
+                kind,
                 answer: refusals::number(refusal),
                 value: 0.0,
                 note: 0,
@@ -113,7 +125,7 @@ fn path_lines(
         return one_line(
             Line {
                 job: k,
-                kind: 12,
+                kind,
                 answer: 0,
                 value: 0.0,
                 note: 0,
@@ -121,7 +133,7 @@ fn path_lines(
             out,
         );
     }
-    point_lines(k, &values[..n], out)
+    point_lines(k, kind, &values[..n], out)
 }
 
 // The lines of job k of the file, on the lists that were read from it and the curve's faults, worked once for
@@ -152,6 +164,24 @@ pub fn job_lines(
     let j = file_layout::nth_job(file, l.jobs, k);
     if j.kind == 12 {
         return path_lines(
+            Centre::StateVariance,
+            12,
+            curve,
+            alpha,
+            pillars,
+            sigmas,
+            times,
+            factors,
+            grid,
+            draws,
+            k as u64,
+            out,
+        );
+    }
+    if j.kind == 13 {
+        return path_lines(
+            Centre::Published,
+            13,
             curve,
             alpha,
             pillars,

@@ -19,19 +19,19 @@ use Rattle.refusals.proofs.CurveLaws.{curve-rises}
 use Rattle.hullwhite_paths.specs.Generate.{pathRules}
 
 -- ---- a path's rules on the faults as they were worked; rules 1 and 4 did not apply
-pub rules-of : {schedule schedule′ curve curve′ points points′ : Faults} (empty : Bool) {below below′ : Bool} (short : Bool) (alpha : Float) {answer : Answer}
-    → schedule ≡ schedule′ → curve ≡ curve′ → points ≡ points′ → below ≡ below′
-    → answer ≡ firstOf (pathRules schedule curve points empty below short alpha) → answer ≡ firstOf (pathRules schedule′ curve′ points′ empty below′ short alpha)
-rules-of empty short alpha p q r s h = rw (← p, ← q, ← r, ← s) h
+pub rules-of : {schedule schedule′ curve curve′ points points′ : Faults} (empty : Bool) {several several′ below below′ : Bool} (short : Bool) (alpha : Float) {answer : Answer}
+    → schedule ≡ schedule′ → curve ≡ curve′ → points ≡ points′ → several ≡ several′ → below ≡ below′
+    → answer ≡ firstOf (pathRules schedule curve points empty several below short alpha) → answer ≡ firstOf (pathRules schedule′ curve′ points′ empty several′ below′ short alpha)
+rules-of empty short alpha p q r s t h = rw (← p, ← q, ← r, ← s, ← t) h
 
-pub grid-fits : (ps ss ts fs grid draws : List Float) (empty below : Bool) (room : ℕ) (alpha : Float) {answer : Answer}
-    → answer ≡ A.Served → answer ≡ firstOf (pathRules (pillarFaults ps ss) (curveFaults ts fs) (gridFaults grid draws) empty below (ltb room (length grid)) alpha)
+pub grid-fits : (ps ss ts fs grid draws : List Float) (empty several below : Bool) (room : ℕ) (alpha : Float) {answer : Answer}
+    → answer ≡ A.Served → answer ≡ firstOf (pathRules (pillarFaults ps ss) (curveFaults ts fs) (gridFaults grid draws) empty several below (ltb room (length grid)) alpha)
     → (length grid ≤ 1024) × (length draws ≡ length grid) × (inOrder true ts ≡ true) × (inOrder true ps ≡ true) × (length grid ≤ room)
-grid-fits ps ss ts fs grid draws empty below room alpha e h =
+grid-fits ps ss ts fs grid draws empty several below room alpha e h =
     let schedule = pillarFaults ps ss in
     let curve = curveFaults ts fs in
     let points = gridFaults grid draws in
-    let none = none-applies (pathRules schedule curve points empty below (ltb room (length grid)) alpha) .0 (sym h ∙ e) in
+    let none = none-applies (pathRules schedule curve points empty several below (ltb room (length grid)) alpha) .0 (sym h ∙ e) in
     let sizes = neither (schedule .size || curve .size || points .size) (ltb room (length grid)) (none .0) in
     let points-size = neither (schedule .size || curve .size) (points .size) (sizes .0) .1 in
     let both = neither (ltb 1024 (length grid)) (not (eqb (length grid) (length draws))) points-size in

@@ -20,9 +20,10 @@ use Rattle.refusals.specs.Faults.{curveFaults, pillarFaults, gridFaults}
 use Rattle.refusals.proofs.Outcomes.{not-both, served-is}
 use Rattle.hullwhite_formulas.specs.HullWhite.{h, forwardOf}
 use Rattle.hullwhite_points.specs.declared.walk.State.{State}
+use Rattle.hullwhite_points.specs.declared.walk.Centre.{Centre}
 use Rattle.hullwhite_transitions.specs.Written.{finishingList}
 use Rattle.hullwhite_points.specs.Path.{stateAfter, shiftOf, pathFrom, startState}
-use Rattle.hullwhite_paths.specs.Generate.{startsBelow, pathRules, generateOutcome}
+use Rattle.hullwhite_paths.specs.Generate.{startsBelow, severalFor, pathRules, generateOutcome}
 use Rattle.hullwhite_paths.proofs.Outcomes.{grid-fits}
 
 -- ---- what is served was let through at each step
@@ -46,29 +47,30 @@ finished : (b : Bool) (ys xs : List Float) → cond b (served ys) (refused R.Ove
 finished true ys xs e = served-is e
 finished false ys xs e = absurd (not-both e)
 
-module _ (alpha : Float) (ps ss ts fs : List Float) where
-  from-length : (s : State) (grid draws ys : List Float) → length draws ≡ length grid → pathFrom alpha ps ss ts fs s grid draws ≡ served ys → length ys ≡ length grid
+module _ (centre : Centre) (alpha : Float) (ps ss ts fs : List Float) where
+  from-length : (s : State) (grid draws ys : List Float) → length draws ≡ length grid → pathFrom centre alpha ps ss ts fs s grid draws ≡ served ys → length ys ≡ length grid
   unfolding pathFrom
   from-length s [] draws ys same e = ap length (sym (served-is e))
   from-length s (t ∷ grid) [] ys same e = absurd (let z : ⊥ = omega arith in z)
   from-length s (t ∷ grid) (draw ∷ draws) ys same e =
-      let a = required-served R.Empty (volatilityAt ps ss t) (λ sigma. needing (factorAt ts fs t) (λ p. needing (factorAt ts fs (t ⊕ h)) (λ pPlus. prepend (stateAfter alpha sigma t draw s .x ⊕ shiftOf (stateAfter alpha sigma t draw s .variance) (forwardOf p pPlus)) (pathFrom alpha ps ss ts fs (stateAfter alpha sigma t draw s) grid draws)))) ys e in
+      let a = required-served R.Empty (volatilityAt ps ss t) (λ sigma. needing (factorAt ts fs t) (λ p. needing (factorAt ts fs (t ⊕ h)) (λ pPlus. prepend (stateAfter alpha sigma t draw s .x ⊕ shiftOf centre alpha sigma t (stateAfter alpha sigma t draw s .variance) (forwardOf p pPlus)) (pathFrom centre alpha ps ss ts fs (stateAfter alpha sigma t draw s) grid draws)))) ys e in
       let next = stateAfter alpha (a .0) t draw s in
-      let b = required-served R.OffCurve (factorAt ts fs t) (λ p. needing (factorAt ts fs (t ⊕ h)) (λ pPlus. prepend (next .x ⊕ shiftOf (next .variance) (forwardOf p pPlus)) (pathFrom alpha ps ss ts fs next grid draws))) ys (a .1) in
-      let d = required-served R.OffCurve (factorAt ts fs (t ⊕ h)) (λ pPlus. prepend (next .x ⊕ shiftOf (next .variance) (forwardOf (b .0) pPlus)) (pathFrom alpha ps ss ts fs next grid draws)) ys (b .1) in
-      let w = prepend-served (next .x ⊕ shiftOf (next .variance) (forwardOf (b .0) (d .0))) (pathFrom alpha ps ss ts fs next grid draws) ys (d .1) in
+      let b = required-served R.OffCurve (factorAt ts fs t) (λ p. needing (factorAt ts fs (t ⊕ h)) (λ pPlus. prepend (next .x ⊕ shiftOf centre alpha (a .0) t (next .variance) (forwardOf p pPlus)) (pathFrom centre alpha ps ss ts fs next grid draws))) ys (a .1) in
+      let d = required-served R.OffCurve (factorAt ts fs (t ⊕ h)) (λ pPlus. prepend (next .x ⊕ shiftOf centre alpha (a .0) t (next .variance) (forwardOf (b .0) pPlus)) (pathFrom centre alpha ps ss ts fs next grid draws)) ys (b .1) in
+      let w = prepend-served (next .x ⊕ shiftOf centre alpha (a .0) t (next .variance) (forwardOf (b .0) (d .0))) (pathFrom centre alpha ps ss ts fs next grid draws) ys (d .1) in
       let z : length draws ≡ length grid = omega arith in
       sym (ap length (w .2)) ∙ ap suc (from-length next grid draws (w .0) z (w .1))
 
-  pub path-length : (grid draws : List Float) (room : ℕ) (xs : List Float) → generateOutcome alpha ps ss ts fs grid draws room ≡ served xs → length xs ≡ length grid
+  pub path-length : (grid draws : List Float) (room : ℕ) (xs : List Float) → generateOutcome centre alpha ps ss ts fs grid draws room ≡ served xs → length xs ≡ length grid
   unfolding generateOutcome
   path-length grid draws room xs e =
       let schedule = pillarFaults ps ss in
       let empty = eqb (length ps) 0 in
+      let several = severalFor centre (length ps) in
       let below = startsBelow grid in
-      let rules = pathRules schedule (curveFaults ts fs) (gridFaults grid draws) empty below (ltb room (length grid)) alpha in
-      let o = pathFrom alpha ps ss ts fs startState grid draws in
+      let rules = pathRules schedule (curveFaults ts fs) (gridFaults grid draws) empty several below (ltb room (length grid)) alpha in
+      let o = pathFrom centre alpha ps ss ts fs startState grid draws in
       let a = after-served (firstOf rules) (following o finishingList) xs e in
       let w = following-served o finishingList xs (a .1) in
-      let same = grid-fits ps ss ts fs grid draws empty below room alpha (a .0) refl .1 in
+      let same = grid-fits ps ss ts fs grid draws empty several below room alpha (a .0) refl .1 in
       ap length (sym (finished (allOf Finite (w .0)) (w .0) xs (w .2))) ∙ from-length startState grid draws (w .0) same (w .1)

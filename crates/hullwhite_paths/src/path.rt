@@ -1,19 +1,21 @@
 // hullwhitemodel.rs, generate: a short-rate path over a grid of times, from one standard-normal draw a
-// point (kind 12).
+// point, centred as the Rust has it (kind 12) or as published (kind 13).
 ghost use mathlib.Core.Path.{_≡_};
 ghost use mathlib.Core.List.{[]};
 ghost use lib.ListN.{length};
 ghost use Rattle.refusals.specs.Refusals.{answerOf, answerNumber, reported, firstOf};
 ghost use Rattle.refusals.specs.Faults.{curveFaults};
 ghost use Rattle.hullwhite_transitions.specs.Written.{storedOf};
-ghost use Rattle.hullwhite_paths.specs.Generate.{pathRules, startsBelow, generateOutcome};
+ghost use Rattle.hullwhite_paths.specs.Generate.{pathRules, severalFor, startsBelow, generateOutcome};
+use hullwhite_points::Centre;
 use refusals::Answer;
 use refusals::Faults;
 use refusals::Refusal;
 
-// Kind 12: pillars (times and sigmas), the curve, and the grid (times and draws); `out` receives a rate a
-// grid point.
+// Kinds 12 and 13, by the centre: pillars (times and sigmas), the curve, and the grid (times and draws); `out`
+// receives a rate a grid point.
 pub fn generate(
+    centre: Centre,
     alpha: f64,
     pillars: &[f64],
     sigmas: &[f64],
@@ -23,12 +25,13 @@ pub fn generate(
     draws: &[f64],
     out: &mut [f64],
 ) -> Answer
-    ensures answer { λ r. ⌜ r ≡ answerOf (generateOutcome alpha (now (pillars .entry)) (now (sigmas .entry)) (now (times .entry)) (now (factors .entry)) (now (grid .entry)) (now (draws .entry)) (length (now (out .entry)))) ⌝ }
-    ensures output { λ r. ⌜ now (out .exit) ≡ storedOf (generateOutcome alpha (now (pillars .entry)) (now (sigmas .entry)) (now (times .entry)) (now (factors .entry)) (now (grid .entry)) (now (draws .entry)) (length (now (out .entry)))) (now (out .entry)) ⌝ }
-    ensures number { λ r. ⌜ answerNumber r ≡ reported [] (generateOutcome alpha (now (pillars .entry)) (now (sigmas .entry)) (now (times .entry)) (now (factors .entry)) (now (grid .entry)) (now (draws .entry)) (length (now (out .entry)))) .answer ⌝ }
+    ensures answer { λ r. ⌜ r ≡ answerOf (generateOutcome centre alpha (now (pillars .entry)) (now (sigmas .entry)) (now (times .entry)) (now (factors .entry)) (now (grid .entry)) (now (draws .entry)) (length (now (out .entry)))) ⌝ }
+    ensures output { λ r. ⌜ now (out .exit) ≡ storedOf (generateOutcome centre alpha (now (pillars .entry)) (now (sigmas .entry)) (now (times .entry)) (now (factors .entry)) (now (grid .entry)) (now (draws .entry)) (length (now (out .entry)))) (now (out .entry)) ⌝ }
+    ensures number { λ r. ⌜ answerNumber r ≡ reported [] (generateOutcome centre alpha (now (pillars .entry)) (now (sigmas .entry)) (now (times .entry)) (now (factors .entry)) (now (grid .entry)) (now (draws .entry)) (length (now (out .entry)))) .answer ⌝ }
 {
     let curve = refusals::curve_faults(times, factors);
     generate_on(
+        centre,
         curve,
         alpha,
         pillars,
@@ -44,6 +47,7 @@ pub fn generate(
 // The same on a curve whose faults are known: a caller has worked them on these very lists, for this call or
 // once for many.
 pub fn generate_on(
+    centre: Centre,
     curve: Faults,
     alpha: f64,
     pillars: &[f64],
@@ -55,9 +59,9 @@ pub fn generate_on(
     out: &mut [f64],
 ) -> Answer
     requires { ⌜ curve ≡ curveFaults (now times) (now factors) ⌝ }
-    ensures answer { λ r. ⌜ r ≡ answerOf (generateOutcome alpha (now (pillars .entry)) (now (sigmas .entry)) (now (times .entry)) (now (factors .entry)) (now (grid .entry)) (now (draws .entry)) (length (now (out .entry)))) ⌝ }
-    ensures output { λ r. ⌜ now (out .exit) ≡ storedOf (generateOutcome alpha (now (pillars .entry)) (now (sigmas .entry)) (now (times .entry)) (now (factors .entry)) (now (grid .entry)) (now (draws .entry)) (length (now (out .entry)))) (now (out .entry)) ⌝ }
-    ensures number { λ r. ⌜ answerNumber r ≡ reported [] (generateOutcome alpha (now (pillars .entry)) (now (sigmas .entry)) (now (times .entry)) (now (factors .entry)) (now (grid .entry)) (now (draws .entry)) (length (now (out .entry)))) .answer ⌝ }
+    ensures answer { λ r. ⌜ r ≡ answerOf (generateOutcome centre alpha (now (pillars .entry)) (now (sigmas .entry)) (now (times .entry)) (now (factors .entry)) (now (grid .entry)) (now (draws .entry)) (length (now (out .entry)))) ⌝ }
+    ensures output { λ r. ⌜ now (out .exit) ≡ storedOf (generateOutcome centre alpha (now (pillars .entry)) (now (sigmas .entry)) (now (times .entry)) (now (factors .entry)) (now (grid .entry)) (now (draws .entry)) (length (now (out .entry)))) (now (out .entry)) ⌝ }
+    ensures number { λ r. ⌜ answerNumber r ≡ reported [] (generateOutcome centre alpha (now (pillars .entry)) (now (sigmas .entry)) (now (times .entry)) (now (factors .entry)) (now (grid .entry)) (now (draws .entry)) (length (now (out .entry)))) .answer ⌝ }
 {
     let schedule = refusals::pillar_faults(pillars, sigmas);
     let points = refusals::grid_faults(grid, draws);
@@ -67,6 +71,7 @@ pub fn generate_on(
         curve,
         points,
         pillars.len() == 0,
+        several_for(centre, pillars.len()),
         starts_below(grid),
         out.len() < n,
         alpha,
@@ -76,6 +81,7 @@ pub fn generate_on(
     }
     let mut work = [0.0; 1024];
     let walk = hullwhite_points::walk_grid(
+        centre,
         alpha,
         pillars,
         sigmas,
@@ -89,6 +95,16 @@ pub fn generate_on(
         return Answer::Refused(refusal);
     }
     hullwhite_transitions::finish(&work[..n], out)
+}
+
+// Whether there are more pillars than the centre serves: the published one has one sigma for all times.
+fn several_for(centre: Centre, pillars: usize) -> bool
+    ensures { λ r. ⌜ r ≡ severalFor centre pillars ⌝ }
+{
+    match centre {
+        Centre::StateVariance => false,
+        Centre::Published => 1 < pillars,
+    }
 }
 
 // Whether the first grid time is below 0.
@@ -107,11 +123,12 @@ fn path_rules(
     curve: Faults,
     points: Faults,
     empty: bool,
+    several: bool,
     below: bool,
     short: bool,
     alpha: f64,
 ) -> Answer
-    ensures { λ r. ⌜ r ≡ firstOf (pathRules schedule curve points empty below short alpha) ⌝ }
+    ensures { λ r. ⌜ r ≡ firstOf (pathRules schedule curve points empty several below short alpha) ⌝ }
 {
     let finite = math_elementary::is_finite(alpha);
     let mut answer = refusals::and_rule(
@@ -132,5 +149,6 @@ fn path_rules(
     );
     answer = refusals::and_rule(answer, Refusal::Times, below);
     answer = refusals::and_rule(answer, Refusal::Domain, schedule.domain | curve.domain);
-    refusals::and_rule(answer, Refusal::Empty, empty)
+    answer = refusals::and_rule(answer, Refusal::Empty, empty);
+    refusals::and_rule(answer, Refusal::SeveralPillars, several)
 }

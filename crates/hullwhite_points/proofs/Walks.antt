@@ -14,6 +14,7 @@ use Rattle.curve.specs.Lookups.{Maybe, just, nothing, factorAt, needing, volati
 use Rattle.hullwhite_formulas.specs.HullWhite.{h, forwardOf}
 use Rattle.refusals.proofs.Walks.{next, longer}
 use Rattle.hullwhite_points.specs.declared.walk.State.{State}
+use Rattle.hullwhite_points.specs.declared.walk.Centre.{Centre}
 use Rattle.hullwhite_points.specs.Walk.{stepDecay, decaysFrom, forwardOfBoth, forwardAt}
 use Rattle.hullwhite_points.specs.Path.{stateAfter, shiftOf, pathFrom}
 
@@ -81,37 +82,37 @@ prepend-longer : (out : List Float) (i : ℕ) (v : Float) (rest : Outcome (List 
 prepend-longer out i v (served ys) h = ap served (longer out i v ys h)
 prepend-longer out i v (refused r) h = refl
 
-module _ (alpha : Float) (ps ss ts fs : List Float) (s : State) (grid draws out : List Float) (i : ℕ) where
-  pub path-end : length grid ≤ i → length out ≤ i → prependAll (take i out) (pathFrom alpha ps ss ts fs s (drop i grid) (drop i draws)) ≡ served out
+module _ (centre : Centre) (alpha : Float) (ps ss ts fs : List Float) (s : State) (grid draws out : List Float) (i : ℕ) where
+  pub path-end : length grid ≤ i → length out ≤ i → prependAll (take i out) (pathFrom centre alpha ps ss ts fs s (drop i grid) (drop i draws)) ≡ served out
   unfolding pathFrom
   path-end h k = rw (drop-of-length-le grid h, append-nil, take-all i out k)
 
   module _ (in-grid : i < length grid) (in-draws : i < length draws) where
-    pub no-volatility : volatilityAt ps ss (getD grid i nan) ≡ nothing → pathFrom alpha ps ss ts fs s (drop i grid) (drop i draws) ≡ refused R.Empty
+    pub no-volatility : volatilityAt ps ss (getD grid i nan) ≡ nothing → pathFrom centre alpha ps ss ts fs s (drop i grid) (drop i draws) ≡ refused R.Empty
     unfolding pathFrom
     no-volatility e = rw (next grid i in-grid, next draws i in-draws, e)
 
     module _ (sigma : Float) (found : volatilityAt ps ss (getD grid i nan) ≡ just sigma) where
       from-forward : let after = stateAfter alpha sigma (getD grid i nan) (getD draws i nan) s in
-          pathFrom alpha ps ss ts fs s (drop i grid) (drop i draws)
-          ≡ needing (forwardAt ts fs (getD grid i nan)) (λ f. prepend (after .x ⊕ shiftOf (after .variance) f) (pathFrom alpha ps ss ts fs after (drop (i + 1) grid) (drop (i + 1) draws)))
+          pathFrom centre alpha ps ss ts fs s (drop i grid) (drop i draws)
+          ≡ needing (forwardAt ts fs (getD grid i nan)) (λ f. prepend (after .x ⊕ shiftOf centre alpha sigma (getD grid i nan) (after .variance) f) (pathFrom centre alpha ps ss ts fs after (drop (i + 1) grid) (drop (i + 1) draws)))
       unfolding pathFrom forwardAt
       from-forward =
           let t = getD grid i nan in
           let after = stateAfter alpha sigma t (getD draws i nan) s in
-          rw (next grid i in-grid, next draws i in-draws, found) (needing-both (factorAt ts fs t) (factorAt ts fs (t ⊕ h)) (λ f. prepend (after .x ⊕ shiftOf (after .variance) f) (pathFrom alpha ps ss ts fs after (drop (i + 1) grid) (drop (i + 1) draws))))
+          rw (next grid i in-grid, next draws i in-draws, found) (needing-both (factorAt ts fs t) (factorAt ts fs (t ⊕ h)) (λ f. prepend (after .x ⊕ shiftOf centre alpha sigma (getD grid i nan) (after .variance) f) (pathFrom centre alpha ps ss ts fs after (drop (i + 1) grid) (drop (i + 1) draws))))
 
-      pub no-forward : forwardAt ts fs (getD grid i nan) ≡ nothing → pathFrom alpha ps ss ts fs s (drop i grid) (drop i draws) ≡ refused R.OffCurve
+      pub no-forward : forwardAt ts fs (getD grid i nan) ≡ nothing → pathFrom centre alpha ps ss ts fs s (drop i grid) (drop i draws) ≡ refused R.OffCurve
       no-forward e = from-forward ∙ rw e
 
       pub path-turn : (f : Float) → forwardAt ts fs (getD grid i nan) ≡ just f → i < length out
           → (after : State) → after ≡ stateAfter alpha sigma (getD grid i nan) (getD draws i nan) s
-          → (shift : Float) → shift ≡ shiftOf (after .variance) f
-          → prependAll (take i out) (pathFrom alpha ps ss ts fs s (drop i grid) (drop i draws))
-          ≡ prependAll (take (i + 1) (set out i (after .x ⊕ shift))) (pathFrom alpha ps ss ts fs after (drop (i + 1) grid) (drop (i + 1) draws))
+          → (shift : Float) → shift ≡ shiftOf centre alpha sigma (getD grid i nan) (after .variance) f
+          → prependAll (take i out) (pathFrom centre alpha ps ss ts fs s (drop i grid) (drop i draws))
+          ≡ prependAll (take (i + 1) (set out i (after .x ⊕ shift))) (pathFrom centre alpha ps ss ts fs after (drop (i + 1) grid) (drop (i + 1) draws))
       path-turn f e k after ea shift es =
           ap (prependAll (take i out)) from-forward
-          ∙ rw (e, ← ea, ← es) (prepend-longer out i (after .x ⊕ shift) (pathFrom alpha ps ss ts fs after (drop (i + 1) grid) (drop (i + 1) draws)) k)
+          ∙ rw (e, ← ea, ← es) (prepend-longer out i (after .x ⊕ shift) (pathFrom centre alpha ps ss ts fs after (drop (i + 1) grid) (drop (i + 1) draws)) k)
 
 -- ---- the decays that are left in the output, each read before its point's rate takes its place
 pub decays-length : (alpha t : Float) (grid : List Float) → length (decaysFrom alpha t grid) ≡ length grid

@@ -3,5 +3,6 @@
 mod decays;
 mod walk;
 
+pub use walk::Centre;
 pub use walk::State;
 pub use walk::walk_grid;

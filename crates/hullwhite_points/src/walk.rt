@@ -6,13 +6,20 @@ ghost use Rattle.ieee.specs.Numbers.{zero};
 ghost use Rattle.refusals.specs.Checks.{inOrder};
 ghost use Rattle.refusals.specs.Refusals.{served, after};
 ghost use Rattle.curve.specs.Lookups.{foundOf};
-ghost use Rattle.hullwhite_points.specs.Path.{stateAfter, shiftOf, pathFrom, startState};
+ghost use Rattle.hullwhite_points.specs.Path.{stateAfter, publishedShiftOf, shiftOf, pathFrom, startState};
 ghost use Rattle.hullwhite_points.specs.Walk.{stepDecay, decaysFrom, forwardAt};
 use super::decays;
 use curve::Found;
 use curve::FoundNear;
 use refusals::Answer;
 use refusals::Refusal;
+
+// What a path's rates are centred on: the forward plus half the state variance, as the Rust has it (kind 12), or as
+// Brigo and Mercurio have published it (kind 13).
+pub enum Centre {
+    StateVariance,
+    Published,
+}
 
 // The state of a path: the centred rate, the time, and the state's variance.
 pub struct State {
@@ -37,11 +44,22 @@ fn state_after(alpha: f64, sigma: f64, t: f64, draw: f64, decay: f64, s: State) 
     State { x, t, variance }
 }
 
-// The shift of a point: the forward plus half the state variance.
-fn shift_of(variance: f64, forward: f64) -> f64
-    ensures { λ r. ⌜ r ≡ shiftOf variance forward ⌝ }
+// The published shift of a point, nothing fused: another rounding than the model's B would give.
+fn published_shift(alpha: f64, sigma: f64, t: f64, forward: f64) -> f64
+    ensures { λ r. ⌜ r ≡ publishedShiftOf alpha sigma t forward ⌝ }
 {
-    ieee::fused(0.5, variance, forward)
+    let g = sigma / alpha * (1.0 - math_exponential::exp(-alpha * t));
+    forward + 0.5 * (g * g)
+}
+
+// The shift of a point at the time t, where the volatility is sigma: the two centres differ in it and in nothing else.
+fn shift_of(centre: Centre, alpha: f64, sigma: f64, t: f64, variance: f64, forward: f64) -> f64
+    ensures { λ r. ⌜ r ≡ shiftOf centre alpha sigma t variance forward ⌝ }
+{
+    match centre {
+        Centre::StateVariance => ieee::fused(0.5, variance, forward),
+        Centre::Published => published_shift(alpha, sigma, t, forward),
+    }
 }
 
 // The forward at t, from the factors at t and a day later, looked for at `hint` first. A caller behind the
@@ -69,6 +87,7 @@ fn forward_near(times: &[f64], factors: &[f64], hint: usize, t: f64) -> FoundNea
 // Works every point of the grid into `out`, or says why one cannot be worked. A caller that has asked the rules
 // has the lists of one length, and pillars and a curve whose times strictly rise.
 pub fn walk_grid(
+    centre: Centre,
     alpha: f64,
     pillars: &[f64],
     sigmas: &[f64],
@@ -79,16 +98,27 @@ pub fn walk_grid(
     out: &mut [f64],
 ) -> Answer
     requires { ⌜ (length (now out) ≡ length (now grid)) × (length (now draws) ≡ length (now grid)) × (inOrder true (now times) ≡ true) × (inOrder true (now pillars) ≡ true) ⌝ }
-    ensures { λ r. ⌜ pathFrom alpha (now (pillars .entry)) (now (sigmas .entry)) (now (times .entry)) (now (factors .entry)) startState (now (grid .entry)) (now (draws .entry)) ≡ after r (served (now (out .exit))) ⌝ }
+    ensures { λ r. ⌜ pathFrom centre alpha (now (pillars .entry)) (now (sigmas .entry)) (now (times .entry)) (now (factors .entry)) startState (now (grid .entry)) (now (draws .entry)) ≡ after r (served (now (out .exit))) ⌝ }
 {
     decays::write_decays(alpha, grid, out);
-    walk_points(alpha, pillars, sigmas, times, factors, grid, draws, out)
+    walk_points(
+        centre,
+        alpha,
+        pillars,
+        sigmas,
+        times,
+        factors,
+        grid,
+        draws,
+        out,
+    )
 }
 
 // The same, where `out` holds the decay over each step, as a caller has had it written by `write_decays`: a
 // point's rate takes the place of its decay. A volatility and a forward are looked for where those of the point
 // before were found.
 fn walk_points(
+    centre: Centre,
     alpha: f64,
     pillars: &[f64],
     sigmas: &[f64],
@@ -99,7 +129,7 @@ fn walk_points(
     out: &mut [f64],
 ) -> Answer
     requires { ⌜ (now out ≡ decaysFrom alpha zero (now grid)) × (length (now draws) ≡ length (now grid)) × (inOrder true (now times) ≡ true) × (inOrder true (now pillars) ≡ true) ⌝ }
-    ensures { λ r. ⌜ pathFrom alpha (now (pillars .entry)) (now (sigmas .entry)) (now (times .entry)) (now (factors .entry)) startState (now (grid .entry)) (now (draws .entry)) ≡ after r (served (now (out .exit))) ⌝ }
+    ensures { λ r. ⌜ pathFrom centre alpha (now (pillars .entry)) (now (sigmas .entry)) (now (times .entry)) (now (factors .entry)) startState (now (grid .entry)) (now (draws .entry)) ≡ after r (served (now (out .exit))) ⌝ }
 {
     let mut s = State {
         x: 0.0,
@@ -122,7 +152,7 @@ fn walk_points(
             return Answer::Refused(Refusal::OffCurve);
         };
         s = state_after(alpha, sigma, t, draws[i], out[i], s);
-        out[i] = s.x + shift_of(s.variance, f);
+        out[i] = s.x + shift_of(centre, alpha, sigma, t, s.variance, f);
         reached = volatility.next;
         place = forward.next;
         i += 1;

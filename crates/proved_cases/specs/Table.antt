@@ -19,6 +19,7 @@ use Rattle.math_exponential.specs.Exp.{expOf, nearestWhole, seriesOf}
 use Rattle.math_elementary.specs.Ln.{lnOf, places, significandOf, exponentOf, oddSeriesOf}
 use Rattle.math_normal.specs.NormCdf.{normCdfOf, normCdfDualOf, normBy, upperOf}
 use Rattle.refusals.specs.declared.refusals.Refusal.the-variants as R
+use Rattle.refusals.proofs.Numbered.{one-number}
 use Rattle.refusals.specs.Refusals.{Outcome, served, refused, following, firstOf, numberOf, answerOf, answerNumber, valueOr}
 use Rattle.refusals.specs.Checks.{allOf, inOrder, inOrderFrom}
 use Rattle.curve.specs.Lookups.{factorAt, betweenOr}
@@ -160,19 +161,7 @@ rate-row = searched (one ∷ []) (one ∷ []) (zero ∷ []) (rated (findOutcome 
 
 flat-is : (o : Outcome Float) → answerNumber (answerOf o) ≡ 11 → o ≡ refused R.FlatDerivative
 flat-is (served v) e = absurd (omega arith)
-flat-is (refused R.Size) e = absurd (omega arith)
-flat-is (refused R.NotFinite) e = absurd (omega arith)
-flat-is (refused R.MeanReversion) e = absurd (omega arith)
-flat-is (refused R.Order) e = absurd (omega arith)
-flat-is (refused R.Times) e = absurd (omega arith)
-flat-is (refused R.Domain) e = absurd (omega arith)
-flat-is (refused R.Empty) e = absurd (omega arith)
-flat-is (refused R.OffCurve) e = absurd (omega arith)
-flat-is (refused R.NanReached) e = absurd (omega arith)
-flat-is (refused R.NoBracket) e = absurd (omega arith)
-flat-is (refused R.FlatDerivative) e = refl
-flat-is (refused R.NoSignChange) e = absurd (omega arith)
-flat-is (refused R.Overflow) e = absurd (omega arith)
+flat-is (refused r) e = ap refused (one-number r R.FlatDerivative e)
 
 step-flat : stepped minusHalf (sumsOf minusHalf (one ∷ []) (one ∷ []) (zero ∷ [])) ≡ refused R.FlatDerivative
 step-flat = flat-is _ (row (record { asked = newton minusHalf (one ∷ []) (one ∷ []) (zero ∷ []); number = 11; value = zero }) (List·Memᴰ·tail (List·Memᴰ·tail (List·Memᴰ·tail (List·Memᴰ·tail (List·Memᴰ·tail (List·Memᴰ·tail (List·Memᴰ·tail (List·Memᴰ·tail (List·Memᴰ·tail (List·Memᴰ·tail (List·Memᴰ·tail (List·Memᴰ·tail (List·Memᴰ·head refl))))))))))))) .0)

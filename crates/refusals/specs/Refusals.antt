@@ -21,7 +21,7 @@ pub data Outcome (A : Type 0) : Type 0 where
 
 -- ---- an outcome's number and values
 
--- document 01's numbers; they stand here alone
+-- document 01's numbers, and 15 of document 02, A.6: "more than one in kind 13 is refused as 15"; they stand here alone
 abbrev pub numberOf : Refusal → ℕ
 numberOf R.Size = 1
 numberOf R.NotFinite = 2
@@ -30,6 +30,7 @@ numberOf R.Order = 4
 numberOf R.Times = 5
 numberOf R.Domain = 6
 numberOf R.Empty = 7
+numberOf R.SeveralPillars = 15
 numberOf R.OffCurve = 8
 numberOf R.NanReached = 9
 numberOf R.NoBracket = 10
@@ -37,7 +38,7 @@ numberOf R.FlatDerivative = 11
 numberOf R.NoSignChange = 12
 numberOf R.Overflow = 13
 
--- the refusal's place in the order in which refusals are met, of which its number says nothing: with the numbers 14 to 18, whose places are left free, the order is 1, 17, 2, 3, 4, 5, 6, 14, 16, 7, 15, 8, 9, 10, 11, 12, 13, 18
+-- the refusal's place in the order in which refusals are met, of which its number says nothing: with 14, 16, 17 and 18, whose places are left free, the order is 1, 17, 2, 3, 4, 5, 6, 14, 16, 7, 15, 8, 9, 10, 11, 12, 13, 18
 abbrev pub placeOf : Refusal → ℕ
 placeOf R.Size = 1
 placeOf R.NotFinite = 3
@@ -46,6 +47,7 @@ placeOf R.Order = 5
 placeOf R.Times = 6
 placeOf R.Domain = 7
 placeOf R.Empty = 10
+placeOf R.SeveralPillars = 11
 placeOf R.OffCurve = 12
 placeOf R.NanReached = 13
 placeOf R.NoBracket = 14

@@ -1,8 +1,8 @@
-// How a call is turned down: the refusals of document 01, each under its number.
+// How a call is turned down: the refusals of documents 01 and 02, each under its number.
 ghost use mathlib.Core.Path.{_≡_};
 ghost use Rattle.refusals.specs.Refusals.{numberOf, rule, andRule, outcomeOf, priceReportOf, finishing};
 
-// Why a call is turned down, in document 01's order.
+// Why a call is turned down, in the order in which it is met.
 pub enum Refusal {
     Size,
     NotFinite,
@@ -11,6 +11,7 @@ pub enum Refusal {
     Times,
     Domain,
     Empty,
+    SeveralPillars,
     OffCurve,
     NanReached,
     NoBracket,
@@ -38,7 +39,7 @@ pub struct PriceReport {
     pub value: f64,
 }
 
-// Document 01's number of a refusal.
+// A refusal's number in document 01, or in document 02.
 pub fn number(refusal: Refusal) -> u64
     ensures { λ r. ⌜ r ≡ numberOf refusal ⌝ }
 {
@@ -50,6 +51,7 @@ pub fn number(refusal: Refusal) -> u64
         Refusal::Times => 5,
         Refusal::Domain => 6,
         Refusal::Empty => 7,
+        Refusal::SeveralPillars => 15,
         Refusal::OffCurve => 8,
         Refusal::NanReached => 9,
         Refusal::NoBracket => 10,

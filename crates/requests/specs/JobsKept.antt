@@ -28,8 +28,9 @@ use Rattle.quotes.specs.Rules.{annuityRules}
 use Rattle.quotes.specs.Utils.{annuityOutcome}
 use Rattle.hullwhite_transitions.specs.Written.{finishingList}
 use Rattle.hullwhite_points.specs.declared.walk.State.{State}
+use Rattle.hullwhite_points.specs.declared.walk.Centre.{Centre}
 use Rattle.hullwhite_points.specs.Path.{stateAfter, shiftOf, startState, pathFrom}
-use Rattle.hullwhite_paths.specs.Generate.{startsBelow, generateOutcome}
+use Rattle.hullwhite_paths.specs.Generate.{startsBelow, severalFor, generateOutcome}
 use Rattle.hullwhite_paths.proofs.Outcomes.{grid-fits}
 use Rattle.hullwhite_terms.specs.Terms.{factorsAt}
 use Rattle.hullwhite_jamshidian.specs.Price.{ModelValued, finishingSwaption}
@@ -165,31 +166,31 @@ module _ (alpha : Float) (ts fs : List Float) (o : inOrder true ts ≡ true) (e 
       → bumpOf alpha ts fs e sigma ≡ served v
   entry-bump-kept sigma = job-kept _ ts fs _ _ _ (λ _. o) (entry-bump-met alpha ts fs e sigma)
 
--- ---- kind 12: the points as they were worked from listed factors
-unfoldable pub pathListed : Float → List Float → List Float → List Float → List Float → State → List Float → List Float → Outcome (List Float)
-pathListed alpha ps ss ts fs s [] draws = served []
-pathListed alpha ps ss ts fs s (t ∷ grid) [] = served []
-pathListed alpha ps ss ts fs s (t ∷ grid) (draw ∷ draws) =
+-- ---- kinds 12 and 13: the points as they were worked from listed factors
+unfoldable pub pathListed : Centre → Float → List Float → List Float → List Float → List Float → State → List Float → List Float → Outcome (List Float)
+pathListed centre alpha ps ss ts fs s [] draws = served []
+pathListed centre alpha ps ss ts fs s (t ∷ grid) [] = served []
+pathListed centre alpha ps ss ts fs s (t ∷ grid) (draw ∷ draws) =
     required R.Empty (volatilityAt ps ss t) (λ sigma.
     needing (listedAt ts fs t) (λ p.
     needing (listedAt ts fs (t ⊕ h)) (λ pPlus.
     let next = stateAfter alpha sigma t draw s in
-    prepend (next .x ⊕ shiftOf (next .variance) (forwardOf p pPlus)) (pathListed alpha ps ss ts fs next grid draws))))
+    prepend (next .x ⊕ shiftOf centre alpha sigma t (next .variance) (forwardOf p pPlus)) (pathListed centre alpha ps ss ts fs next grid draws))))
 
-points-kept : (alpha : Float) (ps ss ts fs : List Float) (s : State) (grid draws : List Float) {rates : List Float} → inOrder true ts ≡ true → pathListed alpha ps ss ts fs s grid draws ≡ served rates → pathFrom alpha ps ss ts fs s grid draws ≡ served rates
+points-kept : (centre : Centre) (alpha : Float) (ps ss ts fs : List Float) (s : State) (grid draws : List Float) {rates : List Float} → inOrder true ts ≡ true → pathListed centre alpha ps ss ts fs s grid draws ≡ served rates → pathFrom centre alpha ps ss ts fs s grid draws ≡ served rates
 unfolding pathListed pathFrom
-points-kept alpha ps ss ts fs s [] draws o e = e
-points-kept alpha ps ss ts fs s (t ∷ grid) [] o e = e
-points-kept alpha ps ss ts fs s (t ∷ grid) (draw ∷ draws) {rates} o e = at (volatilityAt ps ss t) (λ sigma qs q. points-kept alpha ps ss ts fs (stateAfter alpha sigma t draw s) grid draws {rates = qs} o q) e
+points-kept centre alpha ps ss ts fs s [] draws o e = e
+points-kept centre alpha ps ss ts fs s (t ∷ grid) [] o e = e
+points-kept centre alpha ps ss ts fs s (t ∷ grid) (draw ∷ draws) {rates} o e = at (volatilityAt ps ss t) (λ sigma qs q. points-kept centre alpha ps ss ts fs (stateAfter alpha sigma t draw s) grid draws {rates = qs} o q) e
   where
     before : Float → Outcome (List Float)
-    before sigma = pathListed alpha ps ss ts fs (stateAfter alpha sigma t draw s) grid draws
+    before sigma = pathListed centre alpha ps ss ts fs (stateAfter alpha sigma t draw s) grid draws
 
     now : Float → Outcome (List Float)
-    now sigma = pathFrom alpha ps ss ts fs (stateAfter alpha sigma t draw s) grid draws
+    now sigma = pathFrom centre alpha ps ss ts fs (stateAfter alpha sigma t draw s) grid draws
 
     point : Float → Float → Float → Float
-    point sigma p pPlus = stateAfter alpha sigma t draw s .x ⊕ shiftOf (stateAfter alpha sigma t draw s .variance) (forwardOf p pPlus)
+    point sigma p pPlus = stateAfter alpha sigma t draw s .x ⊕ shiftOf centre alpha sigma t (stateAfter alpha sigma t draw s .variance) (forwardOf p pPlus)
 
     tail : (x : Float) (old new : Outcome (List Float)) → ((qs : List Float) → old ≡ served qs → new ≡ served qs) → prepend x old ≡ served rates → prepend x new ≡ served rates
     tail x (served qs) new later k = rw (later qs refl) k
@@ -207,9 +208,9 @@ points-kept alpha ps ss ts fs s (t ∷ grid) (draw ∷ draws) {rates} o e = at (
     at (just sigma) later k = two-found sigma (listedAt ts fs t) (listedAt ts fs (t ⊕ h)) refl refl (later sigma) k
     at nothing later k = absurd (not-both k)
 
-pub path-kept : (alpha : Float) (ps ss ts fs grid draws : List Float) (room : ℕ) {v : List Float}
-    → staged (pathRulesOn alpha ps ss ts fs grid draws room) (pathListed alpha ps ss ts fs startState grid draws) served finishingList ≡ served v → generateOutcome alpha ps ss ts fs grid draws room ≡ served v
-path-kept alpha ps ss ts fs grid draws room =
-    stages-kept (pathRulesOn alpha ps ss ts fs grid draws room) (pathFrom alpha ps ss ts fs startState grid draws) (pathListed alpha ps ss ts fs startState grid draws) served finishingList
-    (λ e rates. points-kept alpha ps ss ts fs startState grid draws {rates = rates} (grid-fits ps ss ts fs grid draws (eqb (length ps) 0) (startsBelow grid) room alpha e refl .2))
-    (path-met alpha ps ss ts fs grid draws room)
+pub path-kept : (centre : Centre) (alpha : Float) (ps ss ts fs grid draws : List Float) (room : ℕ) {v : List Float}
+    → staged (pathRulesOn centre alpha ps ss ts fs grid draws room) (pathListed centre alpha ps ss ts fs startState grid draws) served finishingList ≡ served v → generateOutcome centre alpha ps ss ts fs grid draws room ≡ served v
+path-kept centre alpha ps ss ts fs grid draws room =
+    stages-kept (pathRulesOn centre alpha ps ss ts fs grid draws room) (pathFrom centre alpha ps ss ts fs startState grid draws) (pathListed centre alpha ps ss ts fs startState grid draws) served finishingList
+    (λ e rates. points-kept centre alpha ps ss ts fs startState grid draws {rates = rates} (grid-fits ps ss ts fs grid draws (eqb (length ps) 0) (severalFor centre (length ps)) (startsBelow grid) room alpha e refl .2))
+    (path-met centre alpha ps ss ts fs grid draws room)

@@ -6,3 +6,4 @@ pub mod WorkAhead
 pub mod CouponWork
 pub mod BetweenPoints
 pub mod JobsKept
+pub mod Centred

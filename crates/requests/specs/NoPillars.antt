@@ -26,6 +26,7 @@ use Rattle.hullwhite_parameters.specs.Rules.{varianceRules, volatilityRules}
 use Rattle.hullwhite_parameters.specs.Parameters.{volatilityFound, volatilityOutcome, reachedOutcome, piecewiseVarianceOutcome}
 use Rattle.hullwhite_transitions.specs.Written.{finishingList}
 use Rattle.hullwhite_transitions.specs.Transition.{transitionRules, variancesOf, transitionOutcome}
+use Rattle.hullwhite_points.specs.declared.walk.Centre.{Centre}
 use Rattle.hullwhite_points.specs.Path.{startState, pathFrom}
 use Rattle.hullwhite_paths.specs.Generate.{pathRules, startsBelow, generateOutcome}
 use Rattle.search_sum.specs.Sum.{couponSum}
@@ -59,15 +60,24 @@ no-variance-served alpha start end = refl
 
 -- ---- rules
 
--- a rule that applies and is asked last: what the others let through is refused by it
-asked-last : {B : Type 0} (xs : List Rule) (q : Refusal) (rest : Outcome B) → unless (xs ++ (rule q true ∷ [])) rest ≡ unless (xs ++ (rule q false ∷ [])) (refused q)
+-- a rule that applies, behind which no rule does: what those before it let through is refused by it
+asked-behind : {B : Type 0} (xs : List Rule) (q : Refusal) (ys zs : List Rule) (rest : Outcome B) → firstOf zs ≡ A.Served → unless (xs ++ (rule q true ∷ ys)) rest ≡ unless (xs ++ (rule q false ∷ zs)) (refused q)
 unfolding firstOf
-asked-last [] q rest = refl
-asked-last (x ∷ xs) q rest = go (x .applies) (asked-last xs q rest)
+asked-behind [] q ys zs rest none = rw none refl
+asked-behind (x ∷ xs) q ys zs rest none = go (x .applies) (asked-behind xs q ys zs rest none)
   where
-    go : (b : Bool) → unless (xs ++ (rule q true ∷ [])) rest ≡ unless (xs ++ (rule q false ∷ [])) (refused q) → unless (rule (x .refusal) b ∷ xs ++ (rule q true ∷ [])) rest ≡ unless (rule (x .refusal) b ∷ xs ++ (rule q false ∷ [])) (refused q)
+    go : (b : Bool) → unless (xs ++ (rule q true ∷ ys)) rest ≡ unless (xs ++ (rule q false ∷ zs)) (refused q) → unless (rule (x .refusal) b ∷ xs ++ (rule q true ∷ ys)) rest ≡ unless (rule (x .refusal) b ∷ xs ++ (rule q false ∷ zs)) (refused q)
     go true e = refl
     go false e = e
+
+silent : (q : Refusal) → firstOf (rule q false ∷ []) ≡ A.Served
+unfolding firstOf
+silent q = refl
+
+-- and asked last
+asked-last : {B : Type 0} (xs : List Rule) (q : Refusal) (rest : Outcome B) → unless (xs ++ (rule q true ∷ [])) rest ≡ unless (xs ++ (rule q false ∷ [])) (refused q)
+unfolding firstOf
+asked-last xs q rest = asked-behind xs q [] [] rest refl
 
 or-true : (b x c d : Bool) → x ≡ true → (b || x || c || d) ≡ true
 or-true true x c d e = refl
@@ -214,6 +224,6 @@ pub transition-wants-pillars : (alpha : Float) (ss : List Float) (steps : ℕ) (
 unfolding transitionOutcome
 transition-wants-pillars alpha ss steps timeStep room = asked-last (_ ∷ _ ∷ _ ∷ _ ∷ _ ∷ _ ∷ []) R.Empty (finishingList (variancesOf alpha [] ss timeStep 0 steps))
 
-pub path-wants-pillars : (alpha : Float) (ss ts fs grid draws : List Float) (room : ℕ) → generateOutcome alpha [] ss ts fs grid draws room ≡ unless (pathRules (pillarFaults [] ss) (curveFaults ts fs) (gridFaults grid draws) false (startsBelow grid) (ltb room (length grid)) alpha) (refused R.Empty)
+pub path-wants-pillars : (centre : Centre) (alpha : Float) (ss ts fs grid draws : List Float) (room : ℕ) → generateOutcome centre alpha [] ss ts fs grid draws room ≡ unless (pathRules (pillarFaults [] ss) (curveFaults ts fs) (gridFaults grid draws) false false (startsBelow grid) (ltb room (length grid)) alpha) (refused R.Empty)
 unfolding generateOutcome
-path-wants-pillars alpha ss ts fs grid draws room = asked-last (_ ∷ _ ∷ _ ∷ _ ∷ _ ∷ _ ∷ []) R.Empty (following (pathFrom alpha [] ss ts fs startState grid draws) finishingList)
+path-wants-pillars centre alpha ss ts fs grid draws room = asked-behind (_ ∷ _ ∷ _ ∷ _ ∷ _ ∷ _ ∷ []) R.Empty _ (rule R.SeveralPillars false ∷ []) (following (pathFrom centre alpha [] ss ts fs startState grid draws) finishingList) (silent R.SeveralPillars)

@@ -102,7 +102,7 @@ fn one_job(
     requires { ⌜ requestOfLists alpha (now pillars) (now sigmas) (now times) (now factors) (now payments) (now accruals) (now owns) (now grid) (now draws) (jobsOf (now file) (l .jobs)) ≡ requestOf (now file) l ⌝ }
 {
     let j = file_layout::nth_job(file, l.jobs, k);
-    if (j.kind < 5) | (j.kind == 12) {
+    if (j.kind < 5) | (j.kind >= 12) {
         let n = file_output::job_lines(
             file,
             l,

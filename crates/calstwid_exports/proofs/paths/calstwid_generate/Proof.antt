@@ -2,6 +2,7 @@
 use borrow.Author.Needs.{needs}
 use mathlib.Core.Path.{_∙_}
 use denote.Ref.{now}
+use Rattle.hullwhite_points.specs.declared.walk.Centre.the-variants.{StateVariance}
 use Rattle.hullwhite_paths.proofs.Served.{path-length}
 use Rattle.calstwid_exports.proofs.Counted.{counted}
 use Rattle.calstwid_exports.proofs.paths.calstwid_generate.Statement.{statement}
@@ -20,7 +21,7 @@ returns : tie.Need-returns
 returns c =
     let g = c .before .before .before .generate in
     let a = c .before .before .before .before .before .before .before .before .before .before .before .before .args in
-    (c .count-report .ensures ∙ counted _ _ _ (g .ensures .0) (path-length (a .alpha) (now (a .pillars)) (now (a .sigmas)) (now (a .times)) (now (a .factors)) (now (a .grid)) (now (a .draws)) _), g .ensures .1 .0)
+    (c .count-report .ensures ∙ counted _ _ _ (g .ensures .0) (path-length StateVariance (a .alpha) (now (a .pillars)) (now (a .sigmas)) (now (a .times)) (now (a .factors)) (now (a .grid)) (now (a .draws)) _), g .ensures .1 .0)
 
 pub calstwid-generate-spec : {M : Type 1} → statement M
 calstwid-generate-spec =

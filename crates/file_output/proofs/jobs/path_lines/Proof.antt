@@ -24,7 +24,7 @@ abbrev entry : tie.After-generate-on → tie.Start
 entry g = g .before .before .before .before .before .before .before .before .before
 
 abbrev outcome : tie.After-generate-on → ℕ → Outcome (List Float)
-outcome g = let a = entry g .args in generateOutcome (a .alpha) (now (a .pillars)) (now (a .sigmas)) (now (a .times)) (now (a .factors)) (now (a .grid)) (now (a .draws))
+outcome g = let a = entry g .args in generateOutcome (a .centre) (a .alpha) (now (a .pillars)) (now (a .sigmas)) (now (a .times)) (now (a .factors)) (now (a .grid)) (now (a .draws))
 
 abbrev points : tie.After-generate-on → ℕ
 points g = length (now (entry g .args .grid))
@@ -33,10 +33,10 @@ gave : (g : tie.After-generate-on) → g .generate-on .result ≡ answerOf (outc
 gave g = same-room (outcome g) work (points g) (entry g .pre .1) (g .generate-on .result) (g .generate-on .ensures .0)
 
 abbrev left : tie.After-generate-on → List Float
-left g = g .generate-on .last .1 .1 .1 .1 .1 .1 .1 .1 .0
+left g = g .generate-on .last .1 .1 .1 .1 .1 .1 .1 .1 .1 .0
 
 as-long : (g : tie.After-generate-on) (xs : List Float) → outcome g (points g) ≡ served xs → length xs ≡ points g
-as-long g xs e = let a = entry g .args in path-length (a .alpha) (now (a .pillars)) (now (a .sigmas)) (now (a .times)) (now (a .factors)) (now (a .grid)) (now (a .draws)) (points g) xs e
+as-long g xs e = let a = entry g .args in path-length (a .centre) (a .alpha) (now (a .pillars)) (now (a .sigmas)) (now (a .times)) (now (a .factors)) (now (a .grid)) (now (a .draws)) (points g) xs e
 
 -- ---- the needs
 array-borrow-prefix-values : tie.Need-array-borrow-prefix-values
@@ -64,7 +64,7 @@ returns : tie.Need-returns
 returns c =
     let n = c .before .before .before .before in
     let g = n .before .before .before .before .before in
-    refused-line (entry g .args .k) (outcome g (points g)) _ _ _ _ (n .number .result) (was-refused (outcome g (points g)) (g .generate-on .result) _ (n .before .before .answer .given .1) (gave g)) (n .number .ensures) (c .before .before .one-line .ensures)
+    refused-line (entry g .args .k) (entry g .args .kind) (outcome g (points g)) _ _ _ _ (n .number .result) (was-refused (outcome g (points g)) (g .generate-on .result) _ (n .before .before .answer .given .1) (gave g)) (n .number .ensures) (c .before .before .one-line .ensures)
 
 enum-told : tie.Need-enum-told
 enum-told c = search needs
@@ -80,18 +80,18 @@ returns-2 c =
     let t = c .before .before .before .before .before in
     let g = t .before .before .before in
     let v = was-served (outcome g (points g)) (g .generate-on .result) (t .enum-told .given .1) (gave g) in
-    empty-line (entry g .args .k) (outcome g (points g)) _ _ _ (v .0) (v .1) (as-long g (v .0) (v .1) ∙ c .before .before .before .before .if1 .taken) (c .before .before .one-line2 .ensures)
+    empty-line (entry g .args .k) (entry g .args .kind) (outcome g (points g)) _ _ _ (v .0) (v .1) (as-long g (v .0) (v .1) ∙ c .before .before .before .before .if1 .taken) (c .before .before .one-line2 .ensures)
 
 array-share-prefix-values : tie.Need-array-share-prefix-values
-array-share-prefix-values c = let g = c .before .before .before .before in back-fits work _ (entry g .pre .1) (left g) (g .generate-on .kept .1 .1 .1 .1 .1 .1 .1 .1 .0)
+array-share-prefix-values c = let g = c .before .before .before .before in back-fits work _ (entry g .pre .1) (left g) (g .generate-on .kept .1 .1 .1 .1 .1 .1 .1 .1 .1 .0)
 
 slice-aggregate-point-lines : tie.Need-slice-aggregate-point-lines
-slice-aggregate-point-lines c = let g = c .before .before .before .before .before in back-is work _ (entry g .pre .1) (left g) (g .generate-on .kept .1 .1 .1 .1 .1 .1 .1 .1 .0)
+slice-aggregate-point-lines c = let g = c .before .before .before .before .before in back-is work _ (entry g .pre .1) (left g) (g .generate-on .kept .1 .1 .1 .1 .1 .1 .1 .1 .1 .0)
 
 point-lines-requires : tie.Need-point-lines-requires
 point-lines-requires c κs =
     let g = c .before .before .before .before .before .before in
-    omega (arith, back-is work _ (entry g .pre .1) (left g) (g .generate-on .kept .1 .1 .1 .1 .1 .1 .1 .1 .0), entry g .pre .1, entry g .pre .2)
+    omega (arith, back-is work _ (entry g .pre .1) (left g) (g .generate-on .kept .1 .1 .1 .1 .1 .1 .1 .1 .1 .0), entry g .pre .1, entry g .pre .2)
 
 same-length-3 : tie.Need-same-length-3
 same-length-3 c = search needs
@@ -102,7 +102,7 @@ returns-3 c =
     let g = t .before .before .before in
     let v = was-served (outcome g (points g)) (g .generate-on .result) (t .enum-told .given .1) (gave g) in
     let same = as-long g (v .0) (v .1) in
-    point-by-point (entry g .args .k) (outcome g (points g)) _ _ _ (v .0) _ (v .1) (λ z. c .before .before .before .before .before .if1 .left (sym same ∙ z)) (values-are work (points g) (entry g .pre .1) (left g) (g .generate-on .kept .1 .1 .1 .1 .1 .1 .1 .1 .0) ∙ left-is (outcome g) work (points g) (entry g .pre .1) (v .0) (left g) (v .1) same (g .generate-on .ensures .1 .0)) (c .before .before .point-lines .ensures)
+    point-by-point (entry g .args .k) (entry g .args .kind) (outcome g (points g)) _ _ _ (v .0) _ (v .1) (λ z. c .before .before .before .before .before .if1 .left (sym same ∙ z)) (values-are work (points g) (entry g .pre .1) (left g) (g .generate-on .kept .1 .1 .1 .1 .1 .1 .1 .1 .1 .0) ∙ left-is (outcome g) work (points g) (entry g .pre .1) (v .0) (left g) (v .1) same (g .generate-on .ensures .1 .0)) (c .before .before .point-lines .ensures)
 
 pub path-lines-spec : {M : Type 1} → statement M
 path-lines-spec =

@@ -16,23 +16,23 @@ use Rattle.file_output.proofs.jobs.point_lines.Statement.{statement}
 use Rattle.file_output.proofs.jobs.point_lines.Tie as tie
 
 abbrev Inv-loop : tie.InvT-loop
-Inv-loop k values out₀ at₀ i₀ out at i = (i ≤ length values) × (length out ≡ length out₀) × (at ≤ 128 * i) × Begun at (pointLines k 0 (take i values)) out₀ out
+Inv-loop k kind values out₀ at₀ i₀ out at i = (i ≤ length values) × (length out ≡ length out₀) × (at ≤ 128 * i) × Begun at (pointLines k kind 0 (take i values)) out₀ out
 
 abbrev μ-loop : tie.MeasureT-loop
-μ-loop k values out₀ at₀ i₀ out at i = length values - i
+μ-loop k kind values out₀ at₀ i₀ out at i = length values - i
 
 loop-holds : tie.Need-loop-holds Inv-loop μ-loop
 unfolding pointLines
 loop-holds c = (search needs, refl, search needs, start (now (c .before .before .args .out)))
 
-mul-write-point : tie.Need-mul-write-point Inv-loop μ-loop
-mul-write-point c = search needs
+mul-value : tie.Need-mul-value Inv-loop μ-loop
+mul-value c = search needs
 
-shared-slice-read-write-point : tie.Need-shared-slice-read-write-point Inv-loop μ-loop
-shared-slice-read-write-point c = search needs
+shared-slice-read-value : tie.Need-shared-slice-read-value Inv-loop μ-loop
+shared-slice-read-value c = search needs
 
-write-point-requires : tie.Need-write-point-requires Inv-loop μ-loop
-write-point-requires c κs =
+write-line-requires : tie.Need-write-line-requires Inv-loop μ-loop
+write-line-requires c κs =
     let l = c .before .before .before in
     omega (arith, l .loop .inv .0, l .loop .inv .1, l .loop .inv .2, c .before .before .loop-test .taken, l .before .before .before .pre)
 
@@ -50,13 +50,13 @@ loop-again c =
     let a = s .args in
     let d = now (a .out) in
     let values = now (a .values) in
-    let call = c .before .before .write-point in
+    let call = c .before .before .write-line in
     let w = call .ensures in
-    let line = lineOf (a .k) 12 0 (bitsOf (getD values (l .loop .i) nan)) (l .loop .i) in (
+    let line = lineOf (a .k) (a .kind) 0 (bitsOf (getD values (l .loop .i) nan)) (l .loop .i) in (
       omega (arith, t),
-      call .kept .1 .1 .1 .0 ∙ l .loop .inv .1,
+      call .kept .1 .0 ∙ l .loop .inv .1,
       omega (arith, w .0 .1, l .loop .inv .2),
-      rw (points-turn (a .k) values (l .loop .i) t) (next (l .loop .at) (pointLines (a .k) 0 (take (l .loop .i) values)) d (l .loop .out) (l .loop .inv .3) _ line _ (omega (arith, t, w .0 .0, w .0 .1, l .loop .inv .2, s .pre)) (w .0 .0) (w .1)),
+      rw (points-turn (a .k) (a .kind) values (l .loop .i) t) (next (l .loop .at) (pointLines (a .k) (a .kind) 0 (take (l .loop .i) values)) d (l .loop .out) (l .loop .inv .3) _ line _ (omega (arith, t, w .0 .0, w .0 .1, l .loop .inv .2, s .pre)) (w .0 .0) (w .1)),
     )
 
 same-length : tie.Need-same-length Inv-loop μ-loop
@@ -75,9 +75,9 @@ point-lines-spec =
     Inv-loop
     μ-loop
     loop-holds
-    mul-write-point
-    shared-slice-read-write-point
-    write-point-requires
+    mul-value
+    shared-slice-read-value
+    write-line-requires
     add-i
     loop-less
     loop-again

@@ -16,11 +16,11 @@ use Rattle.hullwhite_points.proofs.walk.walk_points.Statement.{statemen
 use Rattle.hullwhite_points.proofs.walk.walk_points.Tie as tie
 
 abbrev Inv-loop : tie.InvT-loop
-Inv-loop alpha pillars sigmas times factors grid draws out₀ s₀ reached₀ place₀ i₀ out s reached place i =
-    (i ≤ length grid) × (length out ≡ length out₀) × (drop i out ≡ decaysFrom alpha (s .t) (drop i grid)) × (prependAll (take i out) (pathFrom alpha pillars sigmas times factors s (drop i grid) (drop i draws)) ≡ pathFrom alpha pillars sigmas times factors startState grid draws)
+Inv-loop centre alpha pillars sigmas times factors grid draws out₀ s₀ reached₀ place₀ i₀ out s reached place i =
+    (i ≤ length grid) × (length out ≡ length out₀) × (drop i out ≡ decaysFrom alpha (s .t) (drop i grid)) × (prependAll (take i out) (pathFrom centre alpha pillars sigmas times factors s (drop i grid) (drop i draws)) ≡ pathFrom centre alpha pillars sigmas times factors startState grid draws)
 
 abbrev μ-loop : tie.MeasureT-loop
-μ-loop alpha pillars sigmas times factors grid draws out₀ s₀ reached₀ place₀ i₀ out s reached place i = length grid - i
+μ-loop centre alpha pillars sigmas times factors grid draws out₀ s₀ reached₀ place₀ i₀ out s reached place i = length grid - i
 
 loop-holds : tie.Need-loop-holds Inv-loop μ-loop
 loop-holds c = (search needs, refl, c .before .before .before .before .before .before .before .pre .0, prepend-none _)
@@ -76,7 +76,7 @@ returns c =
     let l = t .before .loop in
     let a = entry (t .before) .args in
     let m = missing _ (c .enum-told .given .1) (c .before .before .volatility-near .ensures) in
-    sym (l .inv .3) ∙ ap (prependAll (take (l .i) (l .out))) (no-volatility (a .alpha) (now (a .pillars)) (now (a .sigmas)) (now (a .times)) (now (a .factors)) (l .s) (now (a .grid)) (now (a .draws)) (l .out) (l .i) (t .loop-test .taken) (in-draws t) m)
+    sym (l .inv .3) ∙ ap (prependAll (take (l .i) (l .out))) (no-volatility (a .centre) (a .alpha) (now (a .pillars)) (now (a .sigmas)) (now (a .times)) (now (a .factors)) (l .s) (now (a .grid)) (now (a .draws)) (l .out) (l .i) (t .loop-test .taken) (in-draws t) m)
 
 forward-near-requires : tie.Need-forward-near-requires Inv-loop μ-loop
 forward-near-requires c κs = search needs
@@ -97,7 +97,7 @@ returns-2 c =
     let a = entry (t .before) .args in
     let v = at _ (c .before .before .before .before .found .given .1) (c .before .before .before .before .before .before .volatility-near .ensures) in
     let m = missing _ (c .enum-told2 .given .1) (c .before .before .forward-near .ensures) in
-    sym (l .inv .3) ∙ ap (prependAll (take (l .i) (l .out))) (no-forward (a .alpha) (now (a .pillars)) (now (a .sigmas)) (now (a .times)) (now (a .factors)) (l .s) (now (a .grid)) (now (a .draws)) (l .out) (l .i) (t .loop-test .taken) (in-draws t) _ v m)
+    sym (l .inv .3) ∙ ap (prependAll (take (l .i) (l .out))) (no-forward (a .centre) (a .alpha) (now (a .pillars)) (now (a .sigmas)) (now (a .times)) (now (a .factors)) (l .s) (now (a .grid)) (now (a .draws)) (l .out) (l .i) (t .loop-test .taken) (in-draws t) _ v m)
 
 mul-state-after : tie.Need-mul-state-after Inv-loop μ-loop
 mul-state-after c = search needs
@@ -142,7 +142,7 @@ loop-again c =
     let v = at _ (g .before .before .before .before .found .given .1) (g .before .before .before .before .before .before .volatility-near .ensures) in
     let f = at _ (g .found-forward .given .1) (g .before .before .forward-near .ensures) in
     let s = c .before .before .state-after .ensures in
-    (turn t, simp length-set (l .inv .1), decays-left (a .alpha) (l .s .t) (now (a .grid)) (l .out) (l .i) (t .loop-test .taken) (in-out t) (l .inv .2) _ _ _ _ s _, sym (path-turn (a .alpha) (now (a .pillars)) (now (a .sigmas)) (now (a .times)) (now (a .factors)) (l .s) (now (a .grid)) (now (a .draws)) (l .out) (l .i) (t .loop-test .taken) (in-draws t) _ v _ f (in-out t) _ s _ (c .before .shift-of .ensures)) ∙ l .inv .3)
+    (turn t, simp length-set (l .inv .1), decays-left (a .alpha) (l .s .t) (now (a .grid)) (l .out) (l .i) (t .loop-test .taken) (in-out t) (l .inv .2) _ _ _ _ s _, sym (path-turn (a .centre) (a .alpha) (now (a .pillars)) (now (a .sigmas)) (now (a .times)) (now (a .factors)) (l .s) (now (a .grid)) (now (a .draws)) (l .out) (l .i) (t .loop-test .taken) (in-draws t) _ v _ f (in-out t) _ s _ (c .before .shift-of .ensures)) ∙ l .inv .3)
 
 same-length-3 : tie.Need-same-length-3 Inv-loop μ-loop
 same-length-3 c = c .before .loop .inv .1
@@ -151,7 +151,7 @@ returns-3 : tie.Need-returns-3 Inv-loop μ-loop
 returns-3 c =
     let l = c .before .loop in
     let a = entry (c .before) .args in
-    sym (l .inv .3) ∙ path-end (a .alpha) (now (a .pillars)) (now (a .sigmas)) (now (a .times)) (now (a .factors)) (l .s) (now (a .grid)) (now (a .draws)) (l .out) (l .i) (c .loop-test .left) (out-done c)
+    sym (l .inv .3) ∙ path-end (a .centre) (a .alpha) (now (a .pillars)) (now (a .sigmas)) (now (a .times)) (now (a .factors)) (l .s) (now (a .grid)) (now (a .draws)) (l .out) (l .i) (c .loop-test .left) (out-done c)
 
 pub walk-points-spec : {M : Type 1} → statement M
 walk-points-spec =
