@@ -1,4 +1,4 @@
-// What a call hands back to a program in another language: document 01's number first, 0 where the call is served, and the
+// What a call hands back to a program in another language: the answer's number first, 0 where the call is served, and the
 // values, all 0 beside a refusal.
 ghost use mathlib.Core.Path.{_≡_};
 ghost use Rattle.refusals.specs.Refusals.{answerNumber};

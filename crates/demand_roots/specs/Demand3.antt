@@ -80,14 +80,11 @@ pub record FileDemand3 (file : List ℕ) : Type 0 where
   pub jobs : (l : Layout) → layoutOf file ≡ Parts l → (k : ℕ) → k < l .jobs .length / 40 → JobHolds (requestOf file l) k (jobAt file (l .jobs .offset + 40 * k)) (pieceOf file (suc k))
 
 -- ---- kinds 1 to 11
-small : (n : ℕ) → n ≤ 15 → n < 10 ^ 20
-small n h = let z : 15 < 10 ^ 20 = lit< tt in omega arith
-
-line-held : (owed : Owed) (k kind : ℕ) (told : JobResult) → told .answer ≤ 15 → ResultHolds owed told → LineHolds owed k kind (resultLine k kind told)
-line-held owed k kind told b h = record { accepted = λ s. accepted (reads 0 (omega arith) s); no-bracket = (λ s. h .no-bracket .0 (reads 10 (omega arith) s), says) }
+line-held : (owed : Owed) (k kind : ℕ) (told : JobResult) → told .answer < 10 ^ 20 → ResultHolds owed told → LineHolds owed k kind (resultLine k kind told)
+line-held owed k kind told b h = record { accepted = λ s. accepted (reads 0 (lit< tt) s); no-bracket = (λ s. h .no-bracket .0 (reads 10 (lit< tt) s), says) }
   where
-    reads : (n : ℕ) → n ≤ 15 → Says (resultLine k kind told) n → told .answer ≡ n
-    reads n l s = says-one k kind (told .answer) (bitsOf (told .value)) (told .note) n (small (told .answer) b) (small n l) s
+    reads : (n : ℕ) → n < 10 ^ 20 → Says (resultLine k kind told) n → told .answer ≡ n
+    reads n l s = says-one k kind (told .answer) (bitsOf (told .value)) (told .note) n b l s
 
     accepted : told .answer ≡ 0 → AcceptedLine owed k kind (resultLine k kind told)
     accepted e =
@@ -105,10 +102,10 @@ line-held owed k kind told b h = record { accepted = λ s. accepted (reads 0 (om
     says w = record { job = k; kind = kind; bits = bitsOf (told .value); note = told .note; is = ap (λ (n : ℕ). lineOf k kind n (bitsOf (told .value)) (told .note)) (h .no-bracket .1 w) }
 
 -- ---- kinds 12 and 13
-path-line : (k kind answer bits note : ℕ) → answer ≤ 15 → (answer ≡ 10 → ⊥) → PathLine k kind (lineOf k kind answer bits note)
-path-line k kind answer bits note b h = record { answer = answer; bits = bits; note = note; is = refl; never = λ s. h (says-one k kind answer bits note 10 (small answer b) (small 10 (omega arith)) s) }
+path-line : (k kind answer bits note : ℕ) → answer < 10 ^ 20 → (answer ≡ 10 → ⊥) → PathLine k kind (lineOf k kind answer bits note)
+path-line k kind answer bits note b h = record { answer = answer; bits = bits; note = note; is = refl; never = λ s. h (says-one k kind answer bits note 10 b (lit< tt) s) }
 
-more-lines : (k kind answer bits note : ℕ) (rest : List ℕ) → answer ≤ 15 → (answer ≡ 10 → ⊥) → PathHolds k kind rest → PathHolds k kind (lineOf k kind answer bits note ++ rest)
+more-lines : (k kind answer bits note : ℕ) (rest : List ℕ) → answer < 10 ^ 20 → (answer ≡ 10 → ⊥) → PathHolds k kind rest → PathHolds k kind (lineOf k kind answer bits note ++ rest)
 unfolding joined
 more-lines k kind answer bits note rest b h p = record {
   lines = lineOf k kind answer bits note ∷ p .lines;
@@ -124,16 +121,16 @@ no-lines : (k kind : ℕ) → PathHolds k kind []
 unfolding joined
 no-lines k kind = record { lines = []; whole = refl; each = λ line m. absurd (List·Memᴰ·not-nil m) }
 
-one-line : (k kind answer bits note : ℕ) → answer ≤ 15 → (answer ≡ 10 → ⊥) → PathHolds k kind (lineOf k kind answer bits note)
+one-line : (k kind answer bits note : ℕ) → answer < 10 ^ 20 → (answer ≡ 10 → ⊥) → PathHolds k kind (lineOf k kind answer bits note)
 one-line k kind answer bits note b h = subst (PathHolds k kind) (append-nil (lineOf k kind answer bits note)) (more-lines k kind answer bits note [] b h (no-lines k kind))
 
 points : (k kind i : ℕ) (xs : List Float) → PathHolds k kind (pointLines k kind i xs)
 unfolding pointLines
 points k kind i [] = no-lines k kind
-points k kind i (x ∷ xs) = more-lines k kind 0 (bitsOf x) i (pointLines k kind (suc i) xs) (omega arith) (λ e. omega arith) (points k kind (suc i) xs)
+points k kind i (x ∷ xs) = more-lines k kind 0 (bitsOf x) i (pointLines k kind (suc i) xs) (lit< tt) (λ e. omega arith) (points k kind (suc i) xs)
 
 path-held : (k kind : ℕ) (o : Outcome (List Float)) → NeverNoBracket o → PathHolds k kind (pathLines k kind o)
-path-held k kind (served []) h = one-line k kind 0 (bitsOf Numbers.zero) 0 (omega arith) (λ e. omega arith)
+path-held k kind (served []) h = one-line k kind 0 (bitsOf Numbers.zero) 0 (lit< tt) (λ e. omega arith)
 path-held k kind (served (x ∷ xs)) h = points k kind 0 (x ∷ xs)
 path-held k kind (refused r) h = one-line k kind (numberOf r) (bitsOf Numbers.zero) 0 (numbered r .within) (λ e. h (ap refused (one-number r R.NoBracket e)))
 

@@ -2,12 +2,11 @@
 use mathlib.Core.Path.{_≡_, refl, sym, ap, _∙_, subst}
 use mathlib.Core.Logic.{_↔_}
 use mathlib.Core.Bool.{Bool, true, false, cond}
-use Prim.Native.Nat.{ℕ, _<_, _≤_}
+use Prim.Native.Nat.{ℕ, _^_, _<_}
 use native.Mathlib.Omega.{arith}
-use lib.Dec.{ltb, eqb}
+use lib.Dec.{ltb, eqb, lit<}
 use lib.Ieee.{Float}
 use Rattle.ieee.specs.Numbers.{zero}
-use Rattle.refusals.specs.declared.refusals.Refusal.{Refusal}
 use Rattle.refusals.specs.declared.refusals.Refusal.the-variants as R
 use Rattle.refusals.specs.Refusals.{Outcome, served, refused, numberOf, answerOf, answerNumber, following}
 use Rattle.refusals.proofs.Outcomes.{not-both}
@@ -140,10 +139,10 @@ module _ (q : Request) (j : Job) where
   pub result-holds : ResultHolds (owedOf q j) (jobResultOf q j)
   result-holds = let t = tells in subst (ResultHolds (owedOf q j)) (sym (t .is)) (held (owedOf q j) (t .kept))
 
-  -- what is told is a number of document 01
-  pub result-small : jobResultOf q j .answer ≤ 15
-  result-small = let t = tells in subst (λ (told : JobResult). told .answer ≤ 15) (sym (t .is)) (go (owedOf q j .outcome))
+  -- what is told is 0 or a refusal's number, which has at most 20 digits
+  pub result-small : jobResultOf q j .answer < 10 ^ 20
+  result-small = let t = tells in subst (λ (told : JobResult). told .answer < 10 ^ 20) (sym (t .is)) (go (owedOf q j .outcome))
     where
-      go : (o : Outcome (owedOf q j .Given)) → resultBy (owedOf q j .value) (owedOf q j .note) o .answer ≤ 15
-      go (served v) = omega arith
+      go : (o : Outcome (owedOf q j .Given)) → resultBy (owedOf q j .value) (owedOf q j .note) o .answer < 10 ^ 20
+      go (served v) = lit< tt
       go (refused r) = numbered r .within

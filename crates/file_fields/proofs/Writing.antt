@@ -81,11 +81,6 @@ pub five-from-there : (n at : ℕ) (a b c e f d out : List ℕ) → at ≤ lengt
 five-from-there n at a b c e f d out h w =
     from-there n at (a ++ b ++ c ++ e ++ f) d out h (simp append-assoc (simp append-assoc at w))
 
--- the same where two of them are one text
-pub four-from-there : (n at : ℕ) (a m b c e f d out : List ℕ) → b ++ c ≡ m → at ≤ length d → Begun n (take at d ++ a ++ m ++ e ++ f) d out → (n ≡ at + length (a ++ b ++ c ++ e ++ f)) × (out ≡ pasted d at (a ++ b ++ c ++ e ++ f))
-four-from-there n at a m b c e f d out q h w =
-    five-from-there n at a b c e f d out h (simp append-assoc (simp append-assoc at (rw (← q) at w)))
-
 module _ (n : ℕ) (t d out : List ℕ) where
   pub next : Begun n t d out → (res : ℕ) (s last : List ℕ) → n + length s ≤ length d → res ≡ n + length s → last ≡ pasted out n s → Begun res (t ++ s) d last
   next b res s last h e w = record {

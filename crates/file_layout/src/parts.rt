@@ -113,8 +113,8 @@ fn records(width: u32, limit: u32, p: Part) -> bool
     (p.length % width == 0) & (p.length / width <= limit)
 }
 
-// Whether every job has a kind of document 01, or 13 of document 02. A caller has asked before whether the parts are in their places,
-// within the file.
+// Whether every job has a kind of document 01, or 13 of document 02. A caller has asked before whether the parts
+// are in their places, within the file.
 fn all_known(file: &[u8], jobs: Part) -> bool
     requires { ⌜ endOf jobs ≤ length (now file) ⌝ }
     ensures { λ r. ⌜ r ≡ allKnown (now (file .entry)) (jobs .offset) (jobs .length / 40) ⌝ }

@@ -21,7 +21,7 @@ pub data Outcome (A : Type 0) : Type 0 where
 
 -- ---- an outcome's number and values
 
--- document 01's numbers, and 15 of document 02, A.6: "more than one in kind 13 is refused as 15"; they stand here alone
+-- document 01's numbers, and 15 of document 02, A.6: "more than one in kind 13 is refused as 15"; they are stated here alone
 abbrev pub numberOf : Refusal → ℕ
 numberOf R.Size = 1
 numberOf R.NotFinite = 2
@@ -78,7 +78,7 @@ pub record Report (A : Type 0) : Type 0 where
 abbrev pub reported : {A : Type 0} → A → Outcome A → Report A
 reported none o = record { answer = answerNumber (answerOf o); values = valueOr none o }
 
--- ---- rules 1 to 7: "the first number below that applies"
+-- ---- rules 1 to 7, and 15: "the first number below that applies"
 
 -- a rule, and whether it applies to the call
 pub record Rule : Type 0 where

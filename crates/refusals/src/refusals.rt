@@ -32,7 +32,7 @@ pub enum Price {
     Refused(Refusal),
 }
 
-// An answer as it is told outside: document 01's number, and the value or +0. Programs in other languages have it as it lies here.
+// An answer as it is told outside: its number, and the value or +0. Programs in other languages have it as it lies here.
 #[repr(C)]
 pub struct PriceReport {
     pub answer: u64,

@@ -1,11 +1,11 @@
 -- Document 02, A.6: "The shift in document 01 is the Rust's; Brigo and Mercurio have another. Kind 13 is a path whose shift is f + 0.5 × (g × g), with g = (sigma/alpha) × (1 - exp((-alpha) × t)) and f as before. It serves one pillar only. Kind 12 goes on as the Rust has it, and kind 13 is judged by this formula alone. No pillars meet rule 7; more than one in kind 13 is refused as 15, directly after it." That no pillars meet rule 7 in either kind: `path-wants-pillars` in NoPillars.
-use mathlib.Core.Path.{_≡_, refl, sym, ap, _∙_}
-use mathlib.Core.Logic.{_↔_, inl, inr}
+use mathlib.Core.Path.{_≡_, refl, ap, _∙_}
+use mathlib.Core.Logic.{_↔_}
 use mathlib.Core.Bool.{Bool, true, false, cond, not, _&&_, _||_, false≢true}
 use mathlib.Core.List.{List, [], _∷_, _++_}
 use Prim.Native.Nat.{ℕ, suc, _<_}
 use native.Mathlib.Omega.{arith}
-use borrow.Author.Tests.{ltb-true, ltb-false, eqb-false, lt-ltb}
+use borrow.Author.Tests.{ltb-true, ltb-false, eqb-true, eqb-false, lt-ltb, not-false}
 use lib.Dec.{T, ltb, eqb, ltb→lt}
 use lib.ListN.{length}
 use lib.Ieee.{Float, binary64, add, sub, mul, div, neg, lt, le, eq, ne, isNan, ofInt, ofBits, size}
@@ -23,7 +23,7 @@ use Rattle.refusals.specs.declared.refusals.Answer.the-variants as A
 use Rattle.refusals.specs.Refusals.{Outcome, served, refused, placeOf, Rule, rule, firstOf, after, unless, following, prepend}
 use Rattle.refusals.specs.Order.{none-applies}
 use Rattle.refusals.specs.Faults.{curveFaults, pillarFaults, gridFaults}
-use Rattle.refusals.proofs.Outcomes.{not-both}
+use Rattle.refusals.proofs.Outcomes.{not-both, neither}
 use Rattle.curve.specs.Lookups.{Maybe, just, nothing, factorAt, needing, required, volatilityAt, lastAt}
 use Rattle.hullwhite_formulas.specs.HullWhite.{h, forwardOf}
 use Rattle.hullwhite_transitions.specs.Written.{finishingList}
@@ -31,7 +31,7 @@ use Rattle.hullwhite_points.specs.declared.walk.State.{State}
 use Rattle.hullwhite_points.specs.declared.walk.Centre.{Centre}
 use Rattle.hullwhite_points.specs.declared.walk.Centre.the-variants as C
 use Rattle.hullwhite_points.specs.Path.{startState, stateAfter, generateShiftOf, publishedShiftOf, shiftOf, pathFrom}
-use Rattle.hullwhite_paths.specs.Generate.{startsBelow, severalFor, pathRules, generateOutcome}
+use Rattle.hullwhite_paths.specs.Generate.{startsBelow, severalFor, generateOutcome}
 use Rattle.demand_order.specs.Calls.{path-met}
 
 -- ---- both kinds differ in the shift alone
@@ -122,6 +122,37 @@ same-points alpha ps ss ts fs s (t ∷ grid) (draw ∷ draws) = found (volatilit
     found (just sigma) later = rw (later sigma)
     found nothing later = refl
 
+-- ---- "It serves one pillar only.": kind 13 with one pillar, its sigma the volatility at every time
+
+pub one-sigma : (time sigma t : Float) → volatilityAt (time ∷ []) (sigma ∷ []) t ≡ just sigma
+unfolding volatilityAt lastAt
+one-sigma time sigma t = either (le time t)
+  where
+    either : (b : Bool) → just (cond b sigma sigma) ≡ just sigma
+    either true = refl
+    either false = refl
+
+-- "a path whose shift is f + 0.5 × (g × g)", on one sigma
+unfoldable pub publishedFrom : Float → Float → List Float → List Float → State → List Float → List Float → Outcome (List Float)
+publishedFrom alpha sigma ts fs s [] draws = served []
+publishedFrom alpha sigma ts fs s (t ∷ grid) [] = served []
+publishedFrom alpha sigma ts fs s (t ∷ grid) (draw ∷ draws) =
+    needing (factorAt ts fs t) (λ p.
+    needing (factorAt ts fs (t ⊕ h)) (λ pPlus.
+    let next = stateAfter alpha sigma t draw s in
+    prepend (next .x ⊕ publishedShiftOf alpha sigma t (forwardOf p pPlus)) (publishedFrom alpha sigma ts fs next grid draws)))
+
+on-one-sigma : (alpha time sigma : Float) (ts fs : List Float) (s : State) (grid draws : List Float) → pathFrom C.Published alpha (time ∷ []) (sigma ∷ []) ts fs s grid draws ≡ publishedFrom alpha sigma ts fs s grid draws
+unfolding pathFrom publishedFrom
+on-one-sigma alpha time sigma ts fs s [] draws = refl
+on-one-sigma alpha time sigma ts fs s (t ∷ grid) [] = refl
+on-one-sigma alpha time sigma ts fs s (t ∷ grid) (draw ∷ draws) = rw (one-sigma time sigma t, on-one-sigma alpha time sigma ts fs (stateAfter alpha sigma t draw s) grid draws)
+
+one-listed : (xs : List Float) → length xs ≡ 1 → (x : Float) × (xs ≡ x ∷ [])
+one-listed [] e = absurd (let z : ⊥ = omega arith in z)
+one-listed (x ∷ []) e = (x, refl)
+one-listed (x ∷ y ∷ ys) e = absurd (let z : ⊥ = omega arith in z)
+
 -- ---- rules behind which one more is asked
 
 silent-last : (xs : List Rule) (q : Refusal) → firstOf (xs ++ (rule q false ∷ [])) ≡ firstOf xs
@@ -192,14 +223,20 @@ module _ (alpha : Float) (ps ss ts fs grid draws : List Float) (room : ℕ) wher
       ap (λ (a : Answer). after a (following (pathFrom C.StateVariance alpha ps ss ts fs startState grid draws) finishingList)) (silent-last sevenRules R.SeveralPillars)
       ∙ ap (λ (o : Outcome (List Float)). unless sevenRules (following o finishingList)) (same-points alpha ps ss ts fs startState grid draws)
 
-  -- "It serves one pillar only."
-  pub one-pillar : {v : List Float} → generateOutcome C.Published alpha ps ss ts fs grid draws room ≡ served v → length ps ≡ 1
+  -- "It serves one pillar only.": what is served has one pillar, with one sigma
+  pub one-pillar : {v : List Float} → generateOutcome C.Published alpha ps ss ts fs grid draws room ≡ served v → (time : Float) × (sigma : Float) × (ps ≡ time ∷ []) × (ss ≡ sigma ∷ [])
   unfolding generateOutcome
   one-pillar {v} e =
       let none = none-applies (sevenRules ++ (rule R.SeveralPillars (ltb 1 (length ps)) ∷ [])) .0 (passed _ _ v e) in
       let some = eqb-false (length ps) 0 (none .1 .1 .1 .1 .1 .1 .0) in
       let few = ltb-false 1 (length ps) (none .1 .1 .1 .1 .1 .1 .1 .0) in
-      omega (arith, some, few)
+      let lists = neither (pillarFaults ps ss .size || curveFaults ts fs .size || gridFaults grid draws .size) (ltb room (length grid)) (none .0) .0 in
+      let two = neither (pillarFaults ps ss .size || curveFaults ts fs .size) (gridFaults grid draws .size) lists .0 in
+      let size = neither (pillarFaults ps ss .size) (curveFaults ts fs .size) two .0 in
+      let paired = eqb-true (length ps) (length ss) (not-false (eqb (length ps) (length ss)) (neither (ltb 64 (length ps)) (not (eqb (length ps) (length ss))) size .1)) in
+      let time = one-listed ps (omega (arith, some, few)) in
+      let sigma = one-listed ss (omega (arith, some, few, paired)) in
+      (time .0, sigma .0, time .1, sigma .1)
 
   -- "more than one in kind 13 is refused as 15, directly after it": exactly where rules 1 to 7 let the call through
   pub fifteen : (generateOutcome C.Published alpha ps ss ts fs grid draws room ≡ refused R.SeveralPillars) ↔ ((firstOf sevenRules ≡ A.Served) × (1 < length ps))
@@ -224,18 +261,17 @@ module _ (alpha : Float) (ps ss ts fs grid draws : List Float) (room : ℕ) wher
   unfolding generateOutcome firstOf
   over-the-limit centre many = rw (lt-ltb 64 (length ps) many)
 
+-- "Kind 13 is a path whose shift is f + 0.5 × (g × g)": with one pillar, the seven rules, and then the walk on its sigma with that shift, on any input
+pub kind-thirteen : (alpha time sigma : Float) (ts fs grid draws : List Float) (room : ℕ)
+    → generateOutcome C.Published alpha (time ∷ []) (sigma ∷ []) ts fs grid draws room ≡ unless (sevenRules alpha (time ∷ []) (sigma ∷ []) ts fs grid draws room) (following (publishedFrom alpha sigma ts fs startState grid draws) finishingList)
+unfolding generateOutcome
+kind-thirteen alpha time sigma ts fs grid draws room =
+    ap (λ (a : Answer). after a (following (pathFrom C.Published alpha (time ∷ []) (sigma ∷ []) ts fs startState grid draws) finishingList)) (silent-last (sevenRules alpha (time ∷ []) (sigma ∷ []) ts fs grid draws room) R.SeveralPillars)
+    ∙ ap (λ (o : Outcome (List Float)). unless (sevenRules alpha (time ∷ []) (sigma ∷ []) ts fs grid draws room) (following o finishingList)) (on-one-sigma alpha time sigma ts fs startState grid draws)
+
 -- "directly after it": 15 stands between 7 and 8, and nothing between them and it
 pub directly-after : (placeOf R.SeveralPillars ≡ suc (placeOf R.Empty)) × (placeOf R.OffCurve ≡ suc (placeOf R.SeveralPillars))
 directly-after = (refl, refl)
-
--- with one pillar, at every time, the volatility is its sigma: g has one sigma
-pub one-sigma : (time sigma t : Float) → volatilityAt (time ∷ []) (sigma ∷ []) t ≡ just sigma
-unfolding volatilityAt lastAt
-one-sigma time sigma t = either (le time t)
-  where
-    either : (b : Bool) → just (cond b sigma sigma) ≡ just sigma
-    either true = refl
-    either false = refl
 
 -- a worked input, alpha 0.02, sigma 0.103, t = 14.9 and f = 0.018, at which g × g fused into the sum, a division behind the product, the model's B and exp_m1 would each give other bits
 pub shift-worked : publishedShiftOf (decimal 2 2) (decimal 103 3) (decimal 149 1) (decimal 18 3) ≡ ofBits binary64 0x3fec_c1d4_cc28_6572
