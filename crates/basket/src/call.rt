@@ -10,7 +10,7 @@ use super::walk;
 use refusals::{Answer, Refusal};
 
 // 64 places of each; those from `count` on are 0. A status is 1 where the fit converged.
-#[derive(Drop)]
+#[derive(Clone, Copy)]
 pub struct Basket {
     pub count: u64,
     pub sigmas: [f64; 64],
@@ -22,7 +22,7 @@ pub struct Basket {
 }
 
 // A basket's answer: whether it is served, and the basket, all 0 beside a refusal.
-#[derive(Drop)]
+#[derive(Clone, Copy)]
 pub struct BasketFit {
     pub answer: Answer,
     pub basket: Basket,

@@ -14,7 +14,7 @@ use quotes::D1D2;
 use refusals::Answer;
 
 #[repr(C)]
-#[derive(Drop)]
+#[derive(Clone, Copy)]
 pub struct D1D2Report {
     pub answer: u64,
     pub d1: f64,
@@ -23,7 +23,7 @@ pub struct D1D2Report {
 
 // How many values were written, or how many pillar times were reached.
 #[repr(C)]
-#[derive(Drop)]
+#[derive(Clone, Copy)]
 pub struct CountReport {
     pub answer: u64,
     pub count: u64,
@@ -31,7 +31,7 @@ pub struct CountReport {
 
 // How many values were drawn, or written from draws, and the state reached.
 #[repr(C)]
-#[derive(Drop)]
+#[derive(Clone, Copy)]
 pub struct DrawsReport {
     pub answer: u64,
     pub count: u64,
@@ -39,7 +39,7 @@ pub struct DrawsReport {
 }
 
 #[repr(C)]
-#[derive(Drop)]
+#[derive(Clone, Copy)]
 pub struct CriticalRateReport {
     pub answer: u64,
     pub rate: f64,
@@ -53,7 +53,7 @@ pub struct CriticalRateReport {
 
 // `stepped` is the rate after the Newton step, `rate` the one before it.
 #[repr(C)]
-#[derive(Drop)]
+#[derive(Clone, Copy)]
 pub struct ImplicitRateReport {
     pub answer: u64,
     pub stepped: f64,
@@ -67,7 +67,7 @@ pub struct ImplicitRateReport {
 }
 
 #[repr(C)]
-#[derive(Drop)]
+#[derive(Clone, Copy)]
 pub struct SwaptionReport {
     pub answer: u64,
     pub value: f64,
@@ -81,7 +81,7 @@ pub struct SwaptionReport {
 }
 
 #[repr(C)]
-#[derive(Drop)]
+#[derive(Clone, Copy)]
 pub struct ValuationReport {
     pub answer: u64,
     pub value: f64,
@@ -96,7 +96,7 @@ pub struct ValuationReport {
 }
 
 #[repr(C)]
-#[derive(Drop)]
+#[derive(Clone, Copy)]
 pub struct FitReport {
     pub answer: u64,
     pub sigma: f64,
@@ -111,7 +111,7 @@ pub struct FitReport {
 
 // 64 places of each; those from `count` on are 0.
 #[repr(C)]
-#[derive(Drop)]
+#[derive(Clone, Copy)]
 pub struct BasketReport {
     pub answer: u64,
     pub count: u64,

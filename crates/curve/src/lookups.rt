@@ -3,14 +3,14 @@ ghost use Rattle.std.specs.Prelude.{◌≡◌, true, ◌+◌, ◌-◌, ◌≤◌
 ghost use Rattle.refusals.specs.Checks.{in_order};
 ghost use Rattle.curve.specs.Lookups.{Front, Back, PartsAt, found_of, if_finite, between_of, factor_at, volatility_at, up_to};
 
-#[derive(Drop)]
+#[derive(Clone, Copy)]
 pub enum Found {
     At(f64),
     Missing,
 }
 
 // What a list has for a time, and the hint with which a walk along rising times asks for the next one.
-#[derive(Drop)]
+#[derive(Clone, Copy)]
 pub struct FoundNear {
     pub found: Found,
     pub next: usize,

@@ -7,7 +7,7 @@ use super::xorshift;
 use refusals::{Answer, Refusal};
 
 // The answer of a call that draws: the state that it has reached, from which the next draw goes on.
-#[derive(Drop)]
+#[derive(Clone, Copy)]
 pub enum Drawn {
     Reached(u64),
     Refused(Refusal),

@@ -4,7 +4,7 @@ ghost use Rattle.draws.specs.Xorshift.{step_of, steps_of};
 ghost use Rattle.draws.specs.Draws.{sum_of};
 
 // What twelve steps come to: the sum of the top halves, and the state reached.
-#[derive(Drop)]
+#[derive(Clone, Copy)]
 pub struct Twelve {
     pub sum: u64,
     pub state: u64,

@@ -13,14 +13,14 @@ use pricer_value::Valuation;
 use refusals::{Price, Refusal};
 
 // All that a job's call returns, of kind 5, 6 and 7, and 8 to 11.
-#[derive(Drop)]
+#[derive(Clone, Copy)]
 pub enum Worked {
     Swaption(Swaption),
     Valuation(Valuation),
     Fit(Fitted),
 }
 
-#[derive(Drop)]
+#[derive(Clone, Copy)]
 pub struct JobResult {
     pub answer: u64,
     pub value: f64,

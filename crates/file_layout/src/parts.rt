@@ -5,13 +5,13 @@ ghost use Rattle.file_layout.specs.Layout.{pair_at, parts_of, end_of, placed as 
 use crate::bytes;
 
 // Where a part starts, and how many bytes it has.
-#[derive(Drop)]
+#[derive(Clone, Copy)]
 pub struct Part {
     pub offset: u32,
     pub length: u32,
 }
 
-#[derive(Drop)]
+#[derive(Clone, Copy)]
 pub struct Layout {
     pub model: Part,
     pub pillars: Part,
@@ -22,7 +22,7 @@ pub struct Layout {
 }
 
 // The parts of a file that keeps the layout.
-#[derive(Drop)]
+#[derive(Clone, Copy)]
 pub enum Laid {
     Parts(Layout),
     Broken,

@@ -9,7 +9,7 @@ use crate::parts::{Layout, Part};
 use crate::records;
 
 // A list is a column of its part: of records of `width` bytes, the float number `field`. It is put at `place`.
-#[derive(Drop)]
+#[derive(Clone, Copy)]
 pub struct Column {
     part: Part,
     width: usize,

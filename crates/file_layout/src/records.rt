@@ -8,7 +8,7 @@ use crate::bytes;
 use crate::parts::Part;
 
 // A job's kind, and its four floats, whose meaning is the kind's.
-#[derive(Drop)]
+#[derive(Clone, Copy)]
 pub struct Job {
     pub kind: u64,
     pub a: f64,

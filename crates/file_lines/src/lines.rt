@@ -4,7 +4,7 @@ ghost use Rattle.file_fields.specs.Text.{Begins, pasted};
 ghost use Rattle.file_fields.specs.Fields.{bits_of};
 ghost use Rattle.file_lines.specs.Lines.{header, refused_line, line_of};
 
-#[derive(Drop)]
+#[derive(Clone, Copy)]
 pub struct Line {
     pub job: u64,
     pub kind: u64,

@@ -4,7 +4,7 @@ ghost use Rattle.std.specs.Prelude.{◌≡◌, ◌+◌, ◌<◌, length};
 ghost use Rattle.file_output.specs.Pieces.{pieces_of, piece_of};
 ghost use Rattle.file_serving.specs.Sending.{file_of, Due, SameFile};
 
-#[derive(Drop)]
+#[derive(Clone, Copy)]
 pub struct Sent {
     // One byte more than a run file may have, so that a longer one is seen to be longer.
     bytes: [u8; 65537],

@@ -5,14 +5,14 @@ ghost use Rattle.fit_objective.specs.Market.{vanilla_call_of, caplet_market_pric
 use hullwhite_formulas::Optionlet;
 
 // What a quoted volatility is one of.
-#[derive(Drop)]
+#[derive(Clone, Copy)]
 pub enum VolatilityType {
     Black,
     Normal,
 }
 
 // A quoted volatility.
-#[derive(Drop)]
+#[derive(Clone, Copy)]
 pub struct Quote {
     pub vol_type: VolatilityType,
     pub volatility: f64,

@@ -12,7 +12,7 @@ use refusals::{Price, Refusal};
 
 // What no sigma changes of a caplet's price: B and the state's deviation of its start, what one unit grows to by
 // its strike, the strike of its bond put, and the factors at its start and end.
-#[derive(Drop)]
+#[derive(Clone, Copy)]
 pub struct CapletAhead {
     pub b: f64,
     pub deviation: f64,
@@ -23,7 +23,7 @@ pub struct CapletAhead {
 }
 
 // An instrument without its market price. A swaption has its lists of terms beside it.
-#[derive(Drop)]
+#[derive(Clone, Copy)]
 pub enum Instrument {
     Caplet(CapletAhead),
     Swaption(SwaptionAhead),

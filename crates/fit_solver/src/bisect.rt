@@ -11,7 +11,7 @@ use math_bisection::{Ends, Fit, Fitted};
 use refusals::{Price, Refusal};
 
 // What one halving comes to: the midpoint converges, or is put for an end.
-#[derive(Drop)]
+#[derive(Clone, Copy)]
 pub enum Turn {
     Converged(f64, f64),
     Moved(Ends),

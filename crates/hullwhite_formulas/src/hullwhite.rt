@@ -92,7 +92,7 @@ pub fn zcb_price_volatility_at(sigma: f64, b: f64, deviation: f64) -> f64
 
 // What a bond's volatility takes from exp: B(t, T), and the variance of the state at the option time for a
 // sigma of 1.
-#[derive(Drop)]
+#[derive(Clone, Copy)]
 pub struct VolatilityParts {
     pub b: f64,
     pub variance: f64,

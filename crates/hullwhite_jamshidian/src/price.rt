@@ -8,7 +8,7 @@ use search::{Bracket, Critical};
 
 // Where a price's root lies: the critical rate, its final bracket, and the rungs the search left its
 // ladders at.
-#[derive(Drop)]
+#[derive(Clone, Copy)]
 pub struct Root {
     pub rate: f64,
     pub bracket: Bracket,
@@ -18,7 +18,7 @@ pub struct Root {
 
 // What no sigma changes of a swaption's price, beside its lists of terms: alpha, and of the option time the
 // stationary share, the state's deviation and the factor.
-#[derive(Drop)]
+#[derive(Clone, Copy)]
 pub struct SwaptionAhead {
     pub alpha: f64,
     pub share: f64,
@@ -26,7 +26,7 @@ pub struct SwaptionAhead {
     pub p_t: f64,
 }
 
-#[derive(Drop)]
+#[derive(Clone, Copy)]
 pub enum Swaption {
     Served(f64, Root),
     Refused(Refusal),

@@ -12,14 +12,14 @@ use curve::Found;
 use hullwhite_formulas::Optionlet;
 use refusals::{Answer, Faults, Price, Refusal};
 
-#[derive(Drop)]
+#[derive(Clone, Copy)]
 pub enum OptionType {
     Put,
     Call,
 }
 
 // A bond option's own numbers: the option's time, the bond's, and the strike.
-#[derive(Drop)]
+#[derive(Clone, Copy)]
 pub struct BondOption {
     pub t: f64,
     pub bond: f64,

@@ -30,7 +30,7 @@ fn volatility_found(times: &[f64], sigmas: &[f64], t: f64) -> Price
 }
 
 // The answer of a call that hands back a part of the caller's own list: the part is empty beside a refusal.
-#[derive(Drop)]
+#[derive(Clone, Copy)]
 pub struct Reached<'a> {
     pub answer: Answer,
     pub part: &'a [f64],

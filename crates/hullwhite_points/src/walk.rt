@@ -13,14 +13,14 @@ use refusals::{Answer, Refusal};
 
 // What a path's rates are centred on: the forward plus half the state variance, as the Rust has it (kind 12), or as
 // Brigo and Mercurio have published it (kind 13).
-#[derive(Drop)]
+#[derive(Clone, Copy)]
 pub enum Centre {
     StateVariance,
     Published,
 }
 
 // The state of a path: the centred rate, the time, and the state's variance.
-#[derive(Drop)]
+#[derive(Clone, Copy)]
 pub struct State {
     pub x: f64,
     pub t: f64,

@@ -8,7 +8,7 @@ use curve::Found;
 use refusals::{Answer, Refusal};
 
 // The factor at the option time and the forward rate there; the lists stand in those that were lent.
-#[derive(Drop)]
+#[derive(Clone, Copy)]
 pub enum WorkedTerms {
     Served { p_t: f64, forward: f64 },
     Refused(Refusal),

@@ -9,7 +9,7 @@ ghost use Rattle.ieee_chains.specs.Open.{value_of, field, Digits};
 use super::rounding;
 
 // sig * 2^exp in units of 2^-1074, with a significand of 53 digits or of 2^53.
-#[derive(Drop)]
+#[derive(Clone, Copy)]
 pub struct Open {
     pub sig: u64,
     pub exp: u64,

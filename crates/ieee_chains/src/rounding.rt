@@ -4,7 +4,7 @@ ghost use Rattle.ieee_chains.specs.Open.{Digits};
 ghost use Rattle.ieee_chains.specs.Rounding.{up_of, digits_of};
 
 // The digits, and by how many places the number was raised for them.
-#[derive(Drop)]
+#[derive(Clone, Copy)]
 pub struct Rounded {
     pub digits: u64,
     pub up: u64,

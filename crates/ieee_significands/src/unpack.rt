@@ -5,7 +5,7 @@ ghost use Rattle.ieee_significands.specs.Parts as Spec;
 ghost use Rattle.ieee_significands.specs.Parts.{Normal, Unpacked};
 
 // ±sig * 2^exp in units of 2^-1138, with the significand at full width: 61 digits.
-#[derive(Drop)]
+#[derive(Clone, Copy)]
 pub struct Parts {
     pub sign: bool,
     pub sig: u64,
@@ -13,7 +13,7 @@ pub struct Parts {
 }
 
 // The fields of a bit pattern: the sign, the exponent's field and the digits.
-#[derive(Drop)]
+#[derive(Clone, Copy)]
 pub struct Fields {
     pub sign: bool,
     pub exp: u64,

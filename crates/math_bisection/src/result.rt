@@ -8,7 +8,7 @@ use refusals::Refusal;
 
 // The volatility fitted, whether it converged, the halvings made (200 where it did not converge), the
 // residual at the volatility, and the last two ends with theirs.
-#[derive(Drop)]
+#[derive(Clone, Copy)]
 pub struct Fit {
     pub sigma: f64,
     pub converged: bool,
@@ -17,7 +17,7 @@ pub struct Fit {
     pub ends: Ends,
 }
 
-#[derive(Drop)]
+#[derive(Clone, Copy)]
 pub enum Fitted {
     Served(Fit),
     Refused(Refusal),

@@ -32,7 +32,7 @@ pub fn ln(x: f64) -> f64
 }
 
 // x is m × 2^k, and 0.75 <= m < 1.5.
-#[derive(Drop)]
+#[derive(Clone, Copy)]
 struct Halved {
     m: f64,
     k: i32,
@@ -63,7 +63,7 @@ fn split(x: f64) -> Halved
 
 // A number's digits at full width: `full` has 53 binary digits, and the number in units of 2^-1074
 // has `size` digits.
-#[derive(Drop)]
+#[derive(Clone, Copy)]
 struct Wide {
     full: u64,
     size: u64,

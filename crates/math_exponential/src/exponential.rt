@@ -39,7 +39,7 @@ pub fn exp(x: f64) -> f64
     scale(guessed(d.r), d.k)
 }
 
-#[derive(Drop)]
+#[derive(Clone, Copy)]
 pub struct Two {
     pub first: f64,
     pub second: f64,
@@ -93,7 +93,7 @@ pub fn within_limits(x: f64) -> bool
 }
 
 // x = r + k × ln 2, but for roundings.
-#[derive(Drop)]
+#[derive(Clone, Copy)]
 pub struct Reduced {
     pub r: f64,
     pub k: i32,
@@ -113,7 +113,7 @@ pub fn reduce(x: f64) -> Reduced
 }
 
 // A whole number, as an f64 and as an integer.
-#[derive(Drop)]
+#[derive(Clone, Copy)]
 struct Whole {
     n: f64,
     k: i32,

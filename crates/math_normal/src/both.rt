@@ -61,7 +61,7 @@ const DEN_6: u64 = 0x18c_e9cb_2989_74a0;
 const DEN_7: u64 = 0x37_0d3d_52e9_8fca;
 
 // What an argument has so far: the two polynomials in fixed point, and the series of its exp.
-#[derive(Drop)]
+#[derive(Clone, Copy)]
 struct Share {
     num: u64,
     den: u64,
@@ -69,7 +69,7 @@ struct Share {
 }
 
 // The shares of both arguments.
-#[derive(Drop)]
+#[derive(Clone, Copy)]
 struct Shares {
     num: u64,
     den: u64,

@@ -10,7 +10,7 @@ use refusals::{Answer, Refusal};
 use search::{Bracket, Critical};
 
 // The critical rate, its final bracket, and the rungs that the search left its ladders at.
-#[derive(Drop)]
+#[derive(Clone, Copy)]
 pub enum CriticalRate {
     Served {
         rate: f64,

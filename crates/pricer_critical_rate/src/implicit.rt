@@ -11,7 +11,7 @@ use refusals::{Answer, Refusal};
 use search::{Bracket, Critical};
 
 // The critical rate after and before the Newton step, the final bracket, and the rungs.
-#[derive(Drop)]
+#[derive(Clone, Copy)]
 pub enum ImplicitRate {
     Served {
         stepped: f64,

@@ -3,7 +3,7 @@ ghost use Rattle.std.specs.Prelude.{◌≡◌};
 ghost use Rattle.math_normal.specs.NormCdf.{norm_cdf_dual_of};
 ghost use Rattle.pricer_formulas.specs.BondOption.{intrinsic_of, floored_at_zero_of, pricer_d1_of, moving_of, pricer_bond_option_of};
 
-#[derive(Drop)]
+#[derive(Clone, Copy)]
 pub enum SwaptionType {
     Payer,
     Receiver,

@@ -3,14 +3,14 @@ ghost use Rattle.std.specs.Prelude.{◌≡◌, length};
 ghost use Rattle.pricer_formulas.specs.Newton.{bond_at, sums_after, sums_of, step_outcome, stepped};
 
 // The coupon sum less 1, and its derivative by the rate.
-#[derive(Drop)]
+#[derive(Clone, Copy)]
 pub struct Sums {
     pub objective: f64,
     pub derivative: f64,
 }
 
 // The rate after the step, or a derivative too small to divide by.
-#[derive(Drop)]
+#[derive(Clone, Copy)]
 pub enum Step {
     To(f64),
     Flat,

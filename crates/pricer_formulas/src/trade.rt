@@ -3,7 +3,7 @@ use super::bond_option::SwaptionType;
 
 // A swaption's own numbers: whether it is a payer or a receiver (`option`), strike, option time, notional, and a side of 1
 // or -1.
-#[derive(Drop)]
+#[derive(Clone, Copy)]
 pub struct Trade {
     pub option: SwaptionType,
     pub strike: f64,

@@ -21,7 +21,7 @@ fn discounted(own: bool, component: f64, own_df: f64, forward_df: f64) -> f64
 
 // What the bond options of a swaption have in common: payer or receiver, the state's deviation, the factor
 // at the option time, and the rate that strikes each of them.
-#[derive(Drop)]
+#[derive(Clone, Copy)]
 pub struct Decomposition {
     pub option: SwaptionType,
     pub deviation: f64,

@@ -10,7 +10,7 @@ use refusals::Refusal;
 use search::{Bracket, Critical};
 
 // The value, the critical rate after and before the Newton step, the final bracket, and the rungs.
-#[derive(Drop)]
+#[derive(Clone, Copy)]
 pub enum Valuation {
     Served {
         value: f64,

@@ -9,7 +9,7 @@ use curve::Found;
 use refusals::{Answer, Price, Refusal};
 
 // The answer of a call with two values.
-#[derive(Drop)]
+#[derive(Clone, Copy)]
 pub enum D1D2 {
     Served(f64, f64),
     Refused(Refusal),

@@ -3,7 +3,7 @@ ghost use Rattle.std.specs.Prelude.{◌≡◌};
 ghost use Rattle.refusals.specs.Checks.{passes_of, all_of, follows_of, in_order};
 
 // What may be asked of each number of a list.
-#[derive(Drop)]
+#[derive(Clone, Copy)]
 pub enum Test {
     Finite,
     Zero,

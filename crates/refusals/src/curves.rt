@@ -7,7 +7,7 @@ use super::checks;
 use super::checks::Test;
 
 // Whether a list breaks rule 1, 2, 4, 6.
-#[derive(Drop)]
+#[derive(Clone, Copy)]
 pub struct Faults {
     pub size: bool,
     pub not_finite: bool,

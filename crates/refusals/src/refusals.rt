@@ -3,7 +3,7 @@ ghost use Rattle.std.specs.Prelude.{◌≡◌};
 ghost use Rattle.refusals.specs.Refusals.{number_of, rule, and_rule, outcome_of, price_report_of, finishing};
 
 // Why a call is turned down, in the order in which it is met.
-#[derive(Drop)]
+#[derive(Clone, Copy)]
 pub enum Refusal {
     Size,
     NotFinite,
@@ -23,14 +23,14 @@ pub enum Refusal {
 }
 
 // Whether a call is served, without its values: what its rules come to, or whether a lent list was filled.
-#[derive(Drop)]
+#[derive(Clone, Copy)]
 pub enum Answer {
     Served,
     Refused(Refusal),
 }
 
 // The answer of a call with one value.
-#[derive(Drop)]
+#[derive(Clone, Copy)]
 pub enum Price {
     Served(f64),
     Refused(Refusal),
@@ -38,7 +38,7 @@ pub enum Price {
 
 // An answer as it is told outside: its number, and the value or +0. Programs in other languages have it as it lies here.
 #[repr(C)]
-#[derive(Drop)]
+#[derive(Clone, Copy)]
 pub struct PriceReport {
     pub answer: u64,
     pub value: f64,

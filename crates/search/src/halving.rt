@@ -7,7 +7,7 @@ use super::Bracket;
 use math_elementary::surely_same;
 
 // What a halving, or a run of them, comes to: a bracket, or a stop at a NaN sum.
-#[derive(Drop)]
+#[derive(Clone, Copy)]
 pub enum Halving {
     Next(Bracket),
     Stopped,

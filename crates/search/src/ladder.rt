@@ -4,7 +4,7 @@ ghost use Rattle.search_sum.specs.Sum.{weighted_sum};
 ghost use Rattle.search.specs.Rate.{rate_at, good, ladder_of};
 
 // What a ladder comes to: its first good rung, a NaN sum that was met before one, or neither.
-#[derive(Drop)]
+#[derive(Clone, Copy)]
 pub enum Ladder {
     At { rung: u64, rate: f64, sum: f64 },
     NotANumber,

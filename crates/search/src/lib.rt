@@ -11,7 +11,7 @@ mod halving;
 mod ladder;
 
 // Two rates with their sums.
-#[derive(Drop)]
+#[derive(Clone, Copy)]
 pub struct Bracket {
     pub lower: f64,
     pub upper: f64,
@@ -21,7 +21,7 @@ pub struct Bracket {
 
 // What a search comes to: a rate with its final bracket and the two rungs it started from, refusal 9,
 // or refusal 10.
-#[derive(Drop)]
+#[derive(Clone, Copy)]
 pub enum Critical {
     Found {
         bracket: Bracket,

@@ -2,7 +2,7 @@
 ghost use Rattle.std.specs.Prelude.{◌≡◌, if◌then◌else◌};
 ghost use Rattle.test_normal_table.specs.Tally.{one_more};
 
-#[derive(Drop)]
+#[derive(Clone, Copy)]
 pub struct Count {
     pub met: u64,
     pub missed: u64,

@@ -11,7 +11,7 @@ mod value;
 use tally::Tally;
 
 // What a read brought the tally to, and whether more may follow.
-#[derive(Drop)]
+#[derive(Clone, Copy)]
 struct Progress {
     tally: Tally,
     more: bool,

@@ -3,7 +3,7 @@ ghost use Rattle.std.specs.Prelude.{◌≡◌, ◌+◌, ◌≤◌, length};
 ghost use Rattle.file_layout.specs.Bytes.{eight_bytes};
 
 // The number of a function, its arguments' bits, and the bits that its result should have.
-#[derive(Drop)]
+#[derive(Clone, Copy)]
 pub struct Record {
     pub function: u64,
     pub a: u64,

@@ -7,7 +7,7 @@ use crate::record::Record;
 use crate::{functions, record};
 
 // By the function's number; 0 is for numbers that no function has.
-#[derive(Drop)]
+#[derive(Clone, Copy)]
 pub struct Tally {
     // records so far, how many of them differ, and the bytes after the last whole one
     pub records: u64,
