@@ -61,6 +61,20 @@ class Names:
             for new, step, path in arm[2] if arm else []:
                 if not new.endswith("-own"):
                     self.arms[(plain(step), tuple(path))] = (arm[0], new)
+        # what each arm of a match says of the value: that it is this variant, or none of those before
+        matches = {}
+        for place in listed["places"]:
+            m = re.fullmatch(r"At-(match\d*)-keys(\d+)", place[0])
+            if m:
+                matches.setdefault(m[1], []).append((m[2], place[2][1]))
+        self.keys = {}
+        for match, arms in matches.items():
+            others = [re.match(r"in-([^-]+)", new)[1] for _, new in arms if new.startswith("in-")]
+            for key, new in arms:
+                if new.startswith("in-"):
+                    self.keys[match, key] = new + ".is"
+                elif len(others) == 1:
+                    self.keys[match, key] = f"{new}.not-{others[0]}"
         for i, place in enumerate(listed["places"]):
             name, above, step = place[0], place[1], place[2]
             self.places[name] = place
@@ -81,7 +95,14 @@ class Names:
 
 def turned(text, names, where, left):
     """A body with the paths into its context turned."""
-    text = re.sub(r"(?:\.before)+(?=\.)", "", text)
+    # every step before a goal is a field of its context
+    text = re.sub(r"(?:\.before)+(?=[.\s();,\]]|$)", "", text)
+    while True:
+        m = re.search(r"(?m)^( *)let (" + WORD + r") = (" + WORD + r") in ?(\n *)?", text)
+        if not m or m[3].isdigit():
+            break
+        rest = re.sub(r"(?<![^\s(){},;\[\]|])" + re.escape(m[2]) + r"(?![^\s(){}.;,\[\]|])", m[3], text[m.end() :])
+        text = text[: m.start()] + m[1] + rest
 
     def step(m):
         new = names.steps.get(plain(m[1]))
@@ -95,6 +116,7 @@ def turned(text, names, where, left):
     for (old, path), (arm, new) in sorted(names.arms.items(), key=lambda it: -len(it[0][1])):
         behind = "".join(r"\." + re.escape(p) for p in path)
         text = re.sub(r"\." + old.replace("_", "[-_]") + behind + r"(?![.]?[\d])(?![\w-])", f".{arm}.{new}", text)
+    text = re.sub(r"\.(match\d*)\.keys(\d+)", lambda m: "." + names.keys.get((m[1], m[2]), f"{m[1]}.keys{m[2]}"), text)
     text = re.sub(r"\.(" + WORD + r")", step, text)
     for at, fields in names.clauses.items():
         here = r"(?<=\." + re.escape(at) + r"\.ensures)"
@@ -157,7 +179,7 @@ def convert(crate, path, listed, left):
             code = re.sub(r"(?m)^" + re.escape(label) + r"(?= )", new, code)
             answers.append("\n".join(said + [signature, turned(code, names, path, left)]))
             continue
-        m = re.match(r"abbrev (?:pub )?(" + WORD + r") : tie\.(" + WORD + r")", body[0])
+        m = re.match(r"abbrev (?:pub )?(" + WORD + r") : tie\.((?:invariant|decreases)[-_]" + WORD + r")", body[0])
         if m:
             invariants.append((m[1], m[2], said, body))
             continue

@@ -1,0 +1,9 @@
+-- `calstwid_exports::baskets::calstwid_calibrate_to_instruments` meets its contract: the report is that of the call's outcome, and the answer that it is of is the call's own. Assumes nothing.
+use mathlib.Core.Path.{◌∙◌, ap}
+use Rattle.calstwid_exports.specs.Reports.{basket_told}
+use Rattle.calstwid_exports.proofs.baskets.calstwid_calibrate_to_instruments.Goals as goal
+
+pub returns : goal.returns
+returns c =
+    let f = c.calibrate_to_instruments in
+    (c.basket_report.ensures ∙ ap basket_told f.ensures.0, (record { answer = f.result; reported = c.basket_report.ensures; holds = f.ensures.1.0 }, record { answer = f.result; reported = c.basket_report.ensures; holds = f.ensures.1.1.0 }))

@@ -1,0 +1,9 @@
+-- `calstwid_exports::critical_rate::calstwid_find_critical_rate` meets its contract: the report is that of the call's outcome, and the answer that it is of is the call's own. Assumes nothing.
+use mathlib.Core.Path.{◌∙◌, ap}
+use Rattle.calstwid_exports.specs.Reports.{critical_rate_report_of}
+use Rattle.calstwid_exports.proofs.critical_rate.calstwid_find_critical_rate.Goals as goal
+
+pub returns : goal.returns
+returns c =
+    let f = c.find_critical_rate in
+    (c.critical_rate_report.ensures ∙ ap critical_rate_report_of f.ensures.0, (record { answer = f.result; reported = c.critical_rate_report.ensures; holds = f.ensures.1.0 }, record { answer = f.result; reported = c.critical_rate_report.ensures; holds = f.ensures.1.1.0 }))

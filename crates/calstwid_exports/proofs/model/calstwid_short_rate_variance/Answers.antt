@@ -1,0 +1,6 @@
+-- `calstwid_exports::model::calstwid_short_rate_variance` meets its contract: the report is that of the call's outcome. Assumes nothing.
+use mathlib.Core.Path.{◌∙◌}
+use Rattle.calstwid_exports.proofs.model.calstwid_short_rate_variance.Goals as goal
+
+pub returns : goal.returns
+returns c = c.report_price.ensures ∙ c.short_rate_variance.ensures.report

@@ -1,0 +1,11 @@
+-- `calstwid_exports::paths::calstwid_draws` meets its contract: a draw for each place where the call is served, and the state reached. Assumes nothing.
+use mathlib.Core.Path.{◌∙◌}
+use lib.ListN.{length}
+use Rattle.calstwid_exports.proofs.Counted.{drawn, drawn_length}
+use Rattle.calstwid_exports.proofs.paths.calstwid_draws.Goals as goal
+
+pub returns : goal.returns
+returns c =
+    let g = c.stated_draws-drawn in
+    let a = c.args in
+    (c.draws_report.ensures ∙ drawn _ g.result _ (length a.out-1.now) g.ensures.0 (drawn_length a.seed (length a.out-1.now)), g.ensures.1.0)

@@ -1,0 +1,9 @@
+-- `calstwid_exports::swaptions::calstwid_payer_swaption_value` meets its contract: the report is that of the call's outcome, and the answer that it is of is the call's own. Assumes nothing.
+use mathlib.Core.Path.{◌∙◌, ap}
+use Rattle.calstwid_exports.specs.Reports.{valuation_report_of}
+use Rattle.calstwid_exports.proofs.swaptions.calstwid_payer_swaption_value.Goals as goal
+
+pub returns : goal.returns
+returns c =
+    let f = c.swaption_value in
+    (c.valuation_report.ensures ∙ ap valuation_report_of f.ensures.0, (record { answer = f.result; reported = c.valuation_report.ensures; holds = f.ensures.1.0 }, record { answer = f.result; reported = c.valuation_report.ensures; holds = f.ensures.1.1.0 }))

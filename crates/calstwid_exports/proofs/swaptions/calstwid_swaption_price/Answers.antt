@@ -1,0 +1,9 @@
+-- `calstwid_exports::swaptions::calstwid_swaption_price` meets its contract: the report is that of the call's outcome, and the answer that it is of is the call's own. Assumes nothing.
+use mathlib.Core.Path.{◌∙◌, ap}
+use Rattle.calstwid_exports.specs.Reports.{swaption_report_of}
+use Rattle.calstwid_exports.proofs.swaptions.calstwid_swaption_price.Goals as goal
+
+pub returns : goal.returns
+returns c =
+    let f = c.swaption_price in
+    (c.swaption_report.ensures ∙ ap swaption_report_of f.ensures.0, (record { answer = f.result; reported = c.swaption_report.ensures; holds = f.ensures.1.0 }, record { answer = f.result; reported = c.swaption_report.ensures; holds = f.ensures.1.1.0 }))

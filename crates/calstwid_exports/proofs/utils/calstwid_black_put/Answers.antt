@@ -1,0 +1,6 @@
+-- `calstwid_exports::utils::calstwid_black_put` meets its contract: the report is that of the call's outcome. Assumes nothing.
+use mathlib.Core.Path.{◌∙◌}
+use Rattle.calstwid_exports.proofs.utils.calstwid_black_put.Goals as goal
+
+pub returns : goal.returns
+returns c = c.report_price.ensures ∙ c.black_put.ensures.report

@@ -1,0 +1,27 @@
+-- `draws::stated::write_draws` meets its contract: the draws written and those of the state reached are all of them. Assumes nothing.
+use mathlib.Core.Path.{refl, ap, ◌∙◌}
+use borrow.Author.Rules.{rules}
+use Rattle.draws.specs.Draws.{quotient_of, draw_of}
+use Rattle.draws.proofs.Lists.{start, turn, end}
+use Rattle.draws.proofs.stated.write_draws.Goals as goal
+
+pub loop-i-init : goal.loop-i-init
+loop-i-init c = start _ _ _ refl
+
+pub draw-requires : goal.draw-requires
+draw-requires c = c.twelve_steps-twelve.ensures.state.1
+
+pub loop-i-preserved : goal.loop-i-preserved
+unfolding draw_of
+loop-i-preserved c =
+    let l = c.loop-i in
+    let twelve = c.twelve_steps-twelve in
+    turn _ _ l.i l.state l.out l.invariant (search rules) c.draw.result twelve.result.state (c.draw.ensures ∙ ap quotient_of twelve.ensures.0) twelve.ensures.1.0
+
+pub shape_of-out : goal.shape_of-out
+shape_of-out c = c.loop-i.invariant.sized
+
+pub returns : goal.returns
+returns c =
+    let l = c.loop-i in
+    end _ _ l.i l.state l.out l.invariant (search rules)

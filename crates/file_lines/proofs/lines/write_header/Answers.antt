@@ -1,0 +1,10 @@
+-- `file_lines::lines::write_header` meets its contract. Assumes nothing.
+use native.Mathlib.Omega.{arith}
+use Rattle.file_lines.specs.Lines.{header}
+use Rattle.file_fields.proofs.Writing.{start, next, begins}
+use Rattle.file_lines.proofs.lines.write_header.Goals as goal
+
+pub returns : goal.returns
+returns c =
+    let d = c.args.out-1.now in
+    begins _ header d _ (next 0 _ d d (start d) _ header _ (omega (arith, c.requires)) c.put.ensures.value c.put.ensures.out_after)

@@ -1,0 +1,14 @@
+-- `hullwhite_model::zcb_price_volatility` meets its contract: turned down by its rules, or the formula. Assumes nothing.
+use mathlib.Core.Path.{ap, ◌∙◌}
+use Rattle.refusals.specs.Refusals.{finishing}
+use Rattle.hullwhite_model.specs.Curves.{zcb_price_volatility_outcome}
+use Rattle.refusals.proofs.Outcomes.{priced_refused, priced_served}
+use Rattle.hullwhite_model.proofs.curves.zcb_price_volatility.Goals as goal
+
+pub returns-in-Refused : goal.returns-in-Refused
+unfolding zcb_price_volatility_outcome
+returns-in-Refused c = priced_refused _ _ c.in-Refused.is (rw c.no_faults.ensures at c.option_rules_lem.ensures)
+
+pub returns-in-Served : goal.returns-in-Served
+unfolding zcb_price_volatility_outcome
+returns-in-Served c = priced_served _ _ c.in-Served.is (rw c.no_faults.ensures at c.option_rules_lem.ensures) (c.served.ensures ∙ ap finishing c.zcb_price_volatility_of.ensures)

@@ -1,0 +1,15 @@
+-- `bs` meets its contract: each turn of its loop writes the next entry of the list.
+use Rattle.refusals.proofs.Filling.{start, turn, end}
+use Rattle.hullwhite_terms.proofs.Entries.{bs_length, bs_at}
+use Rattle.hullwhite_terms.proofs.columns.bs.Goals as goal
+
+pub loop-i-init : goal.loop-i-init
+loop-i-init c = start c.requires
+
+pub loop-i-preserved : goal.loop-i-preserved
+loop-i-preserved c =
+    turn (bs_length _ _ _) c.requires c.loop-i-test.true (bs_at _ _ _ _ c.loop-i-test.true) c.b_of.ensures c.loop-i.invariant
+
+pub returns : goal.returns
+returns c =
+    end (bs_length _ _ _) c.requires c.loop-i-test.false c.loop-i.invariant

@@ -1,0 +1,30 @@
+-- `swaption_terms` meets its contract: each factor is found or the call is refused by rule 8, and each list of the terms is the one of specs/. Assumes nothing.
+use mathlib.Core.List.{List}
+use lib.Ieee.{Float}
+use Rattle.curve.proofs.Outcomes.{at, missing}
+use Rattle.hullwhite_terms.specs.Swaption.{terms_of}
+use Rattle.hullwhite_terms.proofs.Fetched.{fetch_refused, fetch_all}
+use Rattle.hullwhite_terms.proofs.swaption.swaption_terms.Goals as goal
+
+-- ---- what was written into the lent list of factors
+abbrev ps_of : goal.After-fetch-fetched → List Float
+ps_of g = g.fetch-fetched.last.1.1.1.0
+
+pub returns-in_default : goal.returns-in_default
+unfolding terms_of
+returns-in_default c = rw (missing _ c.in_default.is c.factor.ensures)
+
+pub returns-in_default-factor : goal.returns-in_default-factor
+unfolding terms_of
+returns-in_default-factor c =
+    rw (at _ c.in-At.is c.factor.ensures, ← c.day.ensures, missing _ c.in_default-factor.is c.factor-2.ensures)
+
+pub returns-in-Refused : goal.returns-in-Refused
+unfolding terms_of
+returns-in-Refused c =
+    rw (at _ c.in-At.is c.factor.ensures, ← c.day.ensures, at _ c.p_plus_lem.given.1 c.factor-2.ensures, fetch_refused (ps_of c) c.in-Refused.is c.fetch-fetched.ensures)
+
+pub returns : goal.returns
+unfolding terms_of
+returns c =
+    rw (at _ c.in-At.is c.factor.ensures, ← c.day.ensures, at _ c.p_plus_lem.given.1 c.factor-2.ensures, fetch_all (ps_of c) c.in_default-fetched.is c.fetch-fetched.ensures, c.forward_of.ensures, c.coefficients.ensures, c.bs.ensures)

@@ -1,0 +1,64 @@
+-- `math_elementary::split` meets its contract: by what `widen` gives, below 1.5 and from there up (`low_split`, `high_split` of Splits), each i32 read back from its bits. Assumes nothing.
+use mathlib.Core.Path.{◌≡◌, sym, subst}
+use native.Mathlib.Omega.{arith}
+use Prim.Native.Nat.{ℕ, ◌<◌}
+use lib.Dec.{T}
+use lib.IntN.{pos, ◌-ℤ◌}
+use lib.Ieee.{binary64, fits}
+use mir.Syntax.{w32}
+use mir.Val.{SFits, to_z}
+use mir.ValLaws.{to_z-of_z}
+use Rattle.math_elementary.proofs.Ints.{mag_less}
+use Rattle.math_elementary.proofs.Splits.{low_split, high_split, pattern_no_nan}
+use Rattle.math_elementary.proofs.logarithm.split.Goals as goal
+
+held : (c : goal.Start) → T (fits binary64 c.args.x)
+held c = subst T (sym c.well-formed.0.1) tt
+
+module _ (c : goal.After-widen-w) where
+  abbrev d : ℕ
+  d = c.widen-w.result.size
+
+  d_fits : SFits w32 (pos d)
+  d_fits = record { sfits = omega (arith, c.widen-w.ensures.1) }
+
+  less_fits : (k : ℕ) → k < 5000 → SFits w32 (pos d -ℤ pos k)
+  less_fits k h = record { sfits = omega (arith, c.widen-w.ensures.1, mag_less d k) }
+
+  -- the number of digits, as the machine reads it back
+  d_is : to_z w32 d ≡ pos d
+  d_is = to_z-of_z w32 (pos d) d_fits
+
+pub widen-w-requires : goal.widen-w-requires
+widen-w-requires c = c.requires
+
+pub overflow_cast-size : goal.overflow_cast-size
+overflow_cast-size c = d_fits c
+
+pub overflow_add-result : goal.overflow_add-result
+overflow_add-result c = omega (arith, c.widen-w.ensures.0.below)
+
+pub float_from_bits-result : goal.float_from_bits-result
+float_from_bits-result c = let w = c.widen-w.ensures.0 in pattern_no_nan c.widen-w.result.full 1022 w.from w.below (omega arith)
+
+pub overflow_sub-result : goal.overflow_sub-result
+overflow_sub-result c = rw (d_is c) (less_fits c 1075 (omega arith))
+
+pub overflow_add-result-else-full-lt6755399441055744 : goal.overflow_add-result-else-full-lt6755399441055744
+overflow_add-result-else-full-lt6755399441055744 c = omega (arith, c.widen-w.ensures.0.below)
+
+pub float_from_bits-result-else-full-lt6755399441055744 : goal.float_from_bits-result-else-full-lt6755399441055744
+float_from_bits-result-else-full-lt6755399441055744 c = let w = c.widen-w.ensures.0 in pattern_no_nan c.widen-w.result.full 1021 w.from w.below (omega arith)
+
+pub overflow_sub-result-else-full-lt6755399441055744 : goal.overflow_sub-result-else-full-lt6755399441055744
+overflow_sub-result-else-full-lt6755399441055744 c = rw (d_is c) (less_fits c 1074 (omega arith))
+
+pub returns-then-full-lt6755399441055744 : goal.returns-then-full-lt6755399441055744
+returns-then-full-lt6755399441055744 c =
+    let s = low_split c.args.x c.widen-w.result.full (d c) (held c) c.requires c.widen-w.ensures.0 c.if-full-lt6755399441055744.true in
+    (s.0, simp (d_is c, to_z-of_z w32 _ (less_fits c 1075 (omega arith))) s.1, simp (d_is c, to_z-of_z w32 _ (less_fits c 1075 (omega arith))) (omega (arith, c.widen-w.ensures.1, mag_less (d c) 1075)))
+
+pub returns-else-full-lt6755399441055744 : goal.returns-else-full-lt6755399441055744
+returns-else-full-lt6755399441055744 c =
+    let s = high_split c.args.x c.widen-w.result.full (d c) (held c) c.requires c.widen-w.ensures.0 c.if-full-lt6755399441055744.false in
+    (s.0, simp (d_is c, to_z-of_z w32 _ (less_fits c 1074 (omega arith))) s.1, simp (d_is c, to_z-of_z w32 _ (less_fits c 1074 (omega arith))) (omega (arith, c.widen-w.ensures.1, mag_less (d c) 1074)))

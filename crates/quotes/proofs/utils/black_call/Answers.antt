@@ -1,0 +1,14 @@
+-- `quotes::black_call` meets its contract: turned down by its rules, or the formula. Assumes nothing.
+use mathlib.Core.Path.{ap, ◌∙◌}
+use Rattle.refusals.specs.Refusals.{finishing}
+use Rattle.quotes.specs.Utils.{black_call_outcome}
+use Rattle.refusals.proofs.Outcomes.{priced_refused, priced_served}
+use Rattle.quotes.proofs.utils.black_call.Goals as goal
+
+pub returns-in-Refused : goal.returns-in-Refused
+unfolding black_call_outcome
+returns-in-Refused c = priced_refused _ _ c.in-Refused.is c.quote_rules_lem.ensures
+
+pub returns-in-Served : goal.returns-in-Served
+unfolding black_call_outcome
+returns-in-Served c = priced_served _ _ c.in-Served.is c.quote_rules_lem.ensures (c.served.ensures ∙ ap finishing c.black_call_of.ensures)
