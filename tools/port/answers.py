@@ -95,6 +95,10 @@ class Names:
 
 def turned(text, names, where, left):
     """A body with the paths into its context turned."""
+    text = text.replace(".well-formed", ".well_formed")
+    if names.nested:
+        # a helper takes the context of one place: the way to it stays
+        return typed(named(text, names, where, left), names)
     # every step before a goal is a field of its context
     text = re.sub(r"(?:\.before)+(?=[.\s();,\]]|$)", "", text)
     while True:
@@ -104,6 +108,10 @@ def turned(text, names, where, left):
         rest = re.sub(r"(?<![^\s(){},;\[\]|])" + re.escape(m[2]) + r"(?![^\s(){}.;,\[\]|])", m[3], text[m.end() :])
         text = text[: m.start()] + m[1] + rest
 
+    return typed(named(text, names, where, left), names)
+
+
+def named(text, names, where, left):
     def step(m):
         new = names.steps.get(plain(m[1]))
         if not new:
@@ -124,6 +132,10 @@ def turned(text, names, where, left):
             text = re.sub(here + r"(?![\w-])(?!\." + re.escape(fields[0]) + r"(?![\w-]))", "." + fields[0], text)
         else:
             text = re.sub(here + r"\.(\d+)", lambda m: "." + fields[int(m[1])] if int(m[1]) < len(fields) else m[0], text)
+    return text
+
+
+def typed(text, names):
     return re.sub(r"\btie\.((?:Start|After|Then|Else|In|At)" + r"[^\s(){}.;,]*)", lambda m: "goal." + names.types.get(plain(m[1]), m[1]), text)
 
 
@@ -134,6 +146,7 @@ def convert(crate, path, listed, left):
     with open(path, encoding="utf-8") as it:
         text = it.read()
     names = Names(listed)
+    names.nested = re.search(r"\btie\.(?:Start|After|Then|Else|In|At)", text) is not None
     blocks = blocks_of(text)
     head = blocks[0]
     comment = [l for l in head if l.startswith("--")]

@@ -9,22 +9,25 @@ use Rattle.ieee.proofs.sqrt.Goals as goal
 
 -- x is an f64
 held : (c : goal.Start) → T (fits binary64 c.args.x)
-held c = subst T (sym c.well-formed.0.1) tt
+held c = subst T (sym c.well_formed.0.1) tt
 
 pub returns-then-x : goal.returns-then-x
-returns-then-x c = rounded_root (held c) (below_zero c.args.x c.if-x.true)
+returns-then-x c = rounded_root (held c.before) (below_zero c.before.args.x c.if-x.true)
 
 pub positive-requires : goal.positive-requires
 positive-requires c =
-    above_zero c.args.x (subst T (sym (sym c.finite.ensures ∙ c.if-finite.true)) tt) c.if-x-2.true
+    let f = c.before.before in
+    above_zero f.before.before.args.x (subst T (sym (sym f.finite.ensures ∙ c.before.if-finite.true)) tt) c.if-x-2.true
 
 pub returns-then-x-2 : goal.returns-then-x-2
-returns-then-x-2 c = rounded_root (held c) c.positive.ensures
+returns-then-x-2 c = rounded_root (held c.before.before.before.before.before) c.positive.ensures
 
 pub returns-else-x-2 : goal.returns-else-x-2
 returns-else-x-2 c =
-    rounded_root (held c) (otherwise c.args.x c.if-x.false (inr c.if-x-2.false))
+    let f = c.before.before in
+    rounded_root (held f.before.before) (otherwise f.before.before.args.x f.before.if-x.false (inr c.if-x-2.false))
 
 pub returns-else-finite : goal.returns-else-finite
 returns-else-finite c =
-    rounded_root (held c) (otherwise c.args.x c.if-x.false (inl (sym c.finite.ensures ∙ c.if-finite.false)))
+    let f = c.before in
+    rounded_root (held f.before.before) (otherwise f.before.before.args.x f.before.if-x.false (inl (sym f.finite.ensures ∙ c.if-finite.false)))

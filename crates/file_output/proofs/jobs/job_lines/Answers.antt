@@ -12,10 +12,10 @@ use Rattle.file_output.proofs.jobs.job_lines.Goals as goal
 
 -- the start of the walk, from the ninth list that is lent to it and from the job read
 abbrev early : goal.After-shared_slice_known-9-1 → goal.Start
-early c = c
+early c = c.before.before.before.before.before.before.before.before.before
 
 abbrev entry : goal.After-nth_job-j → goal.Start
-entry n = early n
+entry n = early n.before.before.before
 
 -- ---- the request as the lists give it, and the jobs of the file
 abbrev jobs : goal.Start → List Job
@@ -35,43 +35,47 @@ nth s = job_at s.args.file.now (s.args.l.jobs.offset + 40 * s.args.k)
 -- ---- the needs
 pub nth_job-j-requires : goal.nth_job-j-requires
 nth_job-j-requires c =
-    let s = early c in
+    let s = early c.before.before in
     ((kept s.args.file.now s.args.l s.pre.0.0).jobs.inside, s.pre.0.1)
 
 pub path_lines-requires : goal.path_lines-requires
 path_lines-requires c =
-    let s = entry c in
+    let s = entry c.before.before.before in
     (s.pre.1.0, grid_short s.args.file.now s.args.l s.pre.0.0 s.args.grid.now (ap (λ (q : Request). q.grid_times) s.pre.1.1), s.pre.0.2)
 
 pub returns-then-j-eq12 : goal.returns-then-j-eq12
 returns-then-j-eq12 c =
-    let s = entry c in
-    path_job (request s) (asked s) c.nth_job-j.result (nth s) s.args.k _ _ _ s.pre.1.1 c.nth_job-j.ensures c.if-j-eq12.true c.path_lines.ensures
+    let n = c.before.before.before.before.before.before in
+    let s = entry n in
+    path_job (request s) (asked s) n.nth_job-j.result (nth s) s.args.k _ _ _ s.pre.1.1 n.nth_job-j.ensures c.before.before.before.before.if-j-eq12.true c.before.before.path_lines.ensures
 
 pub path_lines-requires-then-j-eq13 : goal.path_lines-requires-then-j-eq13
 path_lines-requires-then-j-eq13 c =
-    let s = entry c in
+    let s = entry c.before.before.before.before.before in
     (s.pre.1.0, grid_short s.args.file.now s.args.l s.pre.0.0 s.args.grid.now (ap (λ (q : Request). q.grid_times) s.pre.1.1), s.pre.0.2)
 
 pub returns-then-j-eq13 : goal.returns-then-j-eq13
 returns-then-j-eq13 c =
-    let s = entry c in
-    published_job (request s) (asked s) c.nth_job-j.result (nth s) s.args.k _ _ _ s.pre.1.1 c.nth_job-j.ensures c.if-j-eq13.true c.path_lines-then-j-eq13.ensures
+    let n = c.before.before.before.before.before.before.before.before in
+    let s = entry n in
+    published_job (request s) (asked s) n.nth_job-j.result (nth s) s.args.k _ _ _ s.pre.1.1 n.nth_job-j.ensures c.before.before.before.before.if-j-eq13.true c.before.before.path_lines-then-j-eq13.ensures
 
 pub result_line-requires : goal.result_line-requires
-result_line-requires c = let s = entry c in omega (arith, s.pre.0.2)
+result_line-requires c = let s = entry c.before.before.before.before.before.before.before.before in omega (arith, s.pre.0.2)
 
 pub returns-then-j-lt5 : goal.returns-then-j-lt5
 returns-then-j-lt5 c =
-    let s = entry c in
+    let n = c.before.before.before.before.before.before.before.before.before.before.before in
+    let s = entry n in
     let a = s.args in
-    option_job (request s) (asked s) c.nth_job-j.result (nth s) a.k _ _ _ s.pre.1.1 c.nth_job-j.ensures _ c.if-j-lt5.true (c.option_result-told.ensures ∙ option_lists a.alpha a.pillars.now a.sigmas.now a.times.now a.factors.now a.payments.now a.accruals.now a.owns.now a.grid.now a.draws.now (jobs s) c.nth_job-j.result) c.result_line.ensures
+    option_job (request s) (asked s) n.nth_job-j.result (nth s) a.k _ _ _ s.pre.1.1 n.nth_job-j.ensures _ c.before.before.before.before.before.if-j-lt5.true (c.before.before.before.before.option_result-told.ensures ∙ option_lists a.alpha a.pillars.now a.sigmas.now a.times.now a.factors.now a.payments.now a.accruals.now a.owns.now a.grid.now a.draws.now (jobs s) n.nth_job-j.result) c.before.before.result_line.ensures
 
 pub worked_line-requires : goal.worked_line-requires
-worked_line-requires c = let s = entry c in omega (arith, s.pre.0.2)
+worked_line-requires c = let s = entry c.before.before.before.before.before.before.before.before in omega (arith, s.pre.0.2)
 
 pub returns : goal.returns
 returns c =
-    let s = entry c in
+    let n = c.before.before.before.before.before.before.before.before.before.before.before in
+    let s = entry n in
     let a = s.args in
-    worked_job (request s) (asked s) c.nth_job-j.result (nth s) a.k _ _ _ s.pre.1.1 c.nth_job-j.ensures _ c.if-j-eq12.false c.if-j-eq13.false c.if-j-lt5.false (c.work-worked.ensures ∙ work_lists a.alpha a.pillars.now a.sigmas.now a.times.now a.factors.now a.payments.now a.accruals.now a.owns.now a.grid.now a.draws.now (jobs s) c.nth_job-j.result) c.worked_line.ensures
+    worked_job (request s) (asked s) n.nth_job-j.result (nth s) a.k _ _ _ s.pre.1.1 n.nth_job-j.ensures _ c.before.before.before.before.before.before.before.before.before.if-j-eq12.false c.before.before.before.before.before.before.before.if-j-eq13.false c.before.before.before.before.before.if-j-lt5.false (c.before.before.before.before.work-worked.ensures ∙ work_lists a.alpha a.pillars.now a.sigmas.now a.times.now a.factors.now a.payments.now a.accruals.now a.owns.now a.grid.now a.draws.now (jobs s) n.nth_job-j.result) c.before.before.worked_line.ensures

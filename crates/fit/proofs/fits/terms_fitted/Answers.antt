@@ -11,22 +11,24 @@ abbrev ds_of : goal.After-curve_parts → List Float
 ds_of d = d.curve_parts.new.1.1.1.1.0
 
 pub slice_bounds-curve_parts-end : goal.slice_bounds-curve_parts-end
-slice_bounds-curve_parts-end c = lent_is work _ c.requires.0
+slice_bounds-curve_parts-end c = lent_is work _ c.before.before.before.before.requires.0
 
 pub curve_parts-requires : goal.curve_parts-requires
-curve_parts-requires c = let s = c.requires in (sym (lent_is work _ s.0) ∙ sym s.1, s.2 ∙ sym s.1)
+curve_parts-requires c = let s = c.before.before.before.before.requires in (sym (lent_is work _ s.0) ∙ sym s.1, s.2 ∙ sym s.1)
 
 pub slice_bounds-curve_part-end-2 : goal.slice_bounds-curve_part-end-2
-slice_bounds-curve_part-end-2 c = let d = c in back_fits work _ d.requires.0 (ds_of d) d.curve_parts.auto.1.1.1.1.0
+slice_bounds-curve_part-end-2 c = let d = c.before.before in back_fits work _ d.before.before.before.before.before.requires.0 (ds_of d) d.curve_parts.auto.1.1.1.1.0
 
 pub slice_bounds-solve-end : goal.slice_bounds-solve-end
-slice_bounds-solve-end c = let d = c in back_is work _ d.requires.0 (ds_of d) d.curve_parts.auto.1.1.1.1.0
+slice_bounds-solve-end c = let d = c.before.before.before in back_is work _ d.before.before.before.before.before.requires.0 (ds_of d) d.curve_parts.auto.1.1.1.1.0
 
 pub solve-fitted-requires : goal.solve-fitted-requires
 solve-fitted-requires c =
-    let s = c.requires in
-    (s.0, s.1, sym (back_is work _ s.0 (ds_of c) c.curve_parts.auto.1.1.1.1.0), s.2)
+    let d = c.before.before.before in
+    let s = d.before.before.before.before.before.requires in
+    (s.0, s.1, sym (back_is work _ s.0 (ds_of d) d.curve_parts.auto.1.1.1.1.0), s.2)
 
 pub returns : goal.returns
 returns c =
-    swaption_fit _ _ _ _ _ _ _ _ (values_are work _ c.requires.0 (ds_of c) c.curve_parts.auto.1.1.1.1.0 ∙ c.curve_parts.ensures) c.ahead_of_lem.ensures c.solve-fitted.ensures c.finished.ensures
+    let d = c.before.before.before.before.before in
+    swaption_fit _ _ _ _ _ _ _ _ (values_are work _ d.before.before.before.before.before.requires.0 (ds_of d) d.curve_parts.auto.1.1.1.1.0 ∙ d.curve_parts.ensures) c.before.before.before.ahead_of_lem.ensures c.before.solve-fitted.ensures c.finished.ensures

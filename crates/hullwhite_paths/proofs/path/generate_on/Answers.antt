@@ -13,31 +13,36 @@ use Rattle.hullwhite_paths.proofs.Outcomes.{rules_on, behind, grid_sized}
 use Rattle.hullwhite_paths.proofs.path.generate_on.Goals as goal
 
 abbrev entry : goal.After-rules_on-answer → goal.Start
-entry r = r
+entry r = r.before.before.before.before.before.before.before.before.before
 
 -- ---- the rules on the faults of the very lists
 rules : (r : goal.After-rules_on-answer) → let a = (entry r).args in
     r.rules_on-answer.result ≡ first_of (path_rules_on a.centre a.alpha a.pillars.now a.sigmas.now a.times.now a.factors.now a.grid.now (grid_faults a.grid.now a.draws.now) false (length a.out-1.now))
 rules r =
     let a = (entry r).args in
-    rules_on a.centre a.alpha a.pillars.now a.sigmas.now a.times.now a.factors.now a.grid.now false (length a.out-1.now) (entry r).requires r.grid_faults-points.ensures r.rules_on-answer.ensures
+    rules_on a.centre a.alpha a.pillars.now a.sigmas.now a.times.now a.factors.now a.grid.now false (length a.out-1.now) (entry r).requires r.before.grid_faults-points.ensures r.rules_on-answer.ensures
 
 pub returns-in-Refused : goal.returns-in-Refused
 unfolding generate_outcome
 returns-in-Refused c =
-    let a = (entry c).args in
-    rw (turned_down _ (following (path_from a.centre a.alpha a.pillars.now a.sigmas.now a.times.now a.factors.now start_state a.grid.now a.draws.now) finishing_list) c.in-Refused.is (rules c)) (refl, (refl, refl))
+    let r = c.before.before.before in
+    let a = (entry r).args in
+    rw (turned_down _ (following (path_from a.centre a.alpha a.pillars.now a.sigmas.now a.times.now a.factors.now start_state a.grid.now a.draws.now) finishing_list) c.before.in-Refused.is (rules r)) (refl, (refl, refl))
 
 pub write_path-requires : goal.write_path-requires
 write_path-requires c =
-    let a = (entry c).args in
-    let b = behind a.centre a.alpha a.pillars.now a.sigmas.now a.times.now a.factors.now a.grid.now (grid_faults a.grid.now a.draws.now) false (length a.out-1.now) c.in_default.is (rules c) in
+    let e = c.before in
+    let r = e.before.before in
+    let a = (entry r).args in
+    let b = behind a.centre a.alpha a.pillars.now a.sigmas.now a.times.now a.factors.now a.grid.now (grid_faults a.grid.now a.draws.now) false (length a.out-1.now) e.in_default.is (rules r) in
     let sized = grid_sized a.grid.now a.draws.now b.0 in
     (sized.0, sized.1, b.1, b.2, b.3)
 
 pub returns : goal.returns
 unfolding generate_outcome
 returns c =
-    let w = c.write_path.ensures in
-    let a = (entry c).args in
-    rw (let_through _ (following (path_from a.centre a.alpha a.pillars.now a.sigmas.now a.times.now a.factors.now start_state a.grid.now a.draws.now) finishing_list) c.in_default.is (rules c)) (w.0, (w.1, ap answer_number w.0))
+    let w = c.before.before.write_path.ensures in
+    let e = c.before.before.before.before in
+    let r = e.before.before in
+    let a = (entry r).args in
+    rw (let_through _ (following (path_from a.centre a.alpha a.pillars.now a.sigmas.now a.times.now a.factors.now start_state a.grid.now a.draws.now) finishing_list) e.in_default.is (rules r)) (w.0, (w.1, ap answer_number w.0))

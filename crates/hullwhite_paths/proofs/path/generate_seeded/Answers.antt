@@ -21,23 +21,24 @@ use Rattle.hullwhite_paths.proofs.Outcomes.{rules_on, behind, seeded_sized, not_
 use Rattle.hullwhite_paths.proofs.path.generate_seeded.Goals as goal
 
 abbrev entry : goal.After-rules_on-answer → goal.Start
-entry r = r
+entry r = r.before.before.before.before.before.before.before.before.before
 
 -- ---- the rules on the faults of the very lists
 rules : (r : goal.After-rules_on-answer) → let a = (entry r).args in
     r.rules_on-answer.result ≡ first_of (path_rules_on a.centre a.alpha a.pillars.now a.sigmas.now a.times.now a.factors.now a.grid.now (seeded_grid_faults a.grid.now) (eqb a.seed 0) (length a.out-1.now))
 rules r =
     let a = (entry r).args in
-    rules_on a.centre a.alpha a.pillars.now a.sigmas.now a.times.now a.factors.now a.grid.now (eqb a.seed 0) (length a.out-1.now) r.curve_faults-curve.ensures r.seeded_grid_faults-points.ensures r.rules_on-answer.ensures
+    rules_on a.centre a.alpha a.pillars.now a.sigmas.now a.times.now a.factors.now a.grid.now (eqb a.seed 0) (length a.out-1.now) r.before.before.curve_faults-curve.ensures r.before.seeded_grid_faults-points.ensures r.rules_on-answer.ensures
 
 -- ---- behind the rules: the path on a list of draws, and what the call knows of its lists
 abbrev path : goal.Start → List Float → Outcome (List Float)
 path s draws = let a = s.args in following (path_from a.centre a.alpha a.pillars.now a.sigmas.now a.times.now a.factors.now start_state a.grid.now draws) finishing_list
 
-known : (e : goal.In_default) → let a = (entry e).args in (length a.grid.now ≤ 1024) × (in_order true a.times.now ≡ true) × (in_order true a.pillars.now ≡ true) × (length a.grid.now ≤ length a.out-1.now)
+known : (e : goal.In_default) → let a = (entry e.before.before).args in (length a.grid.now ≤ 1024) × (in_order true a.times.now ≡ true) × (in_order true a.pillars.now ≡ true) × (length a.grid.now ≤ length a.out-1.now)
 known e =
-    let a = (entry e).args in
-    let b = behind a.centre a.alpha a.pillars.now a.sigmas.now a.times.now a.factors.now a.grid.now (seeded_grid_faults a.grid.now) (eqb a.seed 0) (length a.out-1.now) e.in_default.is (rules e) in
+    let r = e.before.before in
+    let a = (entry r).args in
+    let b = behind a.centre a.alpha a.pillars.now a.sigmas.now a.times.now a.factors.now a.grid.now (seeded_grid_faults a.grid.now) (eqb a.seed 0) (length a.out-1.now) e.in_default.is (rules r) in
     (seeded_sized a.grid.now b.0, b.1, b.2, b.3)
 
 -- ---- the list that the draws are written to, and what it then holds
@@ -48,54 +49,62 @@ abbrev written : goal.After-write_draws-state → List Float
 written v = v.write_draws-state.new.1.0
 
 abbrev told : goal.After-write_draws-state → goal.In_default
-told v = v
+told v = v.before.before
 
 module _ (v : goal.After-write_draws-state) where
   abbrev n : ℕ
-  n = length (entry (told v)).args.grid.now
+  n = length (entry (told v).before.before).args.grid.now
 
-  drawn : take n (written v ++ drop n room) ≡ draws_of n (entry (told v)).args.seed
-  drawn = values_are room n (known (told v)).0 (written v) v.write_draws-state.kept.1.0 ∙ v.write_draws-state.ensures.draws ∙ ap (λ (m : ℕ). draws_of m (entry (told v)).args.seed) (sym (lent_is room n (known (told v)).0))
+  drawn : take n (written v ++ drop n room) ≡ draws_of n (entry (told v).before.before).args.seed
+  drawn = values_are room n (known (told v)).0 (written v) v.write_draws-state.kept.1.0 ∙ v.write_draws-state.ensures.draws ∙ ap (λ (m : ℕ). draws_of m (entry (told v).before.before).args.seed) (sym (lent_is room n (known (told v)).0))
 
-  reaches : v.write_draws-state.result ≡ reached_by n (entry (told v)).args.seed
-  reaches = v.write_draws-state.ensures.state ∙ ap (λ (m : ℕ). reached_by m (entry (told v)).args.seed) (sym (lent_is room n (known (told v)).0))
+  reaches : v.write_draws-state.result ≡ reached_by n (entry (told v).before.before).args.seed
+  reaches = v.write_draws-state.ensures.state ∙ ap (λ (m : ℕ). reached_by m (entry (told v).before.before).args.seed) (sym (lent_is room n (known (told v)).0))
 
 pub returns-in-Refused : goal.returns-in-Refused
 unfolding seeded_outcome
 returns-in-Refused c =
-    rw (turned_down _ (path (entry c) (draws_of (length (entry c).args.grid.now) (entry c).args.seed)) c.in-Refused.is (rules c)) (refl, (refl, refl))
+    let r = c.before.before.before in
+    rw (turned_down _ (path (entry r) (draws_of (length (entry r).args.grid.now) (entry r).args.seed)) c.before.in-Refused.is (rules r)) (refl, (refl, refl))
 
 pub slice_bounds-drawn-end : goal.slice_bounds-drawn-end
 slice_bounds-drawn-end c = (known c).0
 
 pub slice_bounds-write_draws-end : goal.slice_bounds-write_draws-end
-slice_bounds-write_draws-end c = lent_is room _ (known c).0
+slice_bounds-write_draws-end c = lent_is room _ (known c.before).0
 
 pub slice_bounds-drawn-end-2 : goal.slice_bounds-drawn-end-2
-slice_bounds-drawn-end-2 c = let v = c in back_fits room _ (known (told v)).0 (written v) v.write_draws-state.auto.1.0
+slice_bounds-drawn-end-2 c = let v = c.before in back_fits room _ (known (told v)).0 (written v) v.write_draws-state.auto.1.0
 
 pub slice_bounds-write_path-end : goal.slice_bounds-write_path-end
-slice_bounds-write_path-end c = let v = c in back_is room _ (known (told v)).0 (written v) v.write_draws-state.auto.1.0
+slice_bounds-write_path-end c = let v = c.before.before in back_is room _ (known (told v)).0 (written v) v.write_draws-state.auto.1.0
 
 pub write_path-written-requires : goal.write_path-written-requires
 write_path-written-requires c =
-    let k = known (told c) in
-    (k.0, sym (back_is room _ k.0 (written c) c.write_draws-state.auto.1.0), k.1, k.2, k.3)
+    let v = c.before.before.before in
+    let k = known (told v) in
+    (k.0, sym (back_is room _ k.0 (written v) v.write_draws-state.auto.1.0), k.1, k.2, k.3)
 
 pub returns-in-Refused-written : goal.returns-in-Refused-written
 unfolding seeded_outcome
 returns-in-Refused-written c =
-    let e = told c in
-    let draws = draws_of (n c) (entry e).args.seed in
-    let w = c.write_path-written.ensures in
-    let answer = not_reached (path (entry e) draws) (reached_by (n c) (entry e).args.seed) c.in-Refused-written.is (w.0 ∙ ap (λ (ds : List Float). answer_of (path (entry e) ds)) (drawn c)) in
-    rw (let_through _ (path (entry e) draws) e.in_default.is (rules e)) (answer, (w.1 ∙ ap (λ (ds : List Float). stored_of (path (entry e) ds) (entry e).args.out-1.now) (drawn c), ap (reported 0) answer))
+    let p = c.before.before.before.before.before in
+    let v = p.before.before.before.before in
+    let e = told v in
+    let r = e.before.before in
+    let draws = draws_of (n v) (entry r).args.seed in
+    let w = p.write_path-written.ensures in
+    let answer = not_reached (path (entry r) draws) (reached_by (n v) (entry r).args.seed) c.before.in-Refused-written.is (w.0 ∙ ap (λ (ds : List Float). answer_of (path (entry r) ds)) (drawn v)) in
+    rw (let_through _ (path (entry r) draws) e.in_default.is (rules r)) (answer, (w.1 ∙ ap (λ (ds : List Float). stored_of (path (entry r) ds) (entry r).args.out-1.now) (drawn v), ap (reported 0) answer))
 
 pub returns : goal.returns
 unfolding seeded_outcome
 returns c =
-    let e = told c in
-    let draws = draws_of (n c) (entry e).args.seed in
-    let w = c.write_path-written.ensures in
-    let answer = ap served (reaches c) ∙ reached (path (entry e) draws) (reached_by (n c) (entry e).args.seed) c.in_default-written.is (w.0 ∙ ap (λ (ds : List Float). answer_of (path (entry e) ds)) (drawn c)) in
-    rw (let_through _ (path (entry e) draws) e.in_default.is (rules e)) (answer, (w.1 ∙ ap (λ (ds : List Float). stored_of (path (entry e) ds) (entry e).args.out-1.now) (drawn c), ap (reported 0) answer))
+    let p = c.before.before.before.before in
+    let v = p.before.before.before.before in
+    let e = told v in
+    let r = e.before.before in
+    let draws = draws_of (n v) (entry r).args.seed in
+    let w = p.write_path-written.ensures in
+    let answer = ap served (reaches v) ∙ reached (path (entry r) draws) (reached_by (n v) (entry r).args.seed) c.in_default-written.is (w.0 ∙ ap (λ (ds : List Float). answer_of (path (entry r) ds)) (drawn v)) in
+    rw (let_through _ (path (entry r) draws) e.in_default.is (rules r)) (answer, (w.1 ∙ ap (λ (ds : List Float). stored_of (path (entry r) ds) (entry r).args.out-1.now) (drawn v), ap (reported 0) answer))

@@ -9,30 +9,35 @@ use borrow.Author.Rules.{rules}
 use Rattle.hullwhite_swaptions.proofs.model.swaption_price_on.Goals as goal
 
 -- ---- the rules, on the call's own lists
-rules : (r : goal.After-model_rules-answer) → let a = r.args in
+rules : (r : goal.After-model_rules-answer) → let a = r.before.before.before.before.before.before.before.args in
     r.model_rules_lem.result ≡ first_of (model_rules_on a.alpha a.times.now a.factors.now a.payments.now a.accruals.now a.strike a.t a.sigma)
 rules r =
-    same_rules r.args.alpha r.args.strike r.args.t r.args.sigma r.requires r.coupon_faults-coupons.ensures r.all-later.ensures r.model_rules_lem.ensures
+    let s = r.before.before.before.before.before.before.before in
+    same_rules s.args.alpha s.args.strike s.args.t s.args.sigma s.requires r.before.before.coupon_faults-coupons.ensures r.before.all-later.ensures r.model_rules_lem.ensures
 
 pub returns-in-Refused : goal.returns-in-Refused
 returns-in-Refused c =
-    let a = c.args in
-    let o = turned_down a.alpha a.times.now a.factors.now a.payments.now a.accruals.now a.strike a.t a.sigma (rules c) c.in-Refused.is in
+    let r = c.before.before.before in
+    let a = r.before.before.before.before.before.before.before.args in
+    let o = turned_down a.alpha a.times.now a.factors.now a.payments.now a.accruals.now a.strike a.t a.sigma (rules r) c.before.in-Refused.is in
     (o, (rooted a.alpha a.times.now a.factors.now a.payments.now a.accruals.now a.strike a.t a.sigma o, (refused_so a.alpha a.times.now a.factors.now a.payments.now a.accruals.now a.strike a.t a.sigma o, ap (reported no_model_valued) o)))
 
 pub returns-then-payments-eq0 : goal.returns-then-payments-eq0
 returns-then-payments-eq0 c =
-    let a = c.args in
-    let o = c.nothing.ensures ∙ no_coupons a.alpha a.times.now a.factors.now a.payments.now a.accruals.now a.strike a.t a.sigma (rules c) c.in_default.is c.if-payments-eq0.true in
+    let r = c.before.before.before.before in
+    let a = r.before.before.before.before.before.before.before.args in
+    let o = c.nothing.ensures ∙ no_coupons a.alpha a.times.now a.factors.now a.payments.now a.accruals.now a.strike a.t a.sigma (rules r) c.before.before.in_default.is c.before.if-payments-eq0.true in
     (o, (rooted a.alpha a.times.now a.factors.now a.payments.now a.accruals.now a.strike a.t a.sigma o, (refused_so a.alpha a.times.now a.factors.now a.payments.now a.accruals.now a.strike a.t a.sigma o, ap (reported no_model_valued) o)))
 
 pub model_priced-requires : goal.model_priced-requires
 model_priced-requires c =
-    let a = c.args in
-    lists_fit a.alpha a.times.now a.factors.now a.payments.now a.accruals.now a.strike a.t a.sigma (rules c) c.in_default.is
+    let r = c.before.before.before in
+    let a = r.before.before.before.before.before.before.before.args in
+    lists_fit a.alpha a.times.now a.factors.now a.payments.now a.accruals.now a.strike a.t a.sigma (rules r) c.before.in_default.is
 
 pub returns : goal.returns
 returns c =
-    let a = c.args in
-    let o = c.model_priced_lem.ensures ∙ with_coupons a.alpha a.times.now a.factors.now a.payments.now a.accruals.now a.strike a.t a.sigma (rules c) c.in_default.is c.if-payments-eq0.false in
+    let r = c.before.before.before.before in
+    let a = r.before.before.before.before.before.before.before.args in
+    let o = c.model_priced_lem.ensures ∙ with_coupons a.alpha a.times.now a.factors.now a.payments.now a.accruals.now a.strike a.t a.sigma (rules r) c.before.before.in_default.is c.before.if-payments-eq0.false in
     (o, (rooted a.alpha a.times.now a.factors.now a.payments.now a.accruals.now a.strike a.t a.sigma o, (refused_so a.alpha a.times.now a.factors.now a.payments.now a.accruals.now a.strike a.t a.sigma o, ap (reported no_model_valued) o)))

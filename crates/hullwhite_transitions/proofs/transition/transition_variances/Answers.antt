@@ -22,15 +22,15 @@ abbrev work : List Float
 work = replicate 1024 zero
 
 abbrev entry : goal.After-transition_rules-answer → goal.Start
-entry r = r
+entry r = r.before.before.before.before.before
 
 rules : (r : goal.After-transition_rules-answer) → let a = (entry r).args in r.transition_rules_lem.result ≡ first_of (transition_rules (pillar_faults a.times.now a.sigmas.now) (eqb (length a.times.now) 0) a.alpha a.steps (length a.out-1.now) a.time-step)
 rules r =
     let a = (entry r).args in
-    r.transition_rules_lem.ensures ∙ ap (λ (f : Faults). first_of (transition_rules f (eqb (length a.times.now) 0) a.alpha a.steps (length a.out-1.now) a.time-step)) r.pillar_faults-pillars.ensures
+    r.transition_rules_lem.ensures ∙ ap (λ (f : Faults). first_of (transition_rules f (eqb (length a.times.now) 0) a.alpha a.steps (length a.out-1.now) a.time-step)) r.before.pillar_faults-pillars.ensures
 
-fit : (e : goal.In_default) → let a = (entry e).args in (a.steps ≤ 1024) × (a.steps ≤ length a.out-1.now)
-fit e = let a = (entry e).args in steps_fit (pillar_faults a.times.now a.sigmas.now) (eqb (length a.times.now) 0) a.alpha a.steps (length a.out-1.now) a.time-step e.in_default.is (rules e)
+fit : (e : goal.In_default) → let a = (entry e.before.before).args in (a.steps ≤ 1024) × (a.steps ≤ length a.out-1.now)
+fit e = let a = (entry e.before.before).args in steps_fit (pillar_faults a.times.now a.sigmas.now) (eqb (length a.times.now) 0) a.alpha a.steps (length a.out-1.now) a.time-step e.in_default.is (rules e.before.before)
 
 abbrev worked : goal.After-variances → List Float
 worked v = v.variances.new.1.1.1.1.0
@@ -38,33 +38,37 @@ worked v = v.variances.new.1.1.1.1.0
 pub returns-in-Refused : goal.returns-in-Refused
 unfolding transition_outcome
 returns-in-Refused c =
-    let a = (entry c).args in
-    rw (turned_down _ (finishing_list (variances_of a.alpha a.times.now a.sigmas.now a.time-step 0 a.steps)) c.in-Refused.is (rules c)) (refl, (refl, refl))
+    let r = c.before.before.before in
+    let a = (entry r).args in
+    rw (turned_down _ (finishing_list (variances_of a.alpha a.times.now a.sigmas.now a.time-step 0 a.steps)) c.before.in-Refused.is (rules r)) (refl, (refl, refl))
 
 pub slice_bounds-work-end : goal.slice_bounds-work-end
 slice_bounds-work-end c = (fit c).0
 
 pub slice_bounds-variances-end : goal.slice_bounds-variances-end
-slice_bounds-variances-end c = lent_is work _ (fit c).0
+slice_bounds-variances-end c = lent_is work _ (fit c.before).0
 
 pub variances-requires : goal.variances-requires
-variances-requires c = rw (← lent_is work _ (fit c).0) (fit c).0
+variances-requires c = rw (← lent_is work _ (fit c.before).0) (fit c.before).0
 
 pub slice_bounds-work-end-2 : goal.slice_bounds-work-end-2
-slice_bounds-work-end-2 c = let v = c in back_fits work _ (fit v).0 (worked v) v.variances.auto.1.1.1.1.0
+slice_bounds-work-end-2 c = let v = c.before in back_fits work _ (fit v.before.before).0 (worked v) v.variances.auto.1.1.1.1.0
 
 pub slice_bounds-finish-end : goal.slice_bounds-finish-end
-slice_bounds-finish-end c = let v = c in back_is work _ (fit v).0 (worked v) v.variances.auto.1.1.1.1.0
+slice_bounds-finish-end c = let v = c.before.before in back_is work _ (fit v.before.before).0 (worked v) v.variances.auto.1.1.1.1.0
 
 pub finish-requires : goal.finish-requires
 finish-requires c =
-    rw (← back_is work _ (fit c).0 (worked c) c.variances.auto.1.1.1.1.0) (fit c).1
+    let v = c.before.before.before in
+    rw (← back_is work _ (fit v.before.before).0 (worked v) v.variances.auto.1.1.1.1.0) (fit v.before.before).1
 
 pub returns : goal.returns
 unfolding transition_outcome
 returns c =
-    let a = (entry c).args in
+    let v = c.before.before.before.before.before.before in
+    let e = v.before.before in
+    let a = (entry e.before.before).args in
     let all = variances_of a.alpha a.times.now a.sigmas.now a.time-step 0 in
-    let w = values_are work _ (fit c).0 (worked c) c.variances.auto.1.1.1.1.0 ∙ c.variances.ensures ∙ ap all (sym (lent_is work _ (fit c).0)) in
-    let f = c.finish.ensures in
-    rw (let_through _ (finishing_list (all a.steps)) c.in_default.is (rules c), ← w) (f.0, (f.1, ap answer_number f.0))
+    let w = values_are work _ (fit e).0 (worked v) v.variances.auto.1.1.1.1.0 ∙ v.variances.ensures ∙ ap all (sym (lent_is work _ (fit e).0)) in
+    let f = c.before.before.finish.ensures in
+    rw (let_through _ (finishing_list (all a.steps)) e.in_default.is (rules e.before.before), ← w) (f.0, (f.1, ap answer_number f.0))

@@ -45,25 +45,25 @@ pub overflow_add-c : goal.overflow_add-c
 overflow_add-c c = at c_fits c
 
 pub overflow_mul-result : goal.overflow_mul-result
-overflow_mul-result c = Fits-le (le-add_right (doubled c) 1) (at twice_fits c 1 (lit≤ tt))
+overflow_mul-result c = Fits-le (le-add_right (doubled c.before) 1) (at twice_fits c.before 1 (lit≤ tt))
 
 pub overflow_add-result : goal.overflow_add-result
-overflow_add-result c = at twice_fits c 1 (lit≤ tt)
+overflow_add-result c = at twice_fits c.before 1 (lit≤ tt)
 
 pub overflow_mul-result-then-want-have-2 : goal.overflow_mul-result-then-want-have-2
-overflow_mul-result-then-want-have-2 c = Fits-le (le-add_right (doubled c) 1) (at twice_fits c 1 (lit≤ tt))
+overflow_mul-result-then-want-have-2 c = Fits-le (le-add_right (doubled c.before.before) 1) (at twice_fits c.before.before 1 (lit≤ tt))
 
 pub overflow_mul-result-else-want-have-2 : goal.overflow_mul-result-else-want-have-2
-overflow_mul-result-else-want-have-2 c = Fits-le (le-add_right (doubled c) 1) (at twice_fits c 1 (lit≤ tt))
+overflow_mul-result-else-want-have-2 c = Fits-le (le-add_right (doubled c.before.before) 1) (at twice_fits c.before.before 1 (lit≤ tt))
 
 pub overflow_sub-result : goal.overflow_sub-result
-overflow_sub-result c = at c_pos c
+overflow_sub-result c = at c_pos c.before.before
 
 pub returns-then-want-have : goal.returns-then-want-have
-returns-then-want-have c = at less_sticky c c.if-want-have.true
+returns-then-want-have c = at less_sticky c.before c.if-want-have.true
 
 pub returns-then-want-have-2 : goal.returns-then-want-have-2
-returns-then-want-have-2 c = at equal_sticky c c.if-want-have-2.true
+returns-then-want-have-2 c = at equal_sticky c.before.before c.if-want-have-2.true
 
 pub returns-else-want-have-2 : goal.returns-else-want-have-2
-returns-else-want-have-2 c = at more_sticky c (lt_of_le-ne c.if-want-have.false (λ e. c.if-want-have-2.false (sym e)))
+returns-else-want-have-2 c = at more_sticky c.before.before (lt_of_le-ne c.before.if-want-have.false (λ e. c.if-want-have-2.false (sym e)))

@@ -5,15 +5,16 @@ use Rattle.ieee_chains.proofs.fixed.fixed_last.Goals as goal
 
 pub overflow_add-v : goal.overflow_add-v
 overflow_add-v c =
-    upper_fits c.args.a c.args.y c.args.c c.product-v.result.hi c.ranges.y.fits c.product-v.ensures.0 c.requires.1
+    let P = c.before in
+    upper_fits P.before.args.a P.before.args.y P.before.args.c P.product-v.result.hi P.before.ranges.y.fits P.product-v.ensures.0 P.before.requires.1
 
 -- what the laws of the sum are given
 module _ (c : goal.After-mark) where
   abbrev P : goal.After-product-v
-  P = c
+  P = c.before.before
 
   abbrev S : goal.Start
-  S = P
+  S = P.before
 
 pub packed-requires : goal.packed-requires
 packed-requires c =
@@ -22,6 +23,7 @@ packed-requires c =
 
 pub returns : goal.returns
 returns r =
+    let c = r.before in
     λ x z k A Z C.
     r.packed.ensures
-    ∙ sum_is (S r).args.a (S r).args.y (S r).args.c (P r).product-v.result.hi (P r).product-v.result.lo r.mark.result (S r).ranges.y.fits (P r).product-v.ensures.0 (P r).product-v.ensures.1 r.mark.ensures (S r).requires.0 (S r).requires.1 (S r).args.places x z k (S r).requires.2 A Z C
+    ∙ sum_is (S c).args.a (S c).args.y (S c).args.c (P c).product-v.result.hi (P c).product-v.result.lo c.mark.result (S c).ranges.y.fits (P c).product-v.ensures.0 (P c).product-v.ensures.1 c.mark.ensures (S c).requires.0 (S c).requires.1 (S c).args.places x z k (S c).requires.2 A Z C

@@ -8,4 +8,4 @@ use Rattle.ieee_chains.proofs.fixed.fixed_of.Goals as goal
 
 -- what owning an `f64` tells is that the format holds it
 pub returns : goal.returns
-returns c = (fixed_is c.args.x (subst T (sym c.well-formed.0.1) tt) c.requires.1 c.requires.2, mod-lt _ (pow_pos 64))
+returns c = (fixed_is c.args.x (subst T (sym c.well_formed.0.1) tt) c.requires.1 c.requires.2, mod-lt _ (pow_pos 64))

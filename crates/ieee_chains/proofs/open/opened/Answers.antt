@@ -12,7 +12,7 @@ use Rattle.ieee_chains.proofs.open.opened.Goals as goal
 pub returns : goal.returns
 returns c =
     let x = c.args.x in
-    (open_is x (subst T (sym c.well-formed.0.1) tt) c.requires.1 c.requires.2, open_digits (to_bits binary64 x), back (field x) c.requires.1)
+    (open_is x (subst T (sym c.well_formed.0.1) tt) c.requires.1 c.requires.2, open_digits (to_bits binary64 x), back (field x) c.requires.1)
   where
     back : (f : ℕ) → 1 ≤ f → f - 1 + 1 ≡ f
     back f h = omega arith

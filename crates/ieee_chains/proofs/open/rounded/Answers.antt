@@ -15,11 +15,12 @@ kept-k-requires c = (over c, c.requires.1, c.requires.2)
 
 pub returns : goal.returns
 returns c =
-    let h = c.args.h in
-    let d = c.args.s in
-    let p = c.args.place in
-    let b = bounds (up_of h) p (up_range h d p (over c) c.requires.1 c.requires.2 c.requires.3).0 (up_most h d p (over c) c.requires.1 c.requires.2 c.requires.3 c.requires.0) c.requires.3 in
-    rw (c.kept-k.ensures.0, c.kept-k.ensures.1) (settled h d p (over c) c.requires.1 c.requires.2 c.requires.3, settled_digits h d p (over c) c.requires.1 c.requires.2 c.requires.3, b.0, b.1)
+    let s = c.before.before in
+    let h = s.args.h in
+    let d = s.args.s in
+    let p = s.args.place in
+    let b = bounds (up_of h) p (up_range h d p (over s) s.requires.1 s.requires.2 s.requires.3).0 (up_most h d p (over s) s.requires.1 s.requires.2 s.requires.3 s.requires.0) s.requires.3 in
+    rw (c.before.kept-k.ensures.0, c.before.kept-k.ensures.1) (settled h d p (over s) s.requires.1 s.requires.2 s.requires.3, settled_digits h d p (over s) s.requires.1 s.requires.2 s.requires.3, b.0, b.1)
   where
     bounds : (u p : ℕ) → 1 ≤ u → u ≤ 8 → 62 ≤ p → (p ≤ p - u + 8) × (p - u + 1 ≤ p)
     bounds u p a b c = (omega arith, omega arith)

@@ -17,13 +17,13 @@ use Rattle.ieee_chains.proofs.open.step.Goals as goal
 -- what the third operand's field says of its exponent
 module _ (P : goal.After-product-v) where
   abbrev s : goal.Start
-  s = P
+  s = P.before.before
 
   abbrev k : ℕ
-  k = P.opened-o.result.sig
+  k = P.before.opened-o.result.sig
 
   abbrev l : ℕ
-  l = P.opened-o.result.exp
+  l = P.before.opened-o.result.exp
 
   abbrev vh : ℕ
   vh = P.product-v.result.hi
@@ -32,7 +32,7 @@ module _ (P : goal.After-product-v) where
   vl = P.product-v.result.lo
 
   l_le : l ≤ 2000
-  l_le = go l (field s.args.c) P.opened-o.ensures.2 s.pre.6
+  l_le = go l (field s.args.c) P.before.opened-o.ensures.2 s.pre.6
     where
       go : (l f : ℕ) → l + 1 ≡ f → f ≤ 2000 → l ≤ 2000
       go l f e h = omega arith
@@ -47,7 +47,7 @@ module _ (P : goal.After-product-v) where
   operands = record {
     first = s.pre.0;
     second = s.pre.1;
-    third = P.opened-o.ensures.1;
+    third = P.before.opened-o.ensures.1;
     first_place = s.pre.2;
     second_place = s.pre.3;
     third_place = l_le;
@@ -55,40 +55,44 @@ module _ (P : goal.After-product-v) where
 
   -- what the step is asked for
   third : fused_of (value_of s.args.q s.args.i) (value_of s.args.y s.args.j) (value_of k l) ≡ fused_of (value_of s.args.q s.args.i) (value_of s.args.y s.args.j) s.args.c
-  third = ap (fused_of (value_of s.args.q s.args.i) (value_of s.args.y s.args.j)) P.opened-o.ensures.0
+  third = ap (fused_of (value_of s.args.q s.args.i) (value_of s.args.y s.args.j)) P.before.opened-o.ensures.0
 
   apart : l + 1027 - (s.args.i + s.args.j) < 64
-  apart = go l s.args.i s.args.j (field s.args.c) P.opened-o.ensures.2 s.pre.7
+  apart = go l s.args.i s.args.j (field s.args.c) P.before.opened-o.ensures.2 s.pre.7
     where
       go : (l i j f : ℕ) → l + 1 ≡ f → f + 1026 < i + j + 64 → l + 1027 - (i + j) < 64
       go l i j f e h = omega arith
 
   close : s.args.i + s.args.j < l + 1091
-  close = go l s.args.i s.args.j (field s.args.c) P.opened-o.ensures.2 s.pre.8
+  close = go l s.args.i s.args.j (field s.args.c) P.before.opened-o.ensures.2 s.pre.8
     where
       go : (l i j f : ℕ) → l + 1 ≡ f → i + j < f + 1090 → i + j < l + 1091
       go l i j f e h = omega arith
 
 pub jam_below-w-requires : goal.jam_below-w-requires
-jam_below-w-requires c = apart c
+jam_below-w-requires c = apart c.before.before
 
 -- the sum at the place of the third operand
-near : (c : goal.After-jam_below-w) → (2 ^ 54 ≤ k c * 4 + c.jam_below-w.result.hi) × (k c * 4 + c.jam_below-w.result.hi < 2 ^ 62)
+near : (c : goal.After-jam_below-w) → (2 ^ 54 ≤ k c.before.before.before * 4 + c.jam_below-w.result.hi) × (k c.before.before.before * 4 + c.jam_below-w.result.hi < 2 ^ 62)
 near c =
-    near_bounds c.args.q c.args.i c.args.y c.args.j (k c) (l c) (operands c) (vh c) (vl c) (vl_lt c) (v_is c)
-    c.if-p-l.true c.jam_below-w.result.hi c.jam_below-w.result.lo c.jam_below-w.ensures.0
+    let P = c.before.before.before in
+    let s = P.before.before in
+    near_bounds s.args.q s.args.i s.args.y s.args.j (k P) (l P) (operands P) (vh P) (vl P) (vl_lt P) (v_is P)
+    c.before.if-p-l.true c.jam_below-w.result.hi c.jam_below-w.result.lo c.jam_below-w.ensures.0
 
 pub overflow_add-o : goal.overflow_add-o
-overflow_add-o c = go (near c).1
+overflow_add-o c = go (near c.before.before).1
   where
     go : {n : ℕ} → n < 2 ^ 62 → Fits w64 n
     go {n} h = omega arith
 
 pub rounded-requires : goal.rounded-requires
 rounded-requires c =
-    let b = near c in
-    let f = go (l c) (field c.args.c) c.opened-o.ensures.2 c.requires.5 c.requires.6 in
-    (b.0, b.1, c.jam_below-w.ensures.1, f.0, f.1)
+    let n = c.before.before.before in
+    let b = near n in
+    let P = n.before.before.before in
+    let f = go (l P) (field P.before.before.args.c) P.before.opened-o.ensures.2 P.before.before.requires.5 P.before.before.requires.6 in
+    (b.0, b.1, n.jam_below-w.ensures.1, f.0, f.1)
   where
     go : (l f : ℕ) → l + 1 ≡ f → 62 ≤ f → f ≤ 2000 → (62 ≤ l + 8) × (l + 8 < 2 ^ 13)
     go l f e h k = (omega arith, omega arith)
@@ -102,17 +106,22 @@ low_of_lt P = mod-lt (k P * 4 * 2 ^ (64 - ((s P).args.i + (s P).args.j - (l P + 
 
 pub plus-s-requires : goal.plus-s-requires
 plus-s-requires c =
-    far_room c.args.q c.args.i c.args.y c.args.j (k c) (l c) (operands c) (vh c) (vl c) (vl_lt c) (v_is c) c.if-p-l.false (close c) (low_of_lt c)
+    let P = c.before.before.before.before in
+    let s = P.before.before in
+    far_room s.args.q s.args.i s.args.y s.args.j (k P) (l P) (operands P) (vh P) (vl P) (vl_lt P) (v_is P) c.before.before.if-p-l.false (close P) (low_of_lt P)
 
 pub jam_below-w-requires-else-p-l : goal.jam_below-w-requires-else-p-l
 jam_below-w-requires-else-p-l c = lit< tt
 
 pub rounded-requires-else-p-l : goal.rounded-requires-else-p-l
 rounded-requires-else-p-l c =
-    let h = c.if-p-l.false in
-    let b = far_bounds c.args.q c.args.i c.args.y c.args.j (k c) (l c) (operands c) (vh c) (vl c) (vl_lt c) (v_is c)
-    h (close c) c.plus-s.result.hi c.plus-s.result.lo (low_of_lt c) c.plus-s.ensures c.jam_below-w-else-p-l.result.hi c.jam_below-w-else-p-l.result.lo c.jam_below-w-else-p-l.ensures.0 c.jam_below-w-else-p-l.ensures.1 in
-    let f = go c.args.i c.args.j (l c) (field c.args.c) c.opened-o.ensures.2 c.requires.5 c.requires.2 c.requires.3 h in
+    let t = c.before in
+    let P = t.before.before.before.before.before in
+    let s = P.before.before in
+    let h = t.before.before.before.if-p-l.false in
+    let b = far_bounds s.args.q s.args.i s.args.y s.args.j (k P) (l P) (operands P) (vh P) (vl P) (vl_lt P) (v_is P)
+    h (close P) t.plus-s.result.hi t.plus-s.result.lo (low_of_lt P) t.plus-s.ensures c.jam_below-w-else-p-l.result.hi c.jam_below-w-else-p-l.result.lo c.jam_below-w-else-p-l.ensures.0 c.jam_below-w-else-p-l.ensures.1 in
+    let f = go s.args.i s.args.j (l P) (field s.args.c) P.before.opened-o.ensures.2 s.requires.5 s.requires.2 s.requires.3 h in
     (b.0, b.1, c.jam_below-w-else-p-l.ensures.1, f.0, f.1)
   where
     go : (i j l f : ℕ) → l + 1 ≡ f → 62 ≤ f → i ≤ 2000 → j ≤ 2000 → l + 1027 < i + j → (62 ≤ i + j - 1019) × (i + j - 1019 < 2 ^ 13)
@@ -120,14 +129,17 @@ rounded-requires-else-p-l c =
 
 pub returns-then-p-l : goal.returns-then-p-l
 returns-then-p-l c =
+    let n = c.before.before.before.before in
+    let P = n.before.before.before in
+    let s = P.before.before in
     let r = c.rounded in (
       r.ensures.0
-          ∙ near_step c.args.q c.args.i c.args.y c.args.j (k c) (l c) (operands c) (vh c) (vl c) (vl_lt c) (v_is c)
-          c.if-p-l.true c.jam_below-w.result.hi c.jam_below-w.result.lo c.jam_below-w.ensures.0
-          ∙ third c,
+          ∙ near_step s.args.q s.args.i s.args.y s.args.j (k P) (l P) (operands P) (vh P) (vl P) (vl_lt P) (v_is P)
+          n.before.if-p-l.true n.jam_below-w.result.hi n.jam_below-w.result.lo n.jam_below-w.ensures.0
+          ∙ third P,
       r.ensures.1,
-      low (l c) r.result.exp (field c.args.c) c.opened-o.ensures.2 r.ensures.2,
-      high (l c) r.result.exp (field c.args.c) (c.args.i + c.args.j - 1020) c.opened-o.ensures.2 r.ensures.3,
+      low (l P) r.result.exp (field s.args.c) P.before.opened-o.ensures.2 r.ensures.2,
+      high (l P) r.result.exp (field s.args.c) (s.args.i + s.args.j - 1020) P.before.opened-o.ensures.2 r.ensures.3,
     )
   where
     low : (l x f : ℕ) → l + 1 ≡ f → l + 8 ≤ x + 8 → f ≤ x + 1
@@ -138,15 +150,19 @@ returns-then-p-l c =
 
 pub returns-else-p-l : goal.returns-else-p-l
 returns-else-p-l c =
+    let n = c.before in
+    let t = n.before in
+    let P = t.before.before.before.before.before in
+    let s = P.before.before in
     let r = c.rounded-else-p-l in
-    let h = c.if-p-l.false in (
+    let h = t.before.before.before.if-p-l.false in (
       r.ensures.0
-          ∙ far_step c.args.q c.args.i c.args.y c.args.j (k c) (l c) (operands c) (vh c) (vl c) (vl_lt c) (v_is c)
-          h (close c) c.plus-s.result.hi c.plus-s.result.lo (low_of_lt c) c.plus-s.ensures c.jam_below-w-else-p-l.result.hi c.jam_below-w-else-p-l.result.lo c.jam_below-w-else-p-l.ensures.0 c.jam_below-w-else-p-l.ensures.1
-          ∙ third c,
+          ∙ far_step s.args.q s.args.i s.args.y s.args.j (k P) (l P) (operands P) (vh P) (vl P) (vl_lt P) (v_is P)
+          h (close P) t.plus-s.result.hi t.plus-s.result.lo (low_of_lt P) t.plus-s.ensures n.jam_below-w-else-p-l.result.hi n.jam_below-w-else-p-l.result.lo n.jam_below-w-else-p-l.ensures.0 n.jam_below-w-else-p-l.ensures.1
+          ∙ third P,
       r.ensures.1,
-      low c.args.i c.args.j (l c) r.result.exp (field c.args.c) c.opened-o.ensures.2 h r.ensures.2,
-      high (c.args.i + c.args.j) r.result.exp (field c.args.c) r.ensures.3,
+      low s.args.i s.args.j (l P) r.result.exp (field s.args.c) P.before.opened-o.ensures.2 h r.ensures.2,
+      high (s.args.i + s.args.j) r.result.exp (field s.args.c) r.ensures.3,
     )
   where
     low : (i j l x f : ℕ) → l + 1 ≡ f → l + 1027 < i + j → i + j - 1019 ≤ x + 8 → f ≤ x + 1

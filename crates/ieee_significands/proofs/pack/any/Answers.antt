@@ -14,30 +14,36 @@ abbrev number : goal.Start → ℕ
 number s = words s.args.hi s.args.lo * 2 ^ s.args.exp
 
 -- the digits below the unit are those that rounding drops
-drops_at : (c : goal.After-unit_of-unit) → Drops binary64 1203 (number c) c.unit_of-unit.result
+drops_at : (c : goal.After-unit_of-unit) → Drops binary64 1203 (number c.before.before.before) c.unit_of-unit.result
 drops_at c =
-    let w = c.width-n in
-    subst (λ (t : ℕ). Drops binary64 1203 (number c) t) (sym c.unit_of-unit.ensures) (drops (words c.args.hi c.args.lo) w.result c.args.exp w.ensures c.if-n-eq0.false)
+    let s = c.before.before.before in
+    let w = c.before.before.width-n in
+    subst (λ (t : ℕ). Drops binary64 1203 (number s) t) (sym c.unit_of-unit.ensures) (drops (words s.args.hi s.args.lo) w.result s.args.exp w.ensures c.before.if-n-eq0.false)
 
 pub returns-then-n-eq0 : goal.returns-then-n-eq0
 returns-then-n-eq0 c =
-    c.assemble.ensures ∙ rounded_zero c.args.sign (words c.args.hi c.args.lo) c.width-n.result c.args.exp c.width-n.ensures c.if-n-eq0.true
+    let s = c.before.before.before in
+    c.assemble.ensures ∙ rounded_zero s.args.sign (words s.args.hi s.args.lo) c.before.before.width-n.result s.args.exp c.before.before.width-n.ensures c.before.if-n-eq0.true
 
 pub overflow_add-n : goal.overflow_add-n
 overflow_add-n c =
-    let h : c.width-n.result ≤ 128 = width_le (words c.args.hi c.args.lo) c.width-n.result 128 c.width-n.ensures (digits_lt c.ranges.hi.fits c.ranges.lo.fits) in
-    omega (arith, c.requires.1)
+    let s = c.before.before in
+    let h : c.before.width-n.result ≤ 128 = width_le (words s.args.hi s.args.lo) c.before.width-n.result 128 c.before.width-n.ensures (digits_lt s.ranges.hi.fits s.ranges.lo.fits) in
+    omega (arith, s.requires.1)
 
 pub kept-requires : goal.kept-requires
 kept-requires c =
-    let m = words c.args.hi c.args.lo in
-    let w = c.width-n in
-    (c.requires.0, c.requires.1, not_zero m w.result w.ensures c.if-n-eq0.false, (drops_at c).under)
+    let s = c.before.before.before in
+    let m = words s.args.hi s.args.lo in
+    let w = c.before.before.width-n in
+    (s.requires.0, s.requires.1, not_zero m w.result w.ensures c.before.if-n-eq0.false, (drops_at c).under)
 
 pub assemble-requires-2 : goal.assemble-requires-2
 assemble-requires-2 c =
-    subst (λ (q : ℕ). Whole q (c.unit_of-unit.result - 1203)) (sym (c.nearest-q.ensures ∙ c.kept.ensures.1)) (whole (number c) c.unit_of-unit.result (drops_at c))
+    let t = c.before.before in
+    subst (λ (q : ℕ). Whole q (t.unit_of-unit.result - 1203)) (sym (c.nearest-q.ensures ∙ c.before.kept.ensures.1)) (whole (number t.before.before.before) t.unit_of-unit.result (drops_at t))
 
 pub returns : goal.returns
 returns c =
-    c.assemble-2.ensures ∙ rounded c.args.sign (number c) c.unit_of-unit.result c.nearest-q.result (drops_at c) (c.nearest-q.ensures ∙ c.kept.ensures.1)
+    let t = c.before.before.before in
+    c.assemble-2.ensures ∙ rounded t.before.before.before.args.sign (number t.before.before.before) t.unit_of-unit.result c.before.nearest-q.result (drops_at t) (c.before.nearest-q.ensures ∙ c.before.before.kept.ensures.1)

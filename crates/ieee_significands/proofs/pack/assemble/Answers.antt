@@ -18,20 +18,24 @@ no h = subst (λ (a : Bool). T (not a)) (sym h) tt
 
 -- the pattern, of the magnitude and the sign
 abbrev pattern : goal.After-sign_bit → ℕ
-pattern c = c.magnitude.result + c.sign_bit.result
+pattern c = c.before.magnitude.result + c.sign_bit.result
 
-pattern_of_lem : (c : goal.After-sign_bit) → pattern c ≡ to_bits binary64 (units binary64 c.args.sign c.args.q c.args.k)
+pattern_of_lem : (c : goal.After-sign_bit) → pattern c ≡ to_bits binary64 (units binary64 c.before.before.args.sign c.before.before.args.q c.before.before.args.k)
 pattern_of_lem c =
-    with_sign c.args.sign c.args.q c.args.k c.magnitude.result c.sign_bit.result c.requires c.magnitude.ensures c.sign_bit.ensures
+    let s = c.before.before in
+    with_sign s.args.sign s.args.q s.args.k c.before.magnitude.result c.sign_bit.result s.requires c.before.magnitude.ensures c.sign_bit.ensures
 
 pub overflow_add-result : goal.overflow_add-result
 overflow_add-result c =
-    over (magnitude_lt c.args.q c.args.k c.magnitude.result c.requires c.magnitude.ensures) (sign_le c.args.sign c.sign_bit.result c.sign_bit.ensures)
+    let s = c.before.before in
+    over (magnitude_lt s.args.q s.args.k c.before.magnitude.result s.requires c.before.magnitude.ensures) (sign_le s.args.sign c.sign_bit.result c.sign_bit.ensures)
 
 pub float_from_bits-result : goal.float_from_bits-result
 float_from_bits-result c =
-    no (pattern_no_nan c.args.sign c.args.q c.args.k (pattern c) c.requires (pattern_of_lem c))
+    let s = c.before.before in
+    no (pattern_no_nan s.args.sign s.args.q s.args.k (pattern c) s.requires (pattern_of_lem c))
 
 pub returns : goal.returns
 returns c =
-    pattern_is c.args.sign c.args.q c.args.k (pattern c) c.requires (pattern_of_lem c)
+    let s = c.before.before in
+    pattern_is s.args.sign s.args.q s.args.k (pattern c) s.requires (pattern_of_lem c)

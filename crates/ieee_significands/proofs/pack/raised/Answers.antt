@@ -18,8 +18,8 @@ far s = go s.args.exp s.requires.2
     go : (e : ℕ) → 1203 ≤ e → 1255 ≤ e + 64
     go e h = omega arith
 
-digits : (c : goal.After-jam_far) (j : ℕ) → 2 ^ j ≤ c.args.hi → c.args.hi < 2 ^ suc j → (2 ^ j ≤ c.jam_far.result) × (c.jam_far.result < 2 ^ suc j)
-digits c = let s = c in word_digits s.args.hi s.args.lo s.args.exp c.jam_far.result s.ranges.lo.fits s.requires.0 s.requires.2 c.jam_far.ensures
+digits : (c : goal.After-jam_far) (j : ℕ) → 2 ^ j ≤ c.before.args.hi → c.before.args.hi < 2 ^ suc j → (2 ^ j ≤ c.jam_far.result) × (c.jam_far.result < 2 ^ suc j)
+digits c = let s = c.before in word_digits s.args.hi s.args.lo s.args.exp c.jam_far.result s.ranges.lo.fits s.requires.0 s.requires.2 c.jam_far.ensures
 
 pub overflow_cast-up : goal.overflow_cast-up
 overflow_cast-up c = zeros_fit c.args.hi
@@ -29,19 +29,23 @@ overflow_sub-up c = zeros_pos c.args.hi c.args.hi (c.args.exp + 64) (some c) c.r
 
 pub overflow_shl-jam_far : goal.overflow_shl-jam_far
 overflow_shl-jam_far c =
-    let u = up_small c.args.hi c.jam_far.result (c.args.exp + 64) (some c) c.requires.1 (digits c) (far c) in
+    let s = c.before in
+    let u = up_small s.args.hi c.jam_far.result (s.args.exp + 64) (some s) s.requires.1 (digits c) (far s) in
     omega arith
 
 pub overflow_sub-exp : goal.overflow_sub-exp
 overflow_sub-exp c =
-    let u = up_small c.args.hi c.jam_far.result (c.args.exp + 64) (some c) c.requires.1 (digits c) (far c) in
+    let s = c.before in
+    let u = up_small s.args.hi c.jam_far.result (s.args.exp + 64) (some s) s.requires.1 (digits c) (far s) in
     omega arith
 
 pub full-requires : goal.full-requires
-full-requires c = let s = c in raised_full s.args.hi c.jam_far.result (s.args.exp + 64) (some s) s.requires.1 (digits c) (far s)
+full-requires c = let s = c.before in raised_full s.args.hi c.jam_far.result (s.args.exp + 64) (some s) s.requires.1 (digits c) (far s)
 
 pub returns : goal.returns
 returns c =
+    let j = c.before in
+    let s = j.before in
     c.full.ensures
-    ∙ ap (λ (x : ℕ). round binary64 c.args.sign x (2 ^ 2277)) (raised_value c.args.hi c.jam_far.result (c.args.exp + 64) (some c) c.requires.1 (digits c) (far c))
-    ∙ word_rounds c.args.hi c.args.lo c.args.exp c.jam_far.result c.ranges.lo.fits c.requires.0 c.requires.2 c.jam_far.ensures c.args.sign
+    ∙ ap (λ (x : ℕ). round binary64 s.args.sign x (2 ^ 2277)) (raised_value s.args.hi j.jam_far.result (s.args.exp + 64) (some s) s.requires.1 (digits j) (far s))
+    ∙ word_rounds s.args.hi s.args.lo s.args.exp j.jam_far.result s.ranges.lo.fits s.requires.0 s.requires.2 j.jam_far.ensures s.args.sign

@@ -9,4 +9,4 @@ float_to_bits-bits c = finite_no_nan c.args.x c.requires
 
 -- what owning an `f64` tells is that the format holds it
 pub returns : goal.returns
-returns c = fields c.args.x (subst T (sym c.well-formed.0.1) tt) c.requires
+returns c = fields c.args.x (subst T (sym c.well_formed.0.1) tt) c.requires

@@ -13,7 +13,7 @@ use Rattle.math_elementary.proofs.Splits.{low_split, high_split, pattern_no_nan}
 use Rattle.math_elementary.proofs.logarithm.split.Goals as goal
 
 held : (c : goal.Start) → T (fits binary64 c.args.x)
-held c = subst T (sym c.well-formed.0.1) tt
+held c = subst T (sym c.well_formed.0.1) tt
 
 module _ (c : goal.After-widen-w) where
   abbrev d : ℕ
@@ -33,32 +33,34 @@ pub widen-w-requires : goal.widen-w-requires
 widen-w-requires c = c.requires
 
 pub overflow_cast-size : goal.overflow_cast-size
-overflow_cast-size c = d_fits c
+overflow_cast-size c = d_fits c.before
 
 pub overflow_add-result : goal.overflow_add-result
-overflow_add-result c = omega (arith, c.widen-w.ensures.0.below)
+overflow_add-result c = omega (arith, c.before.before.widen-w.ensures.0.below)
 
 pub float_from_bits-result : goal.float_from_bits-result
-float_from_bits-result c = let w = c.widen-w.ensures.0 in pattern_no_nan c.widen-w.result.full 1022 w.from w.below (omega arith)
+float_from_bits-result c = let w = c.before.before.widen-w.ensures.0 in pattern_no_nan c.before.before.widen-w.result.full 1022 w.from w.below (omega arith)
 
 pub overflow_sub-result : goal.overflow_sub-result
-overflow_sub-result c = rw (d_is c) (less_fits c 1075 (omega arith))
+overflow_sub-result c = rw (d_is c.before.before) (less_fits c.before.before 1075 (omega arith))
 
 pub overflow_add-result-else-full-lt6755399441055744 : goal.overflow_add-result-else-full-lt6755399441055744
-overflow_add-result-else-full-lt6755399441055744 c = omega (arith, c.widen-w.ensures.0.below)
+overflow_add-result-else-full-lt6755399441055744 c = omega (arith, c.before.before.widen-w.ensures.0.below)
 
 pub float_from_bits-result-else-full-lt6755399441055744 : goal.float_from_bits-result-else-full-lt6755399441055744
-float_from_bits-result-else-full-lt6755399441055744 c = let w = c.widen-w.ensures.0 in pattern_no_nan c.widen-w.result.full 1021 w.from w.below (omega arith)
+float_from_bits-result-else-full-lt6755399441055744 c = let w = c.before.before.widen-w.ensures.0 in pattern_no_nan c.before.before.widen-w.result.full 1021 w.from w.below (omega arith)
 
 pub overflow_sub-result-else-full-lt6755399441055744 : goal.overflow_sub-result-else-full-lt6755399441055744
-overflow_sub-result-else-full-lt6755399441055744 c = rw (d_is c) (less_fits c 1074 (omega arith))
+overflow_sub-result-else-full-lt6755399441055744 c = rw (d_is c.before.before) (less_fits c.before.before 1074 (omega arith))
 
 pub returns-then-full-lt6755399441055744 : goal.returns-then-full-lt6755399441055744
 returns-then-full-lt6755399441055744 c =
-    let s = low_split c.args.x c.widen-w.result.full (d c) (held c) c.requires c.widen-w.ensures.0 c.if-full-lt6755399441055744.true in
-    (s.0, simp (d_is c, to_z-of_z w32 _ (less_fits c 1075 (omega arith))) s.1, simp (d_is c, to_z-of_z w32 _ (less_fits c 1075 (omega arith))) (omega (arith, c.widen-w.ensures.1, mag_less (d c) 1075)))
+    let b = c.before.before in
+    let s = low_split b.before.args.x b.widen-w.result.full (d b) (held b.before) b.before.requires b.widen-w.ensures.0 c.if-full-lt6755399441055744.true in
+    (s.0, simp (d_is b, to_z-of_z w32 _ (less_fits b 1075 (omega arith))) s.1, simp (d_is b, to_z-of_z w32 _ (less_fits b 1075 (omega arith))) (omega (arith, b.widen-w.ensures.1, mag_less (d b) 1075)))
 
 pub returns-else-full-lt6755399441055744 : goal.returns-else-full-lt6755399441055744
 returns-else-full-lt6755399441055744 c =
-    let s = high_split c.args.x c.widen-w.result.full (d c) (held c) c.requires c.widen-w.ensures.0 c.if-full-lt6755399441055744.false in
-    (s.0, simp (d_is c, to_z-of_z w32 _ (less_fits c 1074 (omega arith))) s.1, simp (d_is c, to_z-of_z w32 _ (less_fits c 1074 (omega arith))) (omega (arith, c.widen-w.ensures.1, mag_less (d c) 1074)))
+    let b = c.before.before in
+    let s = high_split b.before.args.x b.widen-w.result.full (d b) (held b.before) b.before.requires b.widen-w.ensures.0 c.if-full-lt6755399441055744.false in
+    (s.0, simp (d_is b, to_z-of_z w32 _ (less_fits b 1074 (omega arith))) s.1, simp (d_is b, to_z-of_z w32 _ (less_fits b 1074 (omega arith))) (omega (arith, b.widen-w.ensures.1, mag_less (d b) 1074)))

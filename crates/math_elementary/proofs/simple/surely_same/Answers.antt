@@ -9,4 +9,4 @@ pub returns-then-x-y : goal.returns-then-x-y
 returns-then-x-y c = λ e. absurd (true≢false (sym e))
 
 pub returns : goal.returns
-returns c = λ e. same_tested _ _ (subst T (sym c.well-formed.0.1) tt) (subst T (sym c.well-formed.1.0.1) tt) c.if-x-y.false e
+returns c = λ e. same_tested _ _ (subst T (sym c.well_formed.0.1) tt) (subst T (sym c.well_formed.1.0.1) tt) c.if-x-y.false e

@@ -8,22 +8,22 @@ use Rattle.math_elementary.proofs.Ints.{half_mag, mag_add, mag_sub1}
 use Rattle.math_exponential.proofs.exponential.by_halves.Goals as goal
 
 held : (c : goal.Start) → T (fits binary64 c.args.p)
-held c = subst T (sym c.well-formed.0.1) tt
+held c = subst T (sym c.well_formed.0.1) tt
 
 module _ (c : goal.After-truncating_f64_to_i64-q) where
   abbrev p : Float
-  p = c.args.p
+  p = c.before.args.p
 
   -- twice p, cut
   abbrev q : ℤ
   q = signed (sgn p) (halves p)
 
   q_mag : mag q ≤ 4096
-  q_mag = omega (arith, signed_mag (sgn p) (halves p), halves_le p c.requires)
+  q_mag = omega (arith, signed_mag (sgn p) (halves p), halves_le p c.before.requires)
 
   long : to_z w64 (of_z w64 c.truncating_f64_to_i64-q.result) ≡ q
   long =
-      ap (λ (z : ℤ). to_z w64 (of_z w64 z)) (c.truncating_f64_to_i64-q.ensures ∙ doubled_cut p (held c) c.requires)
+      ap (λ (z : ℤ). to_z w64 (of_z w64 z)) (c.truncating_f64_to_i64-q.ensures ∙ doubled_cut p (held c.before) c.before.requires)
       ∙ to_z-of_z w64 q (record { sfits = omega (arith, q_mag) })
 
   short : to_z w32 (of_z w32 q) ≡ q
@@ -48,23 +48,25 @@ pub overflow_cast-q : goal.overflow_cast-q
 overflow_cast-q c = rw (long c) (record { sfits = omega (arith, q_mag c) })
 
 pub overflow_add-result : goal.overflow_add-result
-overflow_add-result c = simp (long c, short c) (more_fits c)
+overflow_add-result c = simp (long c.before, short c.before) (more_fits c.before)
 
 pub nonzero_div-result : goal.nonzero_div-result
-nonzero_div-result c = (omega arith, simp (long c, short c, to_z-of_z w32 _ (more_fits c)) (more_half_fits c))
+nonzero_div-result c = (omega arith, simp (long c.before, short c.before, to_z-of_z w32 _ (more_fits c.before)) (more_half_fits c.before))
 
 pub overflow_sub-result : goal.overflow_sub-result
-overflow_sub-result c = simp (long c, short c) (less_fits c)
+overflow_sub-result c = simp (long c.before, short c.before) (less_fits c.before)
 
 pub nonzero_div-result-else-q-ge0 : goal.nonzero_div-result-else-q-ge0
-nonzero_div-result-else-q-ge0 c = (omega arith, simp (long c, short c, to_z-of_z w32 _ (less_fits c)) (less_half_fits c))
+nonzero_div-result-else-q-ge0 c = (omega arith, simp (long c.before, short c.before, to_z-of_z w32 _ (less_fits c.before)) (less_half_fits c.before))
 
 pub returns-then-q-ge0 : goal.returns-then-q-ge0
 returns-then-q-ge0 c =
-    simp (long c, short c, to_z-of_z w32 _ (more_fits c), to_z-of_z w32 _ (more_half_fits c))
-    (from_above (sgn (p c)) (halves (p c)) (simp (long c, short c) at c.if-q-ge0.true) ∙ sym (nearest_is (p c) c.requires))
+    let b = c.before in
+    simp (long b, short b, to_z-of_z w32 _ (more_fits b), to_z-of_z w32 _ (more_half_fits b))
+    (from_above (sgn (p b)) (halves (p b)) (simp (long b, short b) at c.if-q-ge0.true) ∙ sym (nearest_is (p b) b.before.requires))
 
 pub returns-else-q-ge0 : goal.returns-else-q-ge0
 returns-else-q-ge0 c =
-    simp (long c, short c, to_z-of_z w32 _ (less_fits c), to_z-of_z w32 _ (less_half_fits c))
-    (from_below (sgn (p c)) (halves (p c)) (simp (long c, short c) at c.if-q-ge0.false) ∙ sym (nearest_is (p c) c.requires))
+    let b = c.before in
+    simp (long b, short b, to_z-of_z w32 _ (less_fits b), to_z-of_z w32 _ (less_half_fits b))
+    (from_below (sgn (p b)) (halves (p b)) (simp (long b, short b) at c.if-q-ge0.false) ∙ sym (nearest_is (p b) b.before.requires))

@@ -15,28 +15,29 @@ both x r e = (e, by_rows exp_of exact_cases exact_cases_lem x r e)
 
 pub returns-then-x : goal.returns-then-x
 unfolding exp_of
-returns-then-x c = both _ _ (rw (nan_yes _ c.if-x.true) (is_nan_lem c.args.x c.if-x.true))
+returns-then-x c = both _ _ (rw (nan_yes _ c.if-x.true) (is_nan_lem c.before.args.x c.if-x.true))
 
 pub returns-then-x-2 : goal.returns-then-x-2
 unfolding exp_of div of_bits
-returns-then-x-2 c = both _ _ (rw (nan_no _ c.if-x.false, ← exp_top_is, c.if-x-2.true))
+returns-then-x-2 c = both _ _ (rw (nan_no _ c.before.if-x.false, ← exp_top_is, c.if-x-2.true))
 
 pub returns-then-x-3 : goal.returns-then-x-3
 unfolding exp_of of_bits
-returns-then-x-3 c = both _ _ (rw (nan_no _ c.if-x.false, ← exp_top_is, c.if-x-2.false, ← exp_bottom_is, c.if-x-3.true))
+returns-then-x-3 c = both _ _ (rw (nan_no _ c.before.before.if-x.false, ← exp_top_is, c.before.if-x-2.false, ← exp_bottom_is, c.if-x-3.true))
 
 -- past the three tests
 module _ (c : goal.Else-x-3) where
   abbrev x : Float
-  x = c.args.x
+  x = c.before.before.before.args.x
 
   x_within : within_limits x ≡ true
-  x_within = past_tests x c.if-x.false c.if-x-2.false ∙ ap not c.if-x-3.false
+  x_within = past_tests x c.before.before.if-x.false c.before.if-x-2.false ∙ ap not c.if-x-3.false
 
 pub reduce-d-requires : goal.reduce-d-requires
 reduce-d-requires c = x_within c
 
 pub returns : goal.returns
 returns c =
-    let d = c.reduce-d.ensures in
-    both _ _ (from_parts _ (x_within c) _ _ _ _ d.0 d.1 c.guessed.ensures c.scale.ensures)
+    let b = c.before.before in
+    let d = b.before.reduce-d.ensures in
+    both _ _ (from_parts _ (x_within b.before.before) _ _ _ _ d.0 d.1 b.guessed.ensures c.scale.ensures)

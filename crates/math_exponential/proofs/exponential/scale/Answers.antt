@@ -35,8 +35,9 @@ pub two_to-requires : goal.two_to-requires
 two_to-requires c = simp (whole c, half c) (omega (arith, half_mag c.args.k 2000 c.requires))
 
 pub two_to-requires-2 : goal.two_to-requires-2
-two_to-requires-2 c = simp (whole c, half c, rest c) (omega (arith, rest_mag c.args.k 2000 c.requires))
+two_to-requires-2 c = simp (whole c.before, half c.before, rest c.before) (omega (arith, rest_mag c.before.args.k 2000 c.before.requires))
 
 pub returns : goal.returns
 returns c =
-    rw (c.two_to.ensures, c.two_to-2.ensures, whole c, half c, rest c)
+    let s = c.before.before in
+    rw (c.before.two_to.ensures, c.two_to-2.ensures, whole s, half s, rest s)
