@@ -10,15 +10,15 @@ use Rattle.ieee_significands.proofs.Rounding.{Drops}
 use Rattle.ieee_significands.proofs.pack.any.Goals as goal
 
 -- the number to round, in units of 2 ^ -2277
-abbrev number : goal.Start → ℕ
-number s = words s.args.hi s.args.lo * 2 ^ s.args.exp
+abbrev number : ℕ → ℕ → ℕ → ℕ
+number hi lo exp = words hi lo * 2 ^ exp
 
 -- the digits below the unit are those that rounding drops
-drops_at : (c : goal.After-unit_of-unit) → Drops binary64 1203 (number c.before.before.before) c.unit_of-unit.result
+drops_at : (c : goal.After-unit_of-unit) → Drops binary64 1203 (number c.args.hi c.args.lo c.args.exp) c.unit_of-unit.result
 drops_at c =
     let s = c.before.before.before in
     let w = c.before.before.width-n in
-    subst (λ (t : ℕ). Drops binary64 1203 (number s) t) (sym c.unit_of-unit.ensures) (drops (words s.args.hi s.args.lo) w.result s.args.exp w.ensures c.before.if-n-eq0.false)
+    subst (λ (t : ℕ). Drops binary64 1203 (number c.args.hi c.args.lo c.args.exp) t) (sym c.unit_of-unit.ensures) (drops (words s.args.hi s.args.lo) w.result s.args.exp w.ensures c.before.if-n-eq0.false)
 
 pub returns-then-n-eq0 : goal.returns-then-n-eq0
 returns-then-n-eq0 c =
@@ -41,9 +41,9 @@ kept-requires c =
 pub assemble-requires-2 : goal.assemble-requires-2
 assemble-requires-2 c =
     let t = c.before.before in
-    subst (λ (q : ℕ). Whole q (t.unit_of-unit.result - 1203)) (sym (c.nearest-q.ensures ∙ c.before.kept.ensures.1)) (whole (number t.before.before.before) t.unit_of-unit.result (drops_at t))
+    subst (λ (q : ℕ). Whole q (t.unit_of-unit.result - 1203)) (sym (c.nearest-q.ensures ∙ c.before.kept.ensures.1)) (whole (number t.args.hi t.args.lo t.args.exp) t.unit_of-unit.result (drops_at t))
 
 pub returns : goal.returns
 returns c =
     let t = c.before.before.before in
-    c.assemble-2.ensures ∙ rounded t.before.before.before.args.sign (number t.before.before.before) t.unit_of-unit.result c.before.nearest-q.result (drops_at t) (c.before.nearest-q.ensures ∙ c.before.before.kept.ensures.1)
+    c.assemble-2.ensures ∙ rounded t.before.before.before.args.sign (number t.args.hi t.args.lo t.args.exp) t.unit_of-unit.result c.before.nearest-q.result (drops_at t) (c.before.nearest-q.ensures ∙ c.before.before.kept.ensures.1)
