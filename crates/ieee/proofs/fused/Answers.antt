@@ -1,10 +1,11 @@
 -- `ieee::fused` meets its contract. By which operands are finite. Assumes nothing.
 use mathlib.Core.Path.{◌≡◌, sym, ◌∙◌, subst}
-use mathlib.Core.Logic.{⊎_elim, inl, inr}
+use mathlib.Core.Logic.{inl, inr}
 use mathlib.Core.Bool.{Bool, true}
 use lib.Dec.{T}
 use Rattle.ieee.proofs.Fusing.{all_finite_lem, third_infinite, factor_infinite}
 use Rattle.ieee.proofs.fused.Goals as goal
+use Rattle.ieee.proofs.fused.Goals.{then-finite-2+else-finite-3, else-finite-2}
 
 yes : {r b : Bool} → r ≡ b → r ≡ true → T b
 yes e t = subst T (sym (sym e ∙ t)) tt
@@ -24,4 +25,4 @@ returns-then-finite-3 c =
 pub returns : goal.returns
 returns c =
     factor_infinite c.args.a c.args.b c.args.c
-    (⊎_elim (λ w. inr (sym w.1.ensures ∙ w.2.left)) (λ w. inl (sym c.finite-2.ensures ∙ w.left)) c.if-finite-2.branch)
+    (elim c.if-finite-2.branch [ then-finite-2+else-finite-3 w ↦ inr (sym w.finite-then-finite-2.ensures ∙ w.if-finite-3.false) | else-finite-2 w ↦ inl (sym c.finite-2.ensures ∙ w.if-finite-2.false) ])

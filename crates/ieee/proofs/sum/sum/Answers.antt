@@ -1,50 +1,36 @@
 -- `ieee::sum::sum` meets its contract. Its four returns are the four cases of lib.Ieee's `sum`. Assumes nothing.
 use mathlib.Core.Path.{◌≡◌, sym, ap, ap₂, ◌∙◌}
-use mathlib.Core.Bool.{Bool}
+use mathlib.Core.Bool.{Bool, true}
+use borrow.Author.Tests.{ltb-true}
 use Prim.Native.Nat.{ℕ, ◌+◌, ◌-◌, ◌*◌, ◌/◌, ◌^◌, ◌≤◌, ◌<◌}
 use native.Mathlib.Nat.{lt_of_lt_of_le, lt_of_le_of_lt, le_of_eq, le_of_lt, le_antisymm}
-use lib.Dec.{lit≤, lit<}
-use lib.Ieee.{Float, binary64, round, sum}
+use lib.Dec.{lit≤, lit<, ltb}
+use lib.Ieee.{Float, binary64, round}
 use Rattle.ieee_words.specs.Words.{words, jammed}
 use Rattle.ieee_words.proofs.Words.{half_jammed}
-use Rattle.ieee.specs.Terms.{Total}
+use Rattle.ieee.specs.Terms.{Term, Total}
 use Rattle.ieee.proofs.Summing.{even_term, twice_half, like_case, less_case, more_case, level_case, total, less_so, not_less_so, under_127, left_less, right_less}
 use Rattle.ieee.proofs.sum.sum.Goals as goal
 
--- the two terms where both are in place: twice the half of x, and w is y as it is shifted
-abbrev x : goal.Start → ℕ
-x s = words s.args.xh s.args.xl / 2
+-- the two terms where both are in place: twice the half of x, and y as it is shifted
+abbrev twice : ℕ → ℕ → ℕ
+twice xh xl = 2 * (words xh xl / 2)
 
-abbrev y : goal.Start → ℕ
-y s = jammed (words s.args.yh s.args.yl / 2) (s.args.e - s.args.d)
+abbrev shifted : ℕ → ℕ → ℕ → ℕ
+shifted yh yl n = jammed (words yh yl / 2) n
 
-abbrev v : goal.After-jam-w → ℕ
-v j = words j.before.args.xh j.before.args.xl
+v_is : {xh xl e : ℕ} → Term xh xl e → words xh xl ≡ twice xh xl
+v_is {xh = xh} {xl = xl} X = sym (twice_half (words xh xl) X.tail)
 
-abbrev w : goal.After-jam-w → ℕ
-w j = words j.jam-w.result.hi j.jam-w.result.lo
-
-v_is : (j : goal.After-jam-w) → v j ≡ 2 * x j.before
-v_is j = sym (twice_half (v j) j.before.requires.1.tail)
-
-w_is : (j : goal.After-jam-w) → w j ≡ y j.before
-w_is j =
-    let s = j.before in
-    j.jam-w.ensures ∙ half_jammed (words s.args.yh s.args.yl) (s.args.e - s.args.d) (even_term (words s.args.yh s.args.yl) s.requires.2.tail)
-
-sized : (s : goal.Start) → 2 * x s + y s < 2 ^ 127
-sized s = total s.args.xh s.args.xl s.args.e s.args.yh s.args.yl s.args.d s.requires.1 s.requires.2 s.requires.3 s.ranges.xl.fits s.ranges.yl.fits
-
--- the exact sum that `fused` asks for
-abbrev asked : goal.Start → Float
-asked s = sum binary64 s.args.s (words s.args.xh s.args.xl * 2 ^ s.args.e) s.args.t (words s.args.yh s.args.yl * 2 ^ s.args.d) (2 ^ 2277)
+w_is : {yh yl d w : ℕ} (n : ℕ) → Term yh yl d → w ≡ jammed (words yh yl) (n + 1) → w ≡ shifted yh yl n
+w_is {yh = yh} {yl = yl} n Y j = j ∙ half_jammed (words yh yl) n (even_term (words yh yl) Y.tail)
 
 -- a number of two words that is n, where n rounds as the sum
-total_of : (s : goal.Start) (t : Bool) (hi lo n : ℕ) → words hi lo ≡ n → n < 2 ^ 127 → round binary64 t (n * 2 ^ s.args.e) (2 ^ 2277) ≡ asked s → Total (asked s) t hi lo s.args.e
-total_of s t hi lo n e h r = record {
-  value = ap (λ (k : ℕ). round binary64 t (k * 2 ^ s.args.e) (2 ^ 2277)) e ∙ r;
-  under = under_127 hi lo n e h;
-  small = s.requires.1.small;
+total_of : {r : Float} {e : ℕ} (t : Bool) (hi lo n : ℕ) → words hi lo ≡ n → n < 2 ^ 127 → e < 2 ^ 13 → round binary64 t (n * 2 ^ e) (2 ^ 2277) ≡ r → Total r t hi lo e
+total_of {e = e} t hi lo n w h l r = record {
+  value = ap (λ (k : ℕ). round binary64 t (k * 2 ^ e) (2 ^ 2277)) w ∙ r;
+  under = under_127 hi lo n w h;
+  small = l;
 }
 
 pub overflow_sub-e : goal.overflow_sub-e
@@ -55,66 +41,63 @@ jam-w-requires c = lt_of_lt_of_le c.requires.2.under (lit≤ tt)
 
 pub plus-m-requires : goal.plus-m-requires
 plus-m-requires c =
-    let j = c.before in
-    lt_of_lt_of_le (lt_of_le_of_lt (le_of_eq (ap₂ ◌+◌ (v_is j) (w_is j))) (sized j.before)) (lit≤ tt)
+    lt_of_lt_of_le
+    (lt_of_le_of_lt (le_of_eq (ap₂ ◌+◌ (v_is c.requires.1) (w_is (c.args.e - c.args.d) c.requires.2 c.jam-w.ensures)))
+    (total c.args.xh c.args.xl c.args.e c.args.yh c.args.yl c.args.d c.requires.1 c.requires.2 c.requires.3 c.ranges.xl.fits c.ranges.yl.fits))
+    (lit≤ tt)
 
 pub returns-then-like : goal.returns-then-like
 returns-then-like c =
-    let j = c.before.before in
-    let s = j.before in
-    let n : words c.plus-m.result.hi c.plus-m.result.lo ≡ 2 * x s + y s = c.plus-m.ensures ∙ ap₂ ◌+◌ (v_is j) (w_is j) in
-    total_of s s.args.s c.plus-m.result.hi c.plus-m.result.lo (2 * x s + y s) n (sized s)
-    (like_case s.args.xh s.args.xl s.args.e s.args.yh s.args.yl s.args.d s.requires.1 s.requires.2 s.requires.3 s.ranges.yl.fits s.args.s s.args.t (sym s.requires.0 ∙ c.before.if-like.true))
+    total_of c.args.s c.plus-m.result.hi c.plus-m.result.lo (twice c.args.xh c.args.xl + shifted c.args.yh c.args.yl (c.args.e - c.args.d))
+    (c.plus-m.ensures ∙ ap₂ ◌+◌ (v_is c.requires.1) (w_is (c.args.e - c.args.d) c.requires.2 c.jam-w.ensures))
+    (total c.args.xh c.args.xl c.args.e c.args.yh c.args.yl c.args.d c.requires.1 c.requires.2 c.requires.3 c.ranges.xl.fits c.ranges.yl.fits)
+    c.requires.1.small
+    (like_case c.args.xh c.args.xl c.args.e c.args.yh c.args.yl c.args.d c.requires.1 c.requires.2 c.requires.3 c.ranges.yl.fits c.args.s c.args.t (sym c.requires.0 ∙ c.if-like.true))
 
--- the first test held
-first : (c : goal.Then-less) → y c.before.before.before.before < 2 * x c.before.before.before.before
-first c =
-    let j = c.before.before.before in
-    less_so (w j) (v j) (y j.before) (2 * x j.before) c.before.less.result c.before.less.ensures c.if-less.true (w_is j) (v_is j)
+-- what a test of two words says of the terms
+first : {xh xl e yh yl d w : ℕ} {r : Bool} (n : ℕ) → Term xh xl e → Term yh yl d → w ≡ jammed (words yh yl) (n + 1) → r ≡ ltb w (words xh xl) → r ≡ true → shifted yh yl n < twice xh xl
+first n X Y j e t = less_so _ _ _ _ _ e t (w_is n Y j) (v_is X)
+
+second : {xh xl e yh yl d w : ℕ} {r : Bool} (n : ℕ) → Term xh xl e → Term yh yl d → w ≡ jammed (words yh yl) (n + 1) → r ≡ ltb (words xh xl) w → r ≡ true → twice xh xl < shifted yh yl n
+second n X Y j e t = less_so _ _ _ _ _ e t (v_is X) (w_is n Y j)
 
 pub minus-m-requires : goal.minus-m-requires
-minus-m-requires c =
-    let j = c.before.before.before in
-    le_of_lt (lt_of_le_of_lt (le_of_eq (w_is j)) (lt_of_lt_of_le (first c) (le_of_eq (sym (v_is j)))))
+minus-m-requires c = le_of_lt (ltb-true _ _ (sym c.less.ensures ∙ c.if-less.true))
 
 pub returns-then-less : goal.returns-then-less
 returns-then-less c =
-    let t = c.before in
-    let j = t.before.before.before in
-    let s = j.before in
-    let n : words c.minus-m.result.hi c.minus-m.result.lo ≡ 2 * x s - y s = c.minus-m.ensures ∙ ap₂ ◌-◌ (v_is j) (w_is j) in
-    total_of s s.args.s c.minus-m.result.hi c.minus-m.result.lo (2 * x s - y s) n (left_less (2 * x s) (y s) (2 ^ 127) (sized s))
-    (more_case s.args.xh s.args.xl s.args.e s.args.yh s.args.yl s.args.d s.requires.1 s.requires.2 s.requires.3 s.ranges.yl.fits s.args.s s.args.t (sym s.requires.0 ∙ t.before.before.if-like.false) (first t))
-
--- the second test held
-second : (c : goal.Then-less-2) → 2 * x c.before.before.before.before.before.before < y c.before.before.before.before.before.before
-second c =
-    let j = c.before.before.before.before.before in
-    less_so (v j) (w j) (2 * x j.before) (y j.before) c.before.less-2.result c.before.less-2.ensures c.if-less-2.true (v_is j) (w_is j)
+    let n = c.args.e - c.args.d in
+    total_of c.args.s c.minus-m.result.hi c.minus-m.result.lo (twice c.args.xh c.args.xl - shifted c.args.yh c.args.yl n)
+    (c.minus-m.ensures ∙ ap₂ ◌-◌ (v_is c.requires.1) (w_is n c.requires.2 c.jam-w.ensures))
+    (left_less (twice c.args.xh c.args.xl) (shifted c.args.yh c.args.yl n) (2 ^ 127)
+    (total c.args.xh c.args.xl c.args.e c.args.yh c.args.yl c.args.d c.requires.1 c.requires.2 c.requires.3 c.ranges.xl.fits c.ranges.yl.fits))
+    c.requires.1.small
+    (more_case c.args.xh c.args.xl c.args.e c.args.yh c.args.yl c.args.d c.requires.1 c.requires.2 c.requires.3 c.ranges.yl.fits c.args.s c.args.t
+    (sym c.requires.0 ∙ c.if-like.false) (first n c.requires.1 c.requires.2 c.jam-w.ensures c.less.ensures c.if-less.true))
 
 pub minus-m-requires-then-less-2 : goal.minus-m-requires-then-less-2
-minus-m-requires-then-less-2 c =
-    let j = c.before.before.before.before.before in
-    le_of_lt (lt_of_le_of_lt (le_of_eq (v_is j)) (lt_of_lt_of_le (second c) (le_of_eq (sym (w_is j)))))
+minus-m-requires-then-less-2 c = le_of_lt (ltb-true _ _ (sym c.less-2.ensures ∙ c.if-less-2.true))
 
 pub returns-then-less-2 : goal.returns-then-less-2
 returns-then-less-2 c =
-    let t = c.before in
-    let j = t.before.before.before.before.before in
-    let s = j.before in
-    let n : words c.minus-m-then-less-2.result.hi c.minus-m-then-less-2.result.lo ≡ y s - 2 * x s = c.minus-m-then-less-2.ensures ∙ ap₂ ◌-◌ (w_is j) (v_is j) in
-    total_of s s.args.t c.minus-m-then-less-2.result.hi c.minus-m-then-less-2.result.lo (y s - 2 * x s) n (right_less (2 * x s) (y s) (2 ^ 127) (sized s))
-    (less_case s.args.xh s.args.xl s.args.e s.args.yh s.args.yl s.args.d s.requires.1 s.requires.2 s.requires.3 s.ranges.yl.fits s.args.s s.args.t (sym s.requires.0 ∙ t.before.before.before.before.if-like.false) (second t))
+    let n = c.args.e - c.args.d in
+    total_of c.args.t c.minus-m-then-less-2.result.hi c.minus-m-then-less-2.result.lo (shifted c.args.yh c.args.yl n - twice c.args.xh c.args.xl)
+    (c.minus-m-then-less-2.ensures ∙ ap₂ ◌-◌ (w_is n c.requires.2 c.jam-w.ensures) (v_is c.requires.1))
+    (right_less (twice c.args.xh c.args.xl) (shifted c.args.yh c.args.yl n) (2 ^ 127)
+    (total c.args.xh c.args.xl c.args.e c.args.yh c.args.yl c.args.d c.requires.1 c.requires.2 c.requires.3 c.ranges.xl.fits c.ranges.yl.fits))
+    c.requires.1.small
+    (less_case c.args.xh c.args.xl c.args.e c.args.yh c.args.yl c.args.d c.requires.1 c.requires.2 c.requires.3 c.ranges.yl.fits c.args.s c.args.t
+    (sym c.requires.0 ∙ c.if-like.false) (second n c.requires.1 c.requires.2 c.jam-w.ensures c.less-2.ensures c.if-less-2.true))
 
 pub returns : goal.returns
 returns c =
-    let t = c in
-    let j = t.before.before.before.before.before in
-    let s = j.before in
-    let ge : 2 * x s ≤ y s = not_less_so (w j) (v j) (y s) (2 * x s) t.before.before.before.less.result t.before.before.before.less.ensures t.before.before.if-less.false (w_is j) (v_is j) in
-    let le : y s ≤ 2 * x s = not_less_so (v j) (w j) (2 * x s) (y s) t.before.less-2.result t.before.less-2.ensures t.if-less-2.false (v_is j) (w_is j) in
+    let n = c.args.e - c.args.d in
     record {
-      value = level_case s.args.xh s.args.xl s.args.e s.args.yh s.args.yl s.args.d s.requires.1 s.requires.2 s.requires.3 s.ranges.yl.fits s.args.s s.args.t (sym s.requires.0 ∙ t.before.before.before.before.if-like.false) (le_antisymm ge le);
+      value =
+        level_case c.args.xh c.args.xl c.args.e c.args.yh c.args.yl c.args.d c.requires.1 c.requires.2 c.requires.3 c.ranges.yl.fits c.args.s c.args.t (sym c.requires.0 ∙ c.if-like.false)
+        (le_antisymm
+        (not_less_so _ _ _ _ _ c.less.ensures c.if-less.false (w_is n c.requires.2 c.jam-w.ensures) (v_is c.requires.1))
+        (not_less_so _ _ _ _ _ c.less-2.ensures c.if-less-2.false (v_is c.requires.1) (w_is n c.requires.2 c.jam-w.ensures)));
       under = lit< tt;
-      small = s.requires.1.small;
+      small = c.requires.1.small;
     }

@@ -12,55 +12,46 @@ use Rattle.math_elementary.proofs.Ints.{mag_less}
 use Rattle.math_elementary.proofs.Splits.{low_split, high_split, pattern_no_nan}
 use Rattle.math_elementary.proofs.logarithm.split.Goals as goal
 
-held : (c : goal.Start) → T (fits binary64 c.args.x)
-held c = subst T (sym c.well_formed.0.1) tt
+-- the number of digits, as the machine keeps it, less a number of at most four digits
+less_fits : (d : ℕ) → d < 5000 → (k : ℕ) → k < 5000 → SFits w32 (pos d -ℤ pos k)
+less_fits d g k h = record { sfits = omega (arith, g, h, mag_less d k) }
 
-module _ (c : goal.After-widen-w) where
-  abbrev d : ℕ
-  d = c.widen-w.result.size
+d_fits : (d : ℕ) → d < 5000 → SFits w32 (pos d)
+d_fits d g = record { sfits = omega (arith, g) }
 
-  d_fits : SFits w32 (pos d)
-  d_fits = record { sfits = omega (arith, c.widen-w.ensures.1) }
-
-  less_fits : (k : ℕ) → k < 5000 → SFits w32 (pos d -ℤ pos k)
-  less_fits k h = record { sfits = omega (arith, c.widen-w.ensures.1, mag_less d k) }
-
-  -- the number of digits, as the machine reads it back
-  d_is : to_z w32 d ≡ pos d
-  d_is = to_z-of_z w32 (pos d) d_fits
+d_is : (d : ℕ) → d < 5000 → to_z w32 d ≡ pos d
+d_is d g = to_z-of_z w32 (pos d) (d_fits d g)
 
 pub widen-w-requires : goal.widen-w-requires
 widen-w-requires c = c.requires
 
 pub overflow_cast-size : goal.overflow_cast-size
-overflow_cast-size c = d_fits c.before
+overflow_cast-size c = d_fits _ c.widen-w.ensures.1
 
 pub overflow_add-result : goal.overflow_add-result
-overflow_add-result c = omega (arith, c.before.before.widen-w.ensures.0.below)
+overflow_add-result c = omega (arith, c.widen-w.ensures.0.below)
 
 pub float_from_bits-result : goal.float_from_bits-result
-float_from_bits-result c = let w = c.before.before.widen-w.ensures.0 in pattern_no_nan c.before.before.widen-w.result.full 1022 w.from w.below (omega arith)
+float_from_bits-result c = let w = c.widen-w.ensures.0 in pattern_no_nan c.widen-w.result.full 1022 w.from w.below (omega arith)
 
 pub overflow_sub-result : goal.overflow_sub-result
-overflow_sub-result c = rw (d_is c.before.before) (less_fits c.before.before 1075 (omega arith))
+overflow_sub-result c = rw (d_is _ c.widen-w.ensures.1) (less_fits _ c.widen-w.ensures.1 1075 (omega arith))
 
 pub overflow_add-result-else-full-lt6755399441055744 : goal.overflow_add-result-else-full-lt6755399441055744
-overflow_add-result-else-full-lt6755399441055744 c = omega (arith, c.before.before.widen-w.ensures.0.below)
+overflow_add-result-else-full-lt6755399441055744 c = omega (arith, c.widen-w.ensures.0.below)
 
 pub float_from_bits-result-else-full-lt6755399441055744 : goal.float_from_bits-result-else-full-lt6755399441055744
-float_from_bits-result-else-full-lt6755399441055744 c = let w = c.before.before.widen-w.ensures.0 in pattern_no_nan c.before.before.widen-w.result.full 1021 w.from w.below (omega arith)
+float_from_bits-result-else-full-lt6755399441055744 c = let w = c.widen-w.ensures.0 in pattern_no_nan c.widen-w.result.full 1021 w.from w.below (omega arith)
 
 pub overflow_sub-result-else-full-lt6755399441055744 : goal.overflow_sub-result-else-full-lt6755399441055744
-overflow_sub-result-else-full-lt6755399441055744 c = rw (d_is c.before.before) (less_fits c.before.before 1074 (omega arith))
+overflow_sub-result-else-full-lt6755399441055744 c = rw (d_is _ c.widen-w.ensures.1) (less_fits _ c.widen-w.ensures.1 1074 (omega arith))
 
 pub returns-then-full-lt6755399441055744 : goal.returns-then-full-lt6755399441055744
 returns-then-full-lt6755399441055744 c =
-    let b = c.before.before in
-    let s = low_split b.before.args.x b.widen-w.result.full (d b) (held b.before) b.before.requires b.widen-w.ensures.0 c.if-full-lt6755399441055744.true in
-    (s.0, simp (d_is b, to_z-of_z w32 _ (less_fits b 1075 (omega arith))) s.1, simp (d_is b, to_z-of_z w32 _ (less_fits b 1075 (omega arith))) (omega (arith, b.widen-w.ensures.1, mag_less (d b) 1075)))
+    let s = low_split c.args.x c.widen-w.result.full c.widen-w.result.size (subst T (sym c.well_formed.0.1) tt) c.requires c.widen-w.ensures.0 c.if-full-lt6755399441055744.true in
+    (s.0, simp (d_is _ c.widen-w.ensures.1, to_z-of_z w32 _ (less_fits _ c.widen-w.ensures.1 1075 (omega arith))) s.1, simp (d_is _ c.widen-w.ensures.1, to_z-of_z w32 _ (less_fits _ c.widen-w.ensures.1 1075 (omega arith))) (omega (arith, c.widen-w.ensures.1, mag_less c.widen-w.result.size 1075)))
 
 pub returns-else-full-lt6755399441055744 : goal.returns-else-full-lt6755399441055744
 returns-else-full-lt6755399441055744 c =
-    let b = c.before.before in
-    let s = high_split b.before.args.x b.widen-w.result.full (d b) (held b.before) b.before.requires b.widen-w.ensures.0 c.if-full-lt6755399441055744.false in
-    (s.0, simp (d_is b, to_z-of_z w32 _ (less_fits b 1074 (omega arith))) s.1, simp (d_is b, to_z-of_z w32 _ (less_fits b 1074 (omega arith))) (omega (arith, b.widen-w.ensures.1, mag_less (d b) 1074)))
+    let s = high_split c.args.x c.widen-w.result.full c.widen-w.result.size (subst T (sym c.well_formed.0.1) tt) c.requires c.widen-w.ensures.0 c.if-full-lt6755399441055744.false in
+    (s.0, simp (d_is _ c.widen-w.ensures.1, to_z-of_z w32 _ (less_fits _ c.widen-w.ensures.1 1074 (omega arith))) s.1, simp (d_is _ c.widen-w.ensures.1, to_z-of_z w32 _ (less_fits _ c.widen-w.ensures.1 1074 (omega arith))) (omega (arith, c.widen-w.ensures.1, mag_less c.widen-w.result.size 1074)))

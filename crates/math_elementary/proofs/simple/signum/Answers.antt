@@ -2,25 +2,22 @@
 use mathlib.Core.Path.{sym, subst}
 use borrow.Author.Tests.{lt-leb, le-leb}
 use lib.Dec.{T}
-use lib.Ieee.{binary64, fits}
+use lib.Ieee.{Float}
 use Rattle.math_elementary.proofs.Floats.{not_nan, is_nan_lem, signum_by_bits}
 use Rattle.math_elementary.proofs.simple.signum.Goals as goal
 
-held : (c : goal.Start) → T (fits binary64 c.args.x)
-held c = subst T (sym c.well_formed.0.1) tt
-
 pub float_to_bits-x : goal.float_to_bits-x
-float_to_bits-x c = not_nan c.before.args.x c.if-x.false
+float_to_bits-x c = not_nan c.args.x c.if-x.false
 
 pub returns-then-x : goal.returns-then-x
-returns-then-x c = rw (is_nan_lem c.before.args.x c.if-x.true)
+returns-then-x c = rw (is_nan_lem c.args.x c.if-x.true)
 
 pub returns-then-x-lt9223372036854775808 : goal.returns-then-x-lt9223372036854775808
 returns-then-x-lt9223372036854775808 c =
-    let x = c.before.before.args.x in
-    rw (signum_by_bits x (held c.before.before) (not_nan x c.before.if-x.false), lt-leb _ _ c.if-x-lt9223372036854775808.true)
+    let x = c.args.x in
+    rw (signum_by_bits x (subst T (sym c.well_formed.0.1) tt) (not_nan x c.if-x.false), lt-leb _ _ c.if-x-lt9223372036854775808.true)
 
 pub returns-else-x-lt9223372036854775808 : goal.returns-else-x-lt9223372036854775808
 returns-else-x-lt9223372036854775808 c =
-    let x = c.before.before.args.x in
-    rw (signum_by_bits x (held c.before.before) (not_nan x c.before.if-x.false), le-leb _ _ c.if-x-lt9223372036854775808.false)
+    let x = c.args.x in
+    rw (signum_by_bits x (subst T (sym c.well_formed.0.1) tt) (not_nan x c.if-x.false), le-leb _ _ c.if-x-lt9223372036854775808.false)
