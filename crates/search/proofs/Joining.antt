@@ -1,12 +1,7 @@
 -- The whole search, by what its ladders and its halvings came to. Assumes nothing.
 use mathlib.Core.Path.{◌≡◌, refl, sym, ap, ap₂, ◌∙◌}
-use mathlib.Core.Logic.{◌⊎◌, ⊎_elim}
-use mathlib.Core.List.{[], ◌∷◌}
 use mathlib.Core.Bool.{true, false}
 use Prim.Native.Nat.{ℕ}
-use native.Mathlib.Omega.{arith}
-use types.Run.{OneOf}
-use denote.Enum.Declared.{tag_of}
 use lib.Ieee.{Float}
 use Rattle.math_elementary.specs.Simple.{midpoint_of}
 use Rattle.search.specs.declared.Bracket.{Bracket}
@@ -14,14 +9,13 @@ use Rattle.search.specs.declared.Critical.{Critical}
 use Rattle.search.specs.declared.ladder.Ladder.{Ladder}
 use Rattle.search.specs.declared.halving.Halving.{Halving}
 use Rattle.search.specs.Rate.{ladder_of, halvings_of, finish, from_ladders, critical_of}
-use Rattle.search.specs.contracts.ladder.Ladder as made
 
--- which variant a ladder's outcome is: 0 `At`, 1 `NotANumber`, 2 `Nothing`
-abbrev tag : Ladder → ℕ
-tag l = tag_of made.the_type l
+-- a ladder met no NaN; it has no good rung
+abbrev IsAnswered : Ladder → Type 0
+IsAnswered l = l ≡ Ladder.NotANumber → ⊥
 
-neither : {A : Type 0} (a b n : ℕ) → (n ≡ a → ⊥) → (n ≡ b → ⊥) → (n ≡ a) ⊎ (n ≡ b) → A
-neither a b n h k x = absurd (⊎_elim h k x)
+abbrev IsUnfound : Ladder → Type 0
+IsUnfound l = (i : ℕ) (r s : Float) → l ≡ Ladder.At i r s → ⊥
 
 high_nan_at : (sum : Float → Float) (l : Ladder) → Critical.NotANumber ≡ from_ladders sum l Ladder.NotANumber
 unfolding from_ladders
@@ -29,18 +23,18 @@ high_nan_at sum (Ladder.At i r s) = refl
 high_nan_at sum Ladder.NotANumber = refl
 high_nan_at sum Ladder.Nothing = refl
 
-low_none_at : (sum : Float → Float) (l h : Ladder) → OneOf (0 ∷ 2 ∷ []) (tag l) → OneOf (1 ∷ 2 ∷ []) (tag l) → OneOf (0 ∷ 2 ∷ []) (tag h) → Critical.NoBracket ≡ from_ladders sum l h
+low_none_at : (sum : Float → Float) (l h : Ladder) → IsAnswered l → IsUnfound l → IsAnswered h → Critical.NoBracket ≡ from_ladders sum l h
 unfolding from_ladders
-low_none_at sum (Ladder.At i r s) h x y z = neither 1 2 0 (λ e. omega arith) (λ e. omega arith) y
-low_none_at sum Ladder.NotANumber h x y z = neither 0 2 1 (λ e. omega arith) (λ e. omega arith) x
+low_none_at sum (Ladder.At i r s) h x y z = absurd (y i r s refl)
+low_none_at sum Ladder.NotANumber h x y z = absurd (x refl)
 low_none_at sum Ladder.Nothing (Ladder.At i r s) x y z = refl
-low_none_at sum Ladder.Nothing Ladder.NotANumber x y z = neither 0 2 1 (λ e. omega arith) (λ e. omega arith) z
+low_none_at sum Ladder.Nothing Ladder.NotANumber x y z = absurd (z refl)
 low_none_at sum Ladder.Nothing Ladder.Nothing x y z = refl
 
-high_none_at : (sum : Float → Float) (i : ℕ) (r s : Float) (h : Ladder) → OneOf (0 ∷ 2 ∷ []) (tag h) → OneOf (1 ∷ 2 ∷ []) (tag h) → Critical.NoBracket ≡ from_ladders sum (Ladder.At i r s) h
+high_none_at : (sum : Float → Float) (i : ℕ) (r s : Float) (h : Ladder) → IsAnswered h → IsUnfound h → Critical.NoBracket ≡ from_ladders sum (Ladder.At i r s) h
 unfolding from_ladders
-high_none_at sum i r s (Ladder.At j r' s') x y = neither 1 2 0 (λ e. omega arith) (λ e. omega arith) y
-high_none_at sum i r s Ladder.NotANumber x y = neither 0 2 1 (λ e. omega arith) (λ e. omega arith) x
+high_none_at sum i r s (Ladder.At j r' s') x y = absurd (y j r' s' refl)
+high_none_at sum i r s Ladder.NotANumber x y = absurd (x refl)
 high_none_at sum i r s Ladder.Nothing x y = refl
 
 module _ (sum : Float → Float) (l h : Ladder) (e : l ≡ ladder_of sum true 61) where
@@ -56,10 +50,10 @@ module _ (sum : Float → Float) (l h : Ladder) (e : l ≡ ladder_of sum true 61
     pub high_nan : h ≡ Ladder.NotANumber → Critical.NotANumber ≡ critical_of sum
     high_nan p = high_nan_at sum l ∙ ap (from_ladders sum l) (sym p) ∙ critical_is
 
-    pub low_none : OneOf (0 ∷ 2 ∷ []) (tag l) → OneOf (1 ∷ 2 ∷ []) (tag l) → OneOf (0 ∷ 2 ∷ []) (tag h) → Critical.NoBracket ≡ critical_of sum
+    pub low_none : IsAnswered l → IsUnfound l → IsAnswered h → Critical.NoBracket ≡ critical_of sum
     low_none x y z = low_none_at sum l h x y z ∙ critical_is
 
-    pub high_none : (i : ℕ) (r s : Float) → l ≡ Ladder.At i r s → OneOf (0 ∷ 2 ∷ []) (tag h) → OneOf (1 ∷ 2 ∷ []) (tag h) → Critical.NoBracket ≡ critical_of sum
+    pub high_none : (i : ℕ) (r s : Float) → l ≡ Ladder.At i r s → IsAnswered h → IsUnfound h → Critical.NoBracket ≡ critical_of sum
     high_none i r s p x y = high_none_at sum i r s h x y ∙ ap (λ (z : Ladder). from_ladders sum z h) (sym p) ∙ critical_is
 
     module _ (i : ℕ) (r s : Float) (p : l ≡ Ladder.At i r s) (j : ℕ) (r' s' : Float) (q : h ≡ Ladder.At j r' s') (o : Halving)
