@@ -42,7 +42,7 @@ module _ (c : goal.After-truncating_f64_to_i64-q) where
   less_half_fits = record { sfits = omega (arith, half_mag (q -ℤ pos 1) 5000 (omega (arith, mag_sub1 q, q_mag))) }
 
 pub truncating_f64_to_i64-q-requires : goal.truncating_f64_to_i64-q-requires
-truncating_f64_to_i64-q-requires c = doubled_in_range c.args.p (held c) c.requires
+truncating_f64_to_i64-q-requires c = let h = doubled_in_range c.args.p (held c) c.requires in record { lower_bound = h.0; upper_bound = h.1 }
 
 pub overflow_cast-q : goal.overflow_cast-q
 overflow_cast-q c = rw (long c) (record { sfits = omega (arith, q_mag c) })

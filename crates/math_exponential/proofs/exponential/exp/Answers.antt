@@ -10,8 +10,8 @@ use Rattle.math_exponential.proofs.Limits.{past_tests, from_parts}
 use Rattle.math_exponential.proofs.exponential.exp.Goals as goal
 
 -- the value, and with it the rows of the exact cases
-both : (x r : Float) → r ≡ exp_of x → (r ≡ exp_of x) × Gives exact_cases x r
-both x r e = (e, by_rows exp_of exact_cases exact_cases_lem x r e)
+both : (x r : Float) → r ≡ exp_of x → record { value : r ≡ exp_of x; exact : Gives exact_cases x r }
+both x r e = record { value = e; exact = by_rows exp_of exact_cases exact_cases_lem x r e }
 
 pub returns-then-x : goal.returns-then-x
 unfolding exp_of
