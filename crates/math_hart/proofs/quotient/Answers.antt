@@ -117,61 +117,61 @@ pub step-a-requires-2 : goal.step-a-requires-2
 step-a-requires-2 c = let o = c.before.before.before.before.before in ready (z o) (y o) (j o) o.before.requires o.opened-y.ensures 1 c.before.step-a.result.sig c.before.step-a.result.exp (a1 (z o)) (ca 2) (lit≤ tt) (after_a1 c.before) (Ca 2 (lit< tt))
 
 after_a2 : (c : goal.After-step-a-2) → After 2 c.step-a-2.result.sig c.step-a-2.result.exp (a2 (z (apart_4 c)))
-after_a2 c = let o = apart_4 c in stepped (z o) (y o) (j o) o.before.pre o.opened-y.ensures 1 c.before.before.step-a.result.sig c.before.before.step-a.result.exp (a1 (z o)) (ca 2) (lit≤ tt) (after_a1 c.before.before) (Ca 2 (lit< tt)) c.step-a-2.result.sig c.step-a-2.result.exp c.step-a-2.ensures
+after_a2 c = let o = apart_4 c in stepped (z o) (y o) (j o) o.before.requires o.opened-y.ensures 1 c.before.before.step-a.result.sig c.before.before.step-a.result.exp (a1 (z o)) (ca 2) (lit≤ tt) (after_a1 c.before.before) (Ca 2 (lit< tt)) c.step-a-2.result.sig c.step-a-2.result.exp c.step-a-2.ensures
 
 pub step-b-requires-3 : goal.step-b-requires-3
-step-b-requires-3 c = let o = apart_4 c in ready (z o) (y o) (j o) o.before.pre o.opened-y.ensures 2 c.before.step-b-2.result.sig c.before.step-b-2.result.exp (b2 (z o)) (cb 3) (lit≤ tt) (after_b2 c.before) (Cb 3 (lit< tt))
+step-b-requires-3 c = let o = apart_4 c in ready (z o) (y o) (j o) o.before.requires o.opened-y.ensures 2 c.before.step-b-2.result.sig c.before.step-b-2.result.exp (b2 (z o)) (cb 3) (lit≤ tt) (after_b2 c.before) (Cb 3 (lit< tt))
 
 after_b3 : (c : goal.After-step-b-3) → After 3 c.step-b-3.result.sig c.step-b-3.result.exp (b3 (z (apart_4 c.before)))
-after_b3 c = let o = apart_4 c.before in stepped (z o) (y o) (j o) o.before.pre o.opened-y.ensures 2 c.before.before.step-b-2.result.sig c.before.before.step-b-2.result.exp (b2 (z o)) (cb 3) (lit≤ tt) (after_b2 c.before.before) (Cb 3 (lit< tt)) c.step-b-3.result.sig c.step-b-3.result.exp c.step-b-3.ensures
+after_b3 c = let o = apart_4 c.before in stepped (z o) (y o) (j o) o.before.requires o.opened-y.ensures 2 c.before.before.step-b-2.result.sig c.before.before.step-b-2.result.exp (b2 (z o)) (cb 3) (lit≤ tt) (after_b2 c.before.before) (Cb 3 (lit< tt)) c.step-b-3.result.sig c.step-b-3.result.exp c.step-b-3.ensures
 
 pub step-a-requires-3 : goal.step-a-requires-3
-step-a-requires-3 c = let o = apart_4 c.before in ready (z o) (y o) (j o) o.before.pre o.opened-y.ensures 2 c.before.step-a-2.result.sig c.before.step-a-2.result.exp (a2 (z o)) (ca 3) (lit≤ tt) (after_a2 c.before) (Ca 3 (lit< tt))
+step-a-requires-3 c = let o = apart_4 c.before in ready (z o) (y o) (j o) o.before.requires o.opened-y.ensures 2 c.before.step-a-2.result.sig c.before.step-a-2.result.exp (a2 (z o)) (ca 3) (lit≤ tt) (after_a2 c.before) (Ca 3 (lit< tt))
 
 after_a3 : (c : goal.After-step-a-3) → After 3 c.step-a-3.result.sig c.step-a-3.result.exp (a3 (z (apart_4 c.before.before)))
-after_a3 c = let o = apart_4 c.before.before in stepped (z o) (y o) (j o) o.before.pre o.opened-y.ensures 2 c.before.before.step-a-2.result.sig c.before.before.step-a-2.result.exp (a2 (z o)) (ca 3) (lit≤ tt) (after_a2 c.before.before) (Ca 3 (lit< tt)) c.step-a-3.result.sig c.step-a-3.result.exp c.step-a-3.ensures
+after_a3 c = let o = apart_4 c.before.before in stepped (z o) (y o) (j o) o.before.requires o.opened-y.ensures 2 c.before.before.step-a-2.result.sig c.before.before.step-a-2.result.exp (a2 (z o)) (ca 3) (lit≤ tt) (after_a2 c.before.before) (Ca 3 (lit< tt)) c.step-a-3.result.sig c.step-a-3.result.exp c.step-a-3.ensures
 
 pub step-b-requires-4 : goal.step-b-requires-4
-step-b-requires-4 c = let o = apart_4 c.before.before in ready (z o) (y o) (j o) o.before.pre o.opened-y.ensures 3 c.before.step-b-3.result.sig c.before.step-b-3.result.exp (b3 (z o)) (cb 4) (lit≤ tt) (after_b3 c.before) (Cb 4 (lit< tt))
+step-b-requires-4 c = let o = apart_4 c.before.before in ready (z o) (y o) (j o) o.before.requires o.opened-y.ensures 3 c.before.step-b-3.result.sig c.before.step-b-3.result.exp (b3 (z o)) (cb 4) (lit≤ tt) (after_b3 c.before) (Cb 4 (lit< tt))
 
 after_b4 : (c : goal.After-step-b-4) → After 4 c.step-b-4.result.sig c.step-b-4.result.exp (b4 (z (apart_4 c.before.before.before)))
-after_b4 c = let o = apart_4 c.before.before.before in stepped (z o) (y o) (j o) o.before.pre o.opened-y.ensures 3 c.before.before.step-b-3.result.sig c.before.before.step-b-3.result.exp (b3 (z o)) (cb 4) (lit≤ tt) (after_b3 c.before.before) (Cb 4 (lit< tt)) c.step-b-4.result.sig c.step-b-4.result.exp c.step-b-4.ensures
+after_b4 c = let o = apart_4 c.before.before.before in stepped (z o) (y o) (j o) o.before.requires o.opened-y.ensures 3 c.before.before.step-b-3.result.sig c.before.before.step-b-3.result.exp (b3 (z o)) (cb 4) (lit≤ tt) (after_b3 c.before.before) (Cb 4 (lit< tt)) c.step-b-4.result.sig c.step-b-4.result.exp c.step-b-4.ensures
 
 pub step-a-requires-4 : goal.step-a-requires-4
-step-a-requires-4 c = let o = apart_4 c.before.before.before in ready (z o) (y o) (j o) o.before.pre o.opened-y.ensures 3 c.before.step-a-3.result.sig c.before.step-a-3.result.exp (a3 (z o)) (ca 4) (lit≤ tt) (after_a3 c.before) (Ca 4 (lit< tt))
+step-a-requires-4 c = let o = apart_4 c.before.before.before in ready (z o) (y o) (j o) o.before.requires o.opened-y.ensures 3 c.before.step-a-3.result.sig c.before.step-a-3.result.exp (a3 (z o)) (ca 4) (lit≤ tt) (after_a3 c.before) (Ca 4 (lit< tt))
 
 after_a4 : (c : goal.After-step-a-4) → After 4 c.step-a-4.result.sig c.step-a-4.result.exp (a4 (z (apart_8 c)))
-after_a4 c = let o = apart_8 c in stepped (z o) (y o) (j o) o.before.pre o.opened-y.ensures 3 c.before.before.step-a-3.result.sig c.before.before.step-a-3.result.exp (a3 (z o)) (ca 4) (lit≤ tt) (after_a3 c.before.before) (Ca 4 (lit< tt)) c.step-a-4.result.sig c.step-a-4.result.exp c.step-a-4.ensures
+after_a4 c = let o = apart_8 c in stepped (z o) (y o) (j o) o.before.requires o.opened-y.ensures 3 c.before.before.step-a-3.result.sig c.before.before.step-a-3.result.exp (a3 (z o)) (ca 4) (lit≤ tt) (after_a3 c.before.before) (Ca 4 (lit< tt)) c.step-a-4.result.sig c.step-a-4.result.exp c.step-a-4.ensures
 
 pub step-b-requires-5 : goal.step-b-requires-5
-step-b-requires-5 c = let o = apart_8 c in ready (z o) (y o) (j o) o.before.pre o.opened-y.ensures 4 c.before.step-b-4.result.sig c.before.step-b-4.result.exp (b4 (z o)) (cb 5) (lit≤ tt) (after_b4 c.before) (Cb 5 (lit< tt))
+step-b-requires-5 c = let o = apart_8 c in ready (z o) (y o) (j o) o.before.requires o.opened-y.ensures 4 c.before.step-b-4.result.sig c.before.step-b-4.result.exp (b4 (z o)) (cb 5) (lit≤ tt) (after_b4 c.before) (Cb 5 (lit< tt))
 
 after_b5 : (c : goal.After-step-b-5) → After 5 c.step-b-5.result.sig c.step-b-5.result.exp (b5 (z (apart_8 c.before)))
-after_b5 c = let o = apart_8 c.before in stepped (z o) (y o) (j o) o.before.pre o.opened-y.ensures 4 c.before.before.step-b-4.result.sig c.before.before.step-b-4.result.exp (b4 (z o)) (cb 5) (lit≤ tt) (after_b4 c.before.before) (Cb 5 (lit< tt)) c.step-b-5.result.sig c.step-b-5.result.exp c.step-b-5.ensures
+after_b5 c = let o = apart_8 c.before in stepped (z o) (y o) (j o) o.before.requires o.opened-y.ensures 4 c.before.before.step-b-4.result.sig c.before.before.step-b-4.result.exp (b4 (z o)) (cb 5) (lit≤ tt) (after_b4 c.before.before) (Cb 5 (lit< tt)) c.step-b-5.result.sig c.step-b-5.result.exp c.step-b-5.ensures
 
 pub step-a-requires-5 : goal.step-a-requires-5
-step-a-requires-5 c = let o = apart_8 c.before in ready (z o) (y o) (j o) o.before.pre o.opened-y.ensures 4 c.before.step-a-4.result.sig c.before.step-a-4.result.exp (a4 (z o)) (ca 5) (lit≤ tt) (after_a4 c.before) (Ca 5 (lit< tt))
+step-a-requires-5 c = let o = apart_8 c.before in ready (z o) (y o) (j o) o.before.requires o.opened-y.ensures 4 c.before.step-a-4.result.sig c.before.step-a-4.result.exp (a4 (z o)) (ca 5) (lit≤ tt) (after_a4 c.before) (Ca 5 (lit< tt))
 
 after_a5 : (c : goal.After-step-a-5) → After 5 c.step-a-5.result.sig c.step-a-5.result.exp (a5 (z (apart_8 c.before.before)))
-after_a5 c = let o = apart_8 c.before.before in stepped (z o) (y o) (j o) o.before.pre o.opened-y.ensures 4 c.before.before.step-a-4.result.sig c.before.before.step-a-4.result.exp (a4 (z o)) (ca 5) (lit≤ tt) (after_a4 c.before.before) (Ca 5 (lit< tt)) c.step-a-5.result.sig c.step-a-5.result.exp c.step-a-5.ensures
+after_a5 c = let o = apart_8 c.before.before in stepped (z o) (y o) (j o) o.before.requires o.opened-y.ensures 4 c.before.before.step-a-4.result.sig c.before.before.step-a-4.result.exp (a4 (z o)) (ca 5) (lit≤ tt) (after_a4 c.before.before) (Ca 5 (lit< tt)) c.step-a-5.result.sig c.step-a-5.result.exp c.step-a-5.ensures
 
 pub step-b-requires-6 : goal.step-b-requires-6
-step-b-requires-6 c = let o = apart_8 c.before.before in ready (z o) (y o) (j o) o.before.pre o.opened-y.ensures 5 c.before.step-b-5.result.sig c.before.step-b-5.result.exp (b5 (z o)) (cb 6) (lit≤ tt) (after_b5 c.before) (Cb 6 (lit< tt))
+step-b-requires-6 c = let o = apart_8 c.before.before in ready (z o) (y o) (j o) o.before.requires o.opened-y.ensures 5 c.before.step-b-5.result.sig c.before.step-b-5.result.exp (b5 (z o)) (cb 6) (lit≤ tt) (after_b5 c.before) (Cb 6 (lit< tt))
 
 after_b6 : (c : goal.After-step-b-6) → After 6 c.step-b-6.result.sig c.step-b-6.result.exp (b6 (z (apart_8 c.before.before.before)))
-after_b6 c = let o = apart_8 c.before.before.before in stepped (z o) (y o) (j o) o.before.pre o.opened-y.ensures 5 c.before.before.step-b-5.result.sig c.before.before.step-b-5.result.exp (b5 (z o)) (cb 6) (lit≤ tt) (after_b5 c.before.before) (Cb 6 (lit< tt)) c.step-b-6.result.sig c.step-b-6.result.exp c.step-b-6.ensures
+after_b6 c = let o = apart_8 c.before.before.before in stepped (z o) (y o) (j o) o.before.requires o.opened-y.ensures 5 c.before.before.step-b-5.result.sig c.before.before.step-b-5.result.exp (b5 (z o)) (cb 6) (lit≤ tt) (after_b5 c.before.before) (Cb 6 (lit< tt)) c.step-b-6.result.sig c.step-b-6.result.exp c.step-b-6.ensures
 
 pub step-a-requires-6 : goal.step-a-requires-6
-step-a-requires-6 c = let o = apart_8 c.before.before.before in ready (z o) (y o) (j o) o.before.pre o.opened-y.ensures 5 c.before.step-a-5.result.sig c.before.step-a-5.result.exp (a5 (z o)) (ca 6) (lit≤ tt) (after_a5 c.before) (Ca 6 (lit< tt))
+step-a-requires-6 c = let o = apart_8 c.before.before.before in ready (z o) (y o) (j o) o.before.requires o.opened-y.ensures 5 c.before.step-a-5.result.sig c.before.step-a-5.result.exp (a5 (z o)) (ca 6) (lit≤ tt) (after_a5 c.before) (Ca 6 (lit< tt))
 
 after_a6 : (c : goal.After-step-a-6) → After 6 c.step-a-6.result.sig c.step-a-6.result.exp (a6 (z (apart_12 c)))
-after_a6 c = let o = apart_12 c in stepped (z o) (y o) (j o) o.before.pre o.opened-y.ensures 5 c.before.before.step-a-5.result.sig c.before.before.step-a-5.result.exp (a5 (z o)) (ca 6) (lit≤ tt) (after_a5 c.before.before) (Ca 6 (lit< tt)) c.step-a-6.result.sig c.step-a-6.result.exp c.step-a-6.ensures
+after_a6 c = let o = apart_12 c in stepped (z o) (y o) (j o) o.before.requires o.opened-y.ensures 5 c.before.before.step-a-5.result.sig c.before.before.step-a-5.result.exp (a5 (z o)) (ca 6) (lit≤ tt) (after_a5 c.before.before) (Ca 6 (lit< tt)) c.step-a-6.result.sig c.step-a-6.result.exp c.step-a-6.ensures
 
 pub step-b-requires-7 : goal.step-b-requires-7
-step-b-requires-7 c = let o = apart_12 c in ready (z o) (y o) (j o) o.before.pre o.opened-y.ensures 6 c.before.step-b-6.result.sig c.before.step-b-6.result.exp (b6 (z o)) (cb 7) (lit≤ tt) (after_b6 c.before) (Cb 7 (lit< tt))
+step-b-requires-7 c = let o = apart_12 c in ready (z o) (y o) (j o) o.before.requires o.opened-y.ensures 6 c.before.step-b-6.result.sig c.before.step-b-6.result.exp (b6 (z o)) (cb 7) (lit≤ tt) (after_b6 c.before) (Cb 7 (lit< tt))
 
 after_b7 : (c : goal.After-step-b-7) → After 7 c.step-b-7.result.sig c.step-b-7.result.exp (b7 (z (apart_12 c.before)))
-after_b7 c = let o = apart_12 c.before in stepped (z o) (y o) (j o) o.before.pre o.opened-y.ensures 6 c.before.before.step-b-6.result.sig c.before.before.step-b-6.result.exp (b6 (z o)) (cb 7) (lit≤ tt) (after_b6 c.before.before) (Cb 7 (lit< tt)) c.step-b-7.result.sig c.step-b-7.result.exp c.step-b-7.ensures
+after_b7 c = let o = apart_12 c.before in stepped (z o) (y o) (j o) o.before.requires o.opened-y.ensures 6 c.before.before.step-b-6.result.sig c.before.before.step-b-6.result.exp (b6 (z o)) (cb 7) (lit≤ tt) (after_b6 c.before.before) (Cb 7 (lit< tt)) c.step-b-7.result.sig c.step-b-7.result.exp c.step-b-7.ensures
 
 pub closed-requires : goal.closed-requires
 closed-requires c = closes 6 c.before.step-a-6.result.sig c.before.step-a-6.result.exp (a6 (z (apart_12 c.before))) (lit≤ tt) (after_a6 c.before)

@@ -9,8 +9,8 @@ use Rattle.math_normal.proofs.FusedSteps.{exact_sound}
 use Rattle.math_normal.proofs.Joining.{joined}
 use Rattle.math_normal.proofs.normal.norm_cdf.Goals as goal
 
-both : (x r : Float) → r ≡ norm_cdf_of x → (r ≡ norm_cdf_of x) × Probability x r
-both x r e = (e, subst (λ (y : Float). Probability x y) (sym e) (norm_within fused_of exact_sound x))
+both : (x r : Float) → r ≡ norm_cdf_of x → record { value : r ≡ norm_cdf_of x; between : Probability x r }
+both x r e = record { value = e; between = subst (λ (y : Float). Probability x y) (sym e) (norm_within fused_of exact_sound x) }
 
 pub returns : goal.returns
 returns c = both _ _ (joined fused_of _ _ _ _ c.abs.ensures c.upper-cum.ensures c.below.ensures)
