@@ -1,7 +1,6 @@
 -- `volatility_at` meets its contract. The loop's invariant: the last pillar among those from place i on, with the best so far, is the last of all, with the first.
 use borrow.Author.Rules.{rules}
 use mathlib.Core.Path.{◌≡◌, sym, ap, ◌∙◌}
-use mathlib.Core.Logic.{⊎_elim}
 use mathlib.Core.Bool.{cond}
 use Prim.Native.Nat.{◌+◌}
 use lib.ListN.{drop, get_or}
@@ -9,6 +8,7 @@ use lib.Ieee.{Float, nan, le}
 use Rattle.curve.specs.Lookups.{just, last_at}
 use Rattle.curve.proofs.Walks.{last_turn, last_short, last_end, volatility_first, volatility_none, volatility_short}
 use Rattle.curve.proofs.lookups.volatility_at.Goals as goal
+use Rattle.curve.proofs.lookups.volatility_at.Goals.{then-times-i, else-times-i}
 
 pub returns-then-times-eq0 : goal.returns-then-times-eq0
 returns-then-times-eq0 c = sym (volatility_none _ _ _ c.if-times-eq0.true)
@@ -25,7 +25,7 @@ pub loop-i-preserved : goal.loop-i-preserved
 loop-i-preserved c =
     let l = c.loop-i in
     let a = c.args in
-    let b : c.if-times-i.best ≡ cond (le (get_or a.times.now l.i nan) a.t) (get_or a.sigmas.now l.i nan) l.best = ⊎_elim (λ w. rw w.0.taken w.2) (λ w. rw w.0.left w.1) c.if-times-i.branch in
+    let b : c.if-times-i.best ≡ cond (le (get_or a.times.now l.i nan) a.t) (get_or a.sigmas.now l.i nan) l.best = elim c.if-times-i.branch [ then-times-i w ↦ rw w.if-times-i.true w.best-is | else-times-i w ↦ rw w.if-times-i.false w.best-is ] in
     (search rules, ap (λ (z : Float). last_at z (drop (l.i + 1) a.times.now) (drop (l.i + 1) a.sigmas.now) a.t) b ∙ sym (last_turn _ _ _ _ _ c.loop-i-test.true c.if-sigmas-i.false) ∙ l.invariant.1)
 
 pub returns : goal.returns

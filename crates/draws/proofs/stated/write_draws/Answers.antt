@@ -9,14 +9,14 @@ pub loop-i-init : goal.loop-i-init
 loop-i-init c = start _ _ _ refl
 
 pub draw-requires : goal.draw-requires
-draw-requires c = c.twelve_steps-twelve.ensures.state.1
+draw-requires c = c.twelve_steps-twelve.ensures.below
 
 pub loop-i-preserved : goal.loop-i-preserved
 unfolding draw_of
 loop-i-preserved c =
     let l = c.loop-i in
     let twelve = c.twelve_steps-twelve in
-    turn _ _ l.i l.state l.out l.invariant (search rules) c.draw.result twelve.result.state (c.draw.ensures ∙ ap quotient_of twelve.ensures.0) twelve.ensures.1.0
+    turn _ _ l.i l.state l.out l.invariant (search rules) c.draw.result twelve.result.state (c.draw.ensures ∙ ap quotient_of twelve.ensures.sum) twelve.ensures.state
 
 pub shape_of-out : goal.shape_of-out
 shape_of-out c = c.loop-i.invariant.sized
@@ -24,4 +24,5 @@ shape_of-out c = c.loop-i.invariant.sized
 pub returns : goal.returns
 returns c =
     let l = c.loop-i in
-    end _ _ l.i l.state l.out l.invariant (search rules)
+    let e = end _ _ l.i l.state l.out l.invariant (search rules) in
+    record { draws = e.0; state = e.1 }

@@ -20,4 +20,4 @@ pub returns : goal.returns
 returns c =
     let l = c.loop-left in
     let e = end c.args.seed l.sum l.state (search rules) l.left l.invariant (search rules) in
-    (e.0, (e.1, e.2))
+    record { sum = e.0; state = e.1; below = e.2 }
