@@ -19,31 +19,28 @@ use Rattle.refusals.specs.Faults.{curve_faults, pillar_faults, grid_faults, seed
 use Rattle.refusals.proofs.Outcomes.{neither}
 use Rattle.refusals.proofs.CurveLaws.{curve_rises}
 use Rattle.draws.specs.Draws.{reaching}
-use Rattle.hullwhite_points.specs.declared.walk.Centre.{Centre}
-use Rattle.hullwhite_paths.specs.Generate.{starts_below, several_for, path_rules, path_rules_on}
+use Rattle.hullwhite_paths.specs.Generate.{path_rules}
+use Rattle.hullwhite_paths.specs.Seeded.{seeded_rules}
 
--- ---- a path's rules on the faults as they were worked: those of the pillars and the grid, and those of the curve and the draws
-pub rules_of : {schedule schedule' : Faults} (curve points : Faults) (zero_seed empty : Bool) {several several' below below' : Bool} (short : Bool) (alpha : Float) {answer : Answer}
-    → schedule ≡ schedule' → several ≡ several' → below ≡ below'
-    → answer ≡ first_of (path_rules schedule curve points zero_seed empty several below short alpha) → answer ≡ first_of (path_rules schedule' curve points zero_seed empty several' below' short alpha)
-rules_of curve points zero_seed empty short alpha p q r h = rw (← p, ← q, ← r) h
+-- ---- a path's rules on the faults as they were worked
+pub rules_of : {schedule schedule' curve curve' points points' : Faults} (empty : Bool) {several several' below below' : Bool} (short : Bool) (alpha : Float) {answer : Answer}
+    → schedule ≡ schedule' → curve ≡ curve' → points ≡ points' → several ≡ several' → below ≡ below'
+    → answer ≡ first_of (path_rules schedule curve points empty several below short alpha) → answer ≡ first_of (path_rules schedule' curve' points' empty several' below' short alpha)
+rules_of empty short alpha p q r s t h = rw (← p, ← q, ← r, ← s, ← t) h
 
-pub rules_on : (centre : Centre) (alpha : Float) (ps ss ts fs grid : List Float) {curve points points' : Faults} (zero_seed : Bool) (room : ℕ) {answer : Answer} → curve ≡ curve_faults ts fs → points ≡ points'
-    → answer ≡ first_of (path_rules (pillar_faults ps ss) curve points zero_seed (eqb (length ps) 0) (several_for centre (length ps)) (starts_below grid) (ltb room (length grid)) alpha)
-    → answer ≡ first_of (path_rules_on centre alpha ps ss ts fs grid points' zero_seed room)
-rules_on centre alpha ps ss ts fs grid {curve} {points} zero_seed room p q h =
-    h
-    ∙ ap (λ (k : Faults). first_of (path_rules (pillar_faults ps ss) k points zero_seed (eqb (length ps) 0) (several_for centre (length ps)) (starts_below grid) (ltb room (length grid)) alpha)) p
-    ∙ ap (λ (k : Faults). first_of (path_rules_on centre alpha ps ss ts fs grid k zero_seed room)) q
+pub seeded_rules_of : {schedule schedule' curve curve' points points' : Faults} (zero_seed empty : Bool) {several several' below below' : Bool} (short : Bool) (alpha : Float) {answer : Answer}
+    → schedule ≡ schedule' → curve ≡ curve' → points ≡ points' → several ≡ several' → below ≡ below'
+    → answer ≡ first_of (seeded_rules schedule curve points zero_seed empty several below short alpha) → answer ≡ first_of (seeded_rules schedule' curve' points' zero_seed empty several' below' short alpha)
+seeded_rules_of zero_seed empty short alpha p q r s t h = rw (← p, ← q, ← r, ← s, ← t) h
 
 -- ---- rules 1 and 4 did not apply, whatever gives the draws
-pub behind : (centre : Centre) (alpha : Float) (ps ss ts fs grid : List Float) (points : Faults) (zero_seed : Bool) (room : ℕ) {answer : Answer}
-    → answer ≡ A.Served → answer ≡ first_of (path_rules_on centre alpha ps ss ts fs grid points zero_seed room)
+pub behind : (ps ss ts fs grid : List Float) (points : Faults) (empty several below : Bool) (room : ℕ) (alpha : Float)
+    → first_of (path_rules (pillar_faults ps ss) (curve_faults ts fs) points empty several below (ltb room (length grid)) alpha) ≡ A.Served
     → (points.size ≡ false) × (in_order true ts ≡ true) × (in_order true ps ≡ true) × (length grid ≤ room)
-behind centre alpha ps ss ts fs grid points zero_seed room e h =
+behind ps ss ts fs grid points empty several below room alpha e =
     let schedule = pillar_faults ps ss in
     let curve = curve_faults ts fs in
-    let none = (none_applies (path_rules_on centre alpha ps ss ts fs grid points zero_seed room)).0 (sym h ∙ e) in
+    let none = (none_applies (path_rules schedule curve points empty several below (ltb room (length grid)) alpha)).0 e in
     let sizes = neither (schedule.size || curve.size || points.size) (ltb room (length grid)) none.0 in
     let orders = neither (schedule.order || curve.order) points.order none.1.1.1.0 in
     let listed = neither schedule.order curve.order orders.0 in
@@ -57,6 +54,35 @@ grid_sized grid draws e =
 
 pub seeded_sized : (grid : List Float) → (seeded_grid_faults grid).size ≡ false → length grid ≤ 1024
 seeded_sized grid e = ltb-false 1024 (length grid) e
+
+pub grid_fits : (ps ss ts fs grid draws : List Float) (empty several below : Bool) (room : ℕ) (alpha : Float) {answer : Answer}
+    → answer ≡ A.Served → answer ≡ first_of (path_rules (pillar_faults ps ss) (curve_faults ts fs) (grid_faults grid draws) empty several below (ltb room (length grid)) alpha)
+    → (length grid ≤ 1024) × (length draws ≡ length grid) × (in_order true ts ≡ true) × (in_order true ps ≡ true) × (length grid ≤ room)
+grid_fits ps ss ts fs grid draws empty several below room alpha e h =
+    let b = behind ps ss ts fs grid (grid_faults grid draws) empty several below room alpha (sym h ∙ e) in
+    let sized = grid_sized grid draws b.0 in
+    (sized.0, sized.1, b.1, b.2, b.3)
+
+-- ---- the rules on the draws of a seed: a seed that is not 0 leaves those on listed draws, and so does one that is let through
+pub same_rules : (schedule curve points : Faults) (empty several below short : Bool) (alpha : Float)
+    → first_of (seeded_rules schedule curve points false empty several below short alpha) ≡ first_of (path_rules schedule curve points empty several below short alpha)
+unfolding first_of
+same_rules schedule curve points empty several below short alpha = refl
+
+pub unseeded : (schedule curve points : Faults) (zero_seed empty several below short : Bool) (alpha : Float)
+    → first_of (seeded_rules schedule curve points zero_seed empty several below short alpha) ≡ A.Served → first_of (path_rules schedule curve points empty several below short alpha) ≡ A.Served
+unseeded schedule curve points zero_seed empty several below short alpha e =
+    let n = (none_applies (seeded_rules schedule curve points zero_seed empty several below short alpha)).0 e in
+    (none_applies (path_rules schedule curve points empty several below short alpha)).1 (n.0, (n.1.0, (n.1.1.0, (n.1.1.1.0, (n.1.1.1.1.0, (n.1.1.1.1.1.0, n.1.1.1.1.1.1.1))))))
+
+pub seeded_fits : (ps ss ts fs grid : List Float) {schedule curve points : Faults} (zero_seed empty several below : Bool) (room : ℕ) (alpha : Float) {answer : Answer}
+    → schedule ≡ pillar_faults ps ss → curve ≡ curve_faults ts fs → points ≡ seeded_grid_faults grid
+    → answer ≡ A.Served → answer ≡ first_of (seeded_rules schedule curve points zero_seed empty several below (ltb room (length grid)) alpha)
+    → (length grid ≤ 1024) × (in_order true ts ≡ true) × (in_order true ps ≡ true) × (length grid ≤ room)
+seeded_fits ps ss ts fs grid zero_seed empty several below room alpha p q r e h =
+    let rules = seeded_rules_of zero_seed empty (ltb room (length grid)) alpha p q r refl refl h in
+    let b = behind ps ss ts fs grid (seeded_grid_faults grid) empty several below room alpha (unseeded _ _ _ zero_seed _ _ _ _ _ (sym rules ∙ e)) in
+    (seeded_sized grid b.0, b.1, b.2, b.3)
 
 -- ---- the state that is told beside what a path came to
 pub not_reached : (o : Outcome (List Float)) (state : ℕ) {answer : Answer} {r : Refusal} → answer ≡ A.Refused r → answer ≡ answer_of o → refused r ≡ reaching o state

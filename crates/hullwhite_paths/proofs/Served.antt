@@ -4,7 +4,7 @@ use mathlib.Core.Bool.{Bool, true, false, cond}
 use mathlib.Core.List.{List, [], ◌∷◌}
 use Prim.Native.Nat.{ℕ, suc}
 use native.Mathlib.Omega.{arith}
-use lib.Dec.{eqb}
+use lib.Dec.{ltb, eqb}
 use lib.ListN.{length}
 use lib.Ieee.{Float}
 use Rattle.ieee.specs.Rounded.{◌⊕◌}
@@ -16,7 +16,7 @@ use Rattle.refusals.specs.declared.checks.Test.TheVariants.{Finite}
 use Rattle.refusals.specs.Checks.{all_of}
 use Rattle.refusals.specs.Refusals.{Outcome, served, refused, first_of, after, following, prepend}
 use Rattle.curve.specs.Lookups.{Maybe, just, nothing, factor_at, required, needing, volatility_at}
-use Rattle.refusals.specs.Faults.{grid_faults, seeded_grid_faults}
+use Rattle.refusals.specs.Faults.{curve_faults, pillar_faults, grid_faults}
 use Rattle.refusals.proofs.Outcomes.{not_both, served_is}
 use Rattle.draws.specs.Draws.{draws_of}
 use Rattle.draws.proofs.Lists.{draws_length}
@@ -25,8 +25,9 @@ use Rattle.hullwhite_points.specs.declared.walk.State.{State}
 use Rattle.hullwhite_points.specs.declared.walk.Centre.{Centre}
 use Rattle.hullwhite_transitions.specs.Written.{finishing_list}
 use Rattle.hullwhite_points.specs.Path.{state_after, shift_of, path_from, start_state}
-use Rattle.hullwhite_paths.specs.Generate.{path_rules_on, generate_outcome, seeded_outcome}
-use Rattle.hullwhite_paths.proofs.Outcomes.{behind, grid_sized}
+use Rattle.hullwhite_paths.specs.Generate.{starts_below, several_for, path_rules, generate_outcome}
+use Rattle.hullwhite_paths.specs.Seeded.{seeded_rules_on, seeded_outcome}
+use Rattle.hullwhite_paths.proofs.Outcomes.{grid_fits}
 
 -- ---- what is served was let through at each step
 after_served : {B : Type 0} (a : Answer) (rest : Outcome B) (v : B) → after a rest ≡ served v → (a ≡ A.Served) × (rest ≡ served v)
@@ -72,12 +73,16 @@ module _ (centre : Centre) (alpha : Float) (ps ss ts fs : List Float) where
   pub path_length : (grid draws : List Float) (room : ℕ) (xs : List Float) → generate_outcome centre alpha ps ss ts fs grid draws room ≡ served xs → length xs ≡ length grid
   unfolding generate_outcome
   path_length grid draws room xs e =
-      let a = after_served (first_of (path_rules_on centre alpha ps ss ts fs grid (grid_faults grid draws) false room)) (following (path_from centre alpha ps ss ts fs start_state grid draws) finishing_list) xs e in
-      walked_length grid draws xs (grid_sized grid draws (behind centre alpha ps ss ts fs grid (grid_faults grid draws) false room a.0 refl).0).1 a.1
+      let empty = eqb (length ps) 0 in
+      let several = several_for centre (length ps) in
+      let below = starts_below grid in
+      let rules = path_rules (pillar_faults ps ss) (curve_faults ts fs) (grid_faults grid draws) empty several below (ltb room (length grid)) alpha in
+      let a = after_served (first_of rules) (following (path_from centre alpha ps ss ts fs start_state grid draws) finishing_list) xs e in
+      walked_length grid draws xs (grid_fits ps ss ts fs grid draws empty several below room alpha a.0 refl).1 a.1
 
   pub seeded_length : (grid : List Float) (seed room : ℕ) (xs : List Float) → seeded_outcome centre alpha ps ss ts fs grid seed room ≡ served xs → length xs ≡ length grid
   unfolding seeded_outcome
   seeded_length grid seed room xs e =
       let draws = draws_of (length grid) seed in
-      let a = after_served (first_of (path_rules_on centre alpha ps ss ts fs grid (seeded_grid_faults grid) (eqb seed 0) room)) (following (path_from centre alpha ps ss ts fs start_state grid draws) finishing_list) xs e in
+      let a = after_served (first_of (seeded_rules_on centre alpha ps ss ts fs grid seed room)) (following (path_from centre alpha ps ss ts fs start_state grid draws) finishing_list) xs e in
       walked_length grid draws xs (draws_length (length grid) seed) a.1

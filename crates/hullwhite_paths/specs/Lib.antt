@@ -1,2 +1,3 @@
--- What the contracts of a short-rate path say.
+-- What the contracts of a short-rate path say: on listed draws, and on those of a seed.
 pub mod Generate
+pub mod Seeded

@@ -1,13 +1,14 @@
 // hullwhitemodel.rs, generate: a short-rate path over a grid of times, from one standard-normal draw a
 // point, listed or of a seed, centred as the Rust has it (kind 12) or as published (kind 13).
-ghost use Rattle.std.specs.Prelude.{◌≡◌, true, [], ◌≤◌, eqb, ltb, length};
+ghost use Rattle.std.specs.Prelude.{◌≡◌, true, [], ◌≤◌, length};
 ghost use Rattle.refusals.specs.Refusals.{answer_of, answer_number, reported, first_of, following};
 ghost use Rattle.refusals.specs.Checks.{in_order};
-ghost use Rattle.refusals.specs.Faults.{curve_faults, pillar_faults};
+ghost use Rattle.refusals.specs.Faults.{curve_faults};
 ghost use Rattle.draws.specs.Draws.{reached_by, reaching, drawn_outcome};
 ghost use Rattle.hullwhite_points.specs.Path.{start_state, path_from};
 ghost use Rattle.hullwhite_transitions.specs.Written.{stored_of, finishing_list};
-ghost use Rattle.hullwhite_paths.specs.Generate.{path_rules, several_for, starts_below, generate_outcome, seeded_outcome};
+ghost use Rattle.hullwhite_paths.specs.Generate.{path_rules, several_for, starts_below, generate_outcome};
+ghost use Rattle.hullwhite_paths.specs.Seeded.{seeded_rules, seeded_outcome};
 
 use draws::Drawn;
 use hullwhite_points::Centre;
@@ -55,17 +56,18 @@ pub fn generate_on(
     ensures output { out.new ≡ stored_of (generate_outcome centre alpha pillars.now sigmas.now times.now factors.now grid.now draws.now (length out.old)) out.old }
     ensures number { answer_number result ≡ (reported [] (generate_outcome centre alpha pillars.now sigmas.now times.now factors.now grid.now draws.now (length out.old))).answer }
 {
+    let schedule = refusals::pillar_faults(pillars, sigmas);
     let points = refusals::grid_faults(grid, draws);
-    let answer = rules_on(
-        centre,
+    let n = grid.len();
+    let answer = path_rules(
+        schedule,
         curve,
-        alpha,
-        pillars,
-        sigmas,
-        grid,
         points,
-        false,
-        out.len(),
+        pillars.len() == 0,
+        several_for(centre, pillars.len()),
+        starts_below(grid),
+        out.len() < n,
+        alpha,
     );
     if let Answer::Refused(refusal) = answer {
         return Answer::Refused(refusal);
@@ -91,23 +93,27 @@ pub fn generate_seeded(
     ensures output { out.new ≡ stored_of (seeded_outcome centre alpha pillars.now sigmas.now times.now factors.now grid.now seed (length out.old)) out.old }
     ensures report { reported 0 (drawn_outcome result) ≡ reported 0 (reaching (seeded_outcome centre alpha pillars.now sigmas.now times.now factors.now grid.now seed (length out.old)) (reached_by (length grid.now) seed)) }
 {
+    let schedule = refusals::pillar_faults(pillars, sigmas);
     let curve = refusals::curve_faults(times, factors);
     let points = refusals::seeded_grid_faults(grid);
-    let answer = rules_on(
-        centre,
+    let n = grid.len();
+    let no_pillars = pillars.len() == 0;
+    let several = several_for(centre, pillars.len());
+    let short = out.len() < n;
+    let answer = seeded_rules(
+        schedule,
         curve,
-        alpha,
-        pillars,
-        sigmas,
-        grid,
         points,
         seed == 0,
-        out.len(),
+        no_pillars,
+        several,
+        starts_below(grid),
+        short,
+        alpha,
     );
     if let Answer::Refused(refusal) = answer {
         return Drawn::Refused(refusal);
     }
-    let n = grid.len();
     let mut drawn = [0.0; 1024];
     let state = draws::write_draws(seed, &mut drawn[..n]);
     let written = write_path(
@@ -164,34 +170,6 @@ fn write_path(
     hullwhite_transitions::finish(&work[..n], out)
 }
 
-// What the rules come to; `points` is what the grid breaks.
-fn rules_on(
-    centre: Centre,
-    curve: Faults,
-    alpha: f64,
-    pillars: &[f64],
-    sigmas: &[f64],
-    grid: &[f64],
-    points: Faults,
-    zero_seed: bool,
-    room: usize,
-) -> Answer
-    ensures { result ≡ first_of (path_rules (pillar_faults pillars.now sigmas.now) curve points zero_seed (eqb (length pillars.now) 0) (several_for centre (length pillars.now)) (starts_below grid.now) (ltb room (length grid.now)) alpha) }
-{
-    let schedule = refusals::pillar_faults(pillars, sigmas);
-    path_rules(
-        schedule,
-        curve,
-        points,
-        zero_seed,
-        pillars.len() == 0,
-        several_for(centre, pillars.len()),
-        starts_below(grid),
-        room < grid.len(),
-        alpha,
-    )
-}
-
 // Whether there are more pillars than the centre serves: the published one has one sigma for all times.
 fn several_for(centre: Centre, pillars: usize) -> bool
     ensures { result ≡ several_for centre pillars }
@@ -217,14 +195,13 @@ fn path_rules(
     schedule: Faults,
     curve: Faults,
     points: Faults,
-    zero_seed: bool,
     empty: bool,
     several: bool,
     below: bool,
     short: bool,
     alpha: f64,
 ) -> Answer
-    ensures { result ≡ first_of (path_rules schedule curve points zero_seed empty several below short alpha) }
+    ensures { result ≡ first_of (path_rules schedule curve points empty several below short alpha) }
 {
     let finite = math_elementary::is_finite(alpha);
     let mut answer = refusals::and_rule(
@@ -245,7 +222,27 @@ fn path_rules(
     );
     answer = refusals::and_rule(answer, Refusal::Times, below);
     answer = refusals::and_rule(answer, Refusal::Domain, schedule.domain | curve.domain);
-    answer = refusals::and_rule(answer, Refusal::ZeroSeed, zero_seed);
     answer = refusals::and_rule(answer, Refusal::Empty, empty);
     refusals::and_rule(answer, Refusal::SeveralPillars, several)
+}
+
+// The rules on the draws of a seed: 14 is asked behind 6, which are the rules of a path that has nothing to say of
+// its pillars, and ahead of the two on the pillars, 7 and 15.
+fn seeded_rules(
+    schedule: Faults,
+    curve: Faults,
+    points: Faults,
+    zero_seed: bool,
+    no_pillars: bool,
+    several: bool,
+    below: bool,
+    short: bool,
+    alpha: f64,
+) -> Answer
+    ensures { result ≡ first_of (seeded_rules schedule curve points zero_seed no_pillars several below short alpha) }
+{
+    let six = path_rules(schedule, curve, points, false, false, below, short, alpha);
+    let seeded = refusals::and_rule(six, Refusal::ZeroSeed, zero_seed);
+    let pillared = refusals::and_rule(seeded, Refusal::Empty, no_pillars);
+    refusals::and_rule(pillared, Refusal::SeveralPillars, several)
 }

@@ -60,9 +60,9 @@ module _ (ts fs : List Float) (t : Float) where
     unfolding forward_at
     no_second e = rw (found, e)
 
-    pub both_found : (p_plus_lem : Float) → factor_at ts fs (t ⊕ h) ≡ just p_plus_lem → forward_at ts fs t ≡ just (forward_of p p_plus_lem)
+    pub both_found : (p_plus : Float) → factor_at ts fs (t ⊕ h) ≡ just p_plus → forward_at ts fs t ≡ just (forward_of p p_plus)
     unfolding forward_at
-    both_found p_plus_lem e = rw (found, e)
+    both_found p_plus e = rw (found, e)
 
 needing_both : {B : Type 0} (p q : Maybe) (rest : Float → Outcome B) → needing p (λ x. needing q (λ y. rest (forward_of x y))) ≡ needing (forward_of_both p q) rest
 needing_both (just x) (just y) rest = refl

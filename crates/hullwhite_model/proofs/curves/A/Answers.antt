@@ -5,24 +5,12 @@ use Rattle.refusals.proofs.Refusing.{rises}
 use Rattle.hullwhite_model.proofs.curves.A.Goals as goal
 
 pub a_priced-requires : goal.a_priced-requires
-a_priced-requires c = rises _ _ _ _ _ c.curve_faults-curve.ensures c.in-Served.is c.option_rules_lem.ensures (λ n. n.1.1.1.0)
+a_priced-requires c = rises _ _ _ _ _ c.curve_faults-curve.ensures c.in-Served.is c.option_rules-answer.ensures (λ n. n.1.1.1.0)
 
 pub returns-in-Refused : goal.returns-in-Refused
 unfolding a_outcome
-returns-in-Refused c = priced_refused _ _ c.in-Refused.is (rw c.curve_faults-curve.ensures at c.option_rules_lem.ensures)
+returns-in-Refused c = priced_refused _ _ c.in-Refused.is (rw c.curve_faults-curve.ensures at c.option_rules-answer.ensures)
 
 pub returns-in-Served : goal.returns-in-Served
 unfolding a_outcome
-returns-in-Served c = priced_served _ _ c.in-Served.is (rw c.curve_faults-curve.ensures at c.option_rules_lem.ensures) c.a_priced.ensures
-
-pub A-spec : {M : Type 1} → statement M
-A-spec =
-    tie.close
-    (tie.spec
-    curve_faults_requires
-    option_rules_requires
-    enum_known_answer
-    enum_told
-    a_priced_requires
-    returns
-    returns_2)
+returns-in-Served c = priced_served _ _ c.in-Served.is (rw c.curve_faults-curve.ensures at c.option_rules-answer.ensures) c.a_priced.ensures

@@ -7,21 +7,8 @@ use Rattle.hullwhite_model.proofs.curves.B.Goals as goal
 
 pub returns-in-Refused : goal.returns-in-Refused
 unfolding b_outcome
-returns-in-Refused c = priced_refused _ _ c.in-Refused.is (rw c.no_faults.ensures at c.option_rules_lem.ensures)
+returns-in-Refused c = priced_refused _ _ c.in-Refused.is (rw c.no_faults.ensures at c.option_rules-answer.ensures)
 
 pub returns-in-Served : goal.returns-in-Served
 unfolding b_outcome
-returns-in-Served c = priced_served _ _ c.in-Served.is (rw c.no_faults.ensures at c.option_rules_lem.ensures) (c.served.ensures ∙ ap finishing c.b_of.ensures)
-
-pub B-spec : {M : Type 1} → statement M
-B-spec =
-    tie.close
-    (tie.spec
-    no_faults_requires
-    option_rules_requires
-    enum_known_answer
-    enum_told
-    b_of_requires
-    served_requires
-    returns
-    returns_2)
+returns-in-Served c = priced_served _ _ c.in-Served.is (rw c.no_faults.ensures at c.option_rules-answer.ensures) (c.served.ensures ∙ ap finishing c.b_of.ensures)

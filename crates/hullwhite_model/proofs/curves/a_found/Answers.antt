@@ -15,4 +15,4 @@ returns-in_default-factor-2 c =
 
 pub returns : goal.returns
 returns c =
-    λ rest. rw (at _ c.in-At.is c.factor.ensures, at _ c.in-At-factor.is c.factor-2.ensures, ← c.day.ensures, at _ c.p_plus_lem.given.1 c.factor-3.ensures, ← c.forward_of-forward.ensures, ← c.a_of.ensures)
+    λ rest. rw (at _ c.in-At.is c.factor.ensures, at _ c.in-At-factor.is c.factor-2.ensures, ← c.day.ensures, at _ c.in-At-factor-2.is c.factor-3.ensures, ← c.forward_of-forward.ensures, ← c.a_of.ensures)

@@ -7,8 +7,8 @@ use Rattle.hullwhite_model.proofs.curves.short_rate_variance.Goals as goal
 
 pub returns-in-Refused : goal.returns-in-Refused
 unfolding short_rate_variance_outcome
-returns-in-Refused c = priced_refused _ _ c.in-Refused.is (rw c.no_faults.ensures at c.option_rules_lem.ensures)
+returns-in-Refused c = priced_refused _ _ c.in-Refused.is (rw c.no_faults.ensures at c.option_rules-answer.ensures)
 
 pub returns-in-Served : goal.returns-in-Served
 unfolding short_rate_variance_outcome
-returns-in-Served c = priced_served _ _ c.in-Served.is (rw c.no_faults.ensures at c.option_rules_lem.ensures) (c.served.ensures ∙ ap finishing c.short_rate_variance_of.ensures)
+returns-in-Served c = priced_served _ _ c.in-Served.is (rw c.no_faults.ensures at c.option_rules-answer.ensures) (c.served.ensures ∙ ap finishing c.short_rate_variance_of.ensures)

@@ -15,4 +15,4 @@ returns-in_default-factor c =
 pub returns : goal.returns
 unfolding theta_priced
 returns c =
-    rw (at _ c.in-At.is c.factor.ensures, ← c.day.ensures, at _ c.p_plus_lem.given.1 c.factor-2.ensures) c.theta_from.ensures
+    rw (at _ c.in-At.is c.factor.ensures, ← c.day.ensures, at _ c.in-At-factor.is c.factor-2.ensures) c.theta_from.ensures

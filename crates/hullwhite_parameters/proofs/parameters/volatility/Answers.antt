@@ -5,8 +5,8 @@ use Rattle.hullwhite_parameters.proofs.parameters.volatility.Goals as goal
 
 pub returns-in-Refused : goal.returns-in-Refused
 unfolding volatility_outcome
-returns-in-Refused c = priced_refused _ _ c.in-Refused.is (rw c.pillar_faults-pillars.ensures at c.volatility_rules_lem.ensures)
+returns-in-Refused c = priced_refused _ _ c.in-Refused.is (rw c.pillar_faults-pillars.ensures at c.volatility_rules-answer.ensures)
 
 pub returns-in-Served : goal.returns-in-Served
 unfolding volatility_outcome
-returns-in-Served c = priced_served _ _ c.in-Served.is (rw c.pillar_faults-pillars.ensures at c.volatility_rules_lem.ensures) c.volatility_found.ensures
+returns-in-Served c = priced_served _ _ c.in-Served.is (rw c.pillar_faults-pillars.ensures at c.volatility_rules-answer.ensures) c.volatility_found.ensures

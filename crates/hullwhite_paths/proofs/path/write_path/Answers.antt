@@ -8,43 +8,32 @@ use Rattle.refusals.proofs.Outcomes.{turned_down, let_through}
 use Rattle.refusals.proofs.Lending.{lent_is, back_fits, back_is, values_are}
 use Rattle.hullwhite_paths.proofs.path.write_path.Goals as goal
 
--- the working list, what a caller has shown of the grid, and the points as they were worked
+-- the working list
 abbrev work : List Float
 work = replicate 1024 zero
 
-abbrev entry : goal.After-work-1 → goal.Start
-entry w = w.before.before.before.before.before.before.before.before
-
-abbrev worked : goal.After-walk_grid-walk → List Float
-worked v = v.walk_grid-walk.new.1.1.1.1.1.1.1.1.0
-
 pub slice_bounds-work-end : goal.slice_bounds-work-end
-slice_bounds-work-end c = c.before.before.before.before.before.before.before.requires.0
+slice_bounds-work-end c = c.requires.0
 
 pub slice_bounds-walk_grid-end : goal.slice_bounds-walk_grid-end
-slice_bounds-walk_grid-end c = lent_is work _ (entry c).requires.0
+slice_bounds-walk_grid-end c = lent_is work _ c.requires.0
 
 pub walk_grid-walk-requires : goal.walk_grid-walk-requires
-walk_grid-walk-requires c = let p = (entry c).requires in (sym (lent_is work _ p.0), p.1, p.2, p.3)
+walk_grid-walk-requires c = let p = c.requires in (sym (lent_is work _ p.0), p.1, p.2, p.3)
 
 pub returns-in-Refused : goal.returns-in-Refused
-returns-in-Refused c = let v = c.before.before.before.before in rw (v.walk_grid-walk.ensures ∙ turned_down _ _ c.before.in-Refused.is refl) (refl, refl)
+returns-in-Refused c = rw (c.walk_grid-walk.ensures ∙ turned_down _ _ c.in-Refused.is refl) (refl, refl)
 
 pub slice_bounds-work-end-2 : goal.slice_bounds-work-end-2
-slice_bounds-work-end-2 c = let v = c.before.before.before in back_fits work _ (entry v.before).requires.0 (worked v) v.walk_grid-walk.auto.1.1.1.1.1.1.1.1.0
+slice_bounds-work-end-2 c = back_fits work _ c.requires.0 c.walk_grid-walk.new.out c.walk_grid-walk.auto.out
 
 pub slice_bounds-finish-end : goal.slice_bounds-finish-end
-slice_bounds-finish-end c = let v = c.before.before.before.before in back_is work _ (entry v.before).requires.0 (worked v) v.walk_grid-walk.auto.1.1.1.1.1.1.1.1.0
+slice_bounds-finish-end c = back_is work _ c.requires.0 c.walk_grid-walk.new.out c.walk_grid-walk.auto.out
 
 pub finish-requires : goal.finish-requires
-finish-requires c =
-    let v = c.before.before.before.before.before in
-    let p = (entry v.before).requires in
-    rw (← back_is work _ p.0 (worked v) v.walk_grid-walk.auto.1.1.1.1.1.1.1.1.0) p.4
+finish-requires c = rw (← back_is work _ c.requires.0 c.walk_grid-walk.new.out c.walk_grid-walk.auto.out) c.requires.4
 
 pub returns : goal.returns
 returns c =
-    let v = c.before.before.before.before.before.before.before.before in
-    let w = values_are work _ (entry v.before).requires.0 (worked v) v.walk_grid-walk.auto.1.1.1.1.1.1.1.1.0 in
-    let f = c.before.before.finish.ensures in
-    rw (v.walk_grid-walk.ensures ∙ let_through _ _ c.before.before.before.before.before.in_default.is refl, ← w) f
+    let w = values_are work _ c.requires.0 c.walk_grid-walk.new.out c.walk_grid-walk.auto.out in
+    rw (c.walk_grid-walk.ensures ∙ let_through _ _ c.in_default.is refl, ← w) (c.finish.ensures.0, c.finish.ensures.1)

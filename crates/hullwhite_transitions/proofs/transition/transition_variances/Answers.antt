@@ -24,13 +24,13 @@ work = replicate 1024 zero
 abbrev entry : goal.After-transition_rules-answer → goal.Start
 entry r = r.before.before.before.before.before
 
-rules : (r : goal.After-transition_rules-answer) → let a = (entry r).args in r.transition_rules_lem.result ≡ first_of (transition_rules (pillar_faults a.times.now a.sigmas.now) (eqb (length a.times.now) 0) a.alpha a.steps (length a.out-1.now) a.time-step)
+rules : (r : goal.After-transition_rules-answer) → let a = (entry r).args in r.transition_rules-answer.result ≡ first_of (transition_rules (pillar_faults a.times.now a.sigmas.now) (eqb (length a.times.now) 0) a.alpha a.steps (length a.out-1.now) a.time_step)
 rules r =
     let a = (entry r).args in
-    r.transition_rules_lem.ensures ∙ ap (λ (f : Faults). first_of (transition_rules f (eqb (length a.times.now) 0) a.alpha a.steps (length a.out-1.now) a.time-step)) r.before.pillar_faults-pillars.ensures
+    r.transition_rules-answer.ensures ∙ ap (λ (f : Faults). first_of (transition_rules f (eqb (length a.times.now) 0) a.alpha a.steps (length a.out-1.now) a.time_step)) r.before.pillar_faults-pillars.ensures
 
 fit : (e : goal.In_default) → let a = (entry e.before.before).args in (a.steps ≤ 1024) × (a.steps ≤ length a.out-1.now)
-fit e = let a = (entry e.before.before).args in steps_fit (pillar_faults a.times.now a.sigmas.now) (eqb (length a.times.now) 0) a.alpha a.steps (length a.out-1.now) a.time-step e.in_default.is (rules e.before.before)
+fit e = let a = (entry e.before.before).args in steps_fit (pillar_faults a.times.now a.sigmas.now) (eqb (length a.times.now) 0) a.alpha a.steps (length a.out-1.now) a.time_step e.in_default.is (rules e.before.before)
 
 abbrev worked : goal.After-variances → List Float
 worked v = v.variances.new.1.1.1.1.0
@@ -40,7 +40,7 @@ unfolding transition_outcome
 returns-in-Refused c =
     let r = c.before.before.before in
     let a = (entry r).args in
-    rw (turned_down _ (finishing_list (variances_of a.alpha a.times.now a.sigmas.now a.time-step 0 a.steps)) c.before.in-Refused.is (rules r)) (refl, (refl, refl))
+    rw (turned_down _ (finishing_list (variances_of a.alpha a.times.now a.sigmas.now a.time_step 0 a.steps)) c.before.in-Refused.is (rules r)) (refl, (refl, refl))
 
 pub slice_bounds-work-end : goal.slice_bounds-work-end
 slice_bounds-work-end c = (fit c).0
@@ -68,7 +68,7 @@ returns c =
     let v = c.before.before.before.before.before.before in
     let e = v.before.before in
     let a = (entry e.before.before).args in
-    let all = variances_of a.alpha a.times.now a.sigmas.now a.time-step 0 in
+    let all = variances_of a.alpha a.times.now a.sigmas.now a.time_step 0 in
     let w = values_are work _ (fit e).0 (worked v) v.variances.auto.1.1.1.1.0 ∙ v.variances.ensures ∙ ap all (sym (lent_is work _ (fit e).0)) in
     let f = c.before.before.finish.ensures in
     rw (let_through _ (finishing_list (all a.steps)) e.in_default.is (rules e.before.before), ← w) (f.0, (f.1, ap answer_number f.0))

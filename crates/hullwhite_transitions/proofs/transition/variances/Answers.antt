@@ -13,7 +13,7 @@ pub loop-i-preserved : goal.loop-i-preserved
 loop-i-preserved c =
     let l = c.loop-i in
     let a = c.args in
-    (search rules, simp length-set l.invariant.1, rw c.step_variance.ensures (sym (variances_turn a.alpha a.times.now a.sigmas.now a.time-step l.out (length a.out.now) l.i l.invariant.1 (search rules)) ∙ l.invariant.2))
+    (search rules, simp length-set l.invariant.1, rw c.step_variance.ensures (sym (variances_turn a.alpha a.times.now a.sigmas.now a.time_step l.out (length a.out.now) l.i l.invariant.1 (search rules)) ∙ l.invariant.2))
 
 pub shape_of-out : goal.shape_of-out
 shape_of-out c = c.loop-i.invariant.1
@@ -22,4 +22,4 @@ pub returns : goal.returns
 returns c =
     let l = c.loop-i in
     let a = c.args in
-    sym (variances_end a.alpha a.times.now a.sigmas.now a.time-step l.out (length a.out.now) l.i l.invariant.1 (search rules)) ∙ l.invariant.2
+    sym (variances_end a.alpha a.times.now a.sigmas.now a.time_step l.out (length a.out.now) l.i l.invariant.1 (search rules)) ∙ l.invariant.2
