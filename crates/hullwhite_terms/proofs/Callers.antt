@@ -1,12 +1,10 @@
 -- For calls that end in a search: rules and lookups refuse by 1 to 8 alone, so whatever a call comes to beyond those, its search was begun; and by what the search comes to the call is served or refused.
 use mathlib.Core.Path.{◌≡◌, refl, sym, ap, ◌∙◌, subst}
-use mathlib.Core.Logic.{◌⊎◌, inl, inr, ⊎_elim}
+use mathlib.Core.Logic.{inl, inr}
 use mathlib.Core.Bool.{Bool, true, false, not, ◌&&◌, cond}
 use mathlib.Core.List.{List, [], ◌∷◌}
 use Prim.Native.Nat.{ℕ}
 use native.Mathlib.Omega.{arith}
-use types.Run.{OneOf}
-use denote.Enum.Declared.{tag_of}
 use lib.Dec.{T, ltb}
 use lib.Ieee.{Float}
 use lib.Ieee.Fits.{and_l, and_r}
@@ -18,12 +16,12 @@ use Rattle.refusals.specs.Refusals.{Outcome, served, refused, place_of, answer_n
 use Rattle.refusals.specs.Order.{First, first_applies}
 use Rattle.curve.specs.Lookups.{Maybe, just, nothing, needing}
 use Rattle.refusals.proofs.Outcomes.{not_both, served_is, refused_is}
+use Rattle.search.specs.declared.Bracket.{Bracket}
 use Rattle.search.specs.declared.Critical.{Critical}
 use Rattle.search.specs.Rate.{critical_of}
 use Rattle.search.specs.Values.{Values, critical_outcome}
 use Rattle.search.specs.Reached.{Unbracketed}
 use Rattle.search.specs.Facts.{Located}
-use Rattle.search.specs.contracts.Critical as made
 use Rattle.search.proofs.Demand3.{accepted}
 use Rattle.search.proofs.Reaching.{exactly}
 
@@ -131,14 +129,8 @@ pub ends_otherwise : {B : Type 0} (b : Bool) (w : B) → cond b (served w) (refu
 ends_otherwise true w e = not_both (sym e)
 ends_otherwise false w e = let z = ap (λ x. answer_number (answer_of x)) e in omega arith
 
--- ---- of an answer that the code took apart: neither 1, `NotANumber`, nor 0, `Found`, it is `NoBracket`
-abbrev tag : Critical → ℕ
-tag r = tag_of made.the_type r
-
-neither : {B : Type 0} (a b n : ℕ) → (n ≡ a → ⊥) → (n ≡ b → ⊥) → (n ≡ a) ⊎ (n ≡ b) → B
-neither a b n h k x = absurd (⊎_elim h k x)
-
-pub nothing_found : (r : Critical) → OneOf (0 ∷ 2 ∷ []) (tag r) → OneOf (1 ∷ 2 ∷ []) (tag r) → r ≡ Critical.NoBracket
-nothing_found (Critical.Found b i j rate) x y = neither 1 2 0 (λ e. omega arith) (λ e. omega arith) y
-nothing_found Critical.NotANumber x y = neither 0 2 1 (λ e. omega arith) (λ e. omega arith) x
+-- ---- of an answer that the code took apart: neither `NotANumber` nor `Found`, it is `NoBracket`
+pub nothing_found : (r : Critical) → (r ≡ Critical.NotANumber → ⊥) → ((b : Bracket) (i j : ℕ) (rate : Float) → r ≡ Critical.Found b i j rate → ⊥) → r ≡ Critical.NoBracket
+nothing_found (Critical.Found b i j rate) x y = absurd (y b i j rate refl)
+nothing_found Critical.NotANumber x y = absurd (x refl)
 nothing_found Critical.NoBracket x y = refl
