@@ -11,4 +11,4 @@ returns-in-Caplet c = rw c.in-Caplet.is (ap served c.caplet_at.ensures)
 
 pub returns-in-Swaption : goal.returns-in-Swaption
 unfolding model_price_of
-returns-in-Swaption c = rw c.in-Swaption.is (c.value_of_lem.ensures ∙ ap value_alone c.price_at.ensures)
+returns-in-Swaption c = rw c.in-Swaption.is (c.value_of.ensures ∙ ap value_alone c.price_at.ensures)
