@@ -30,8 +30,8 @@ returns c =
     let a = c.args in
     let t = a.text.now in
     let e = ending_length t a.end in
-    let i : c.loop-i.i ≡ length t = omega (arith, c.loop-i.invariant.0, c.loop-i-test.false) in (
-      omega (arith, e, i),
-      turn a.out.now (ending a.end t) a.at c.loop-i.i _ c.loop-i.out (omega (arith, e, c.requires)) (omega (arith, e, i)) (ending_last t a.end c.loop-i.i i) c.loop-i.invariant.2
-          ∙ whole a.out.now (ending a.end t) a.at (c.loop-i.i + 1) (omega (arith, e, i)),
-    )
+    let i : c.loop-i.i ≡ length t = omega (arith, c.loop-i.invariant.0, c.loop-i-test.false) in record {
+      value = omega (arith, e, i);
+      out_after = turn a.out.now (ending a.end t) a.at c.loop-i.i _ c.loop-i.out (omega (arith, e, c.requires)) (omega (arith, e, i)) (ending_last t a.end c.loop-i.i i) c.loop-i.invariant.2
+          ∙ whole a.out.now (ending a.end t) a.at (c.loop-i.i + 1) (omega (arith, e, i));
+    }

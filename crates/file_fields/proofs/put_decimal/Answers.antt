@@ -1,5 +1,5 @@
 -- `file_fields::put_decimal` meets its contract: the digits of a short number are stored one by one. Assumes nothing.
-use mathlib.Core.List.{◌∷◌}
+use mathlib.Core.List.{[], ◌∷◌}
 use native.Mathlib.Omega.{arith}
 use lib.ListN.{length-set}
 use Rattle.file_fields.specs.Fields.{decimal_of}
@@ -14,7 +14,8 @@ pub returns-then-n-lt10 : goal.returns-then-n-lt10
 returns-then-n-lt10 c =
     let a = c.args in
     let x = c.digit.result in
-    same_text _ a.at a.end 21 (x ∷ []) (decimal_of a.n) a.out-1.now _ (one_digit a.n x c.if-n-lt10.true c.digit.ensures) (omega arith) (omega arith, two a.out-1.now a.at x a.end (omega (arith, c.requires)))
+    let s = same_text _ a.at a.end 21 (x ∷ []) (decimal_of a.n) a.out.now _ (one_digit a.n x c.if-n-lt10.true c.digit.ensures) (omega arith) (omega arith, two a.out.now a.at x a.end (omega (arith, c.requires))) in
+    record { upper_bound = s.0; value = s.1.0; out_after = s.1.1 }
 
 pub bounds-out-at-then-n-lt100-2 : goal.bounds-out-at-then-n-lt100-2
 bounds-out-at-then-n-lt100-2 c = simp length-set (omega arith)
@@ -27,7 +28,8 @@ returns-then-n-lt100 c =
     let a = c.args in
     let x = c.digit-then-n-lt100.result in
     let y = c.digit-then-n-lt100-2.result in
-    same_text _ a.at a.end 21 (x ∷ y ∷ []) (decimal_of a.n) a.out-1.now _ (two_digits a.n x y c.if-n-lt10.false c.if-n-lt100.true c.digit-then-n-lt100.ensures c.digit-then-n-lt100-2.ensures) (omega arith) (omega arith, three a.out-1.now a.at x y a.end (omega (arith, c.requires)))
+    let s = same_text _ a.at a.end 21 (x ∷ y ∷ []) (decimal_of a.n) a.out.now _ (two_digits a.n x y c.if-n-lt10.false c.if-n-lt100.true c.digit-then-n-lt100.ensures c.digit-then-n-lt100-2.ensures) (omega arith) (omega arith, three a.out.now a.at x y a.end (omega (arith, c.requires))) in
+    record { upper_bound = s.0; value = s.1.0; out_after = s.1.1 }
 
 pub bounds-out-at-then-n-lt1000-2 : goal.bounds-out-at-then-n-lt1000-2
 bounds-out-at-then-n-lt1000-2 c = simp length-set (omega arith)
@@ -44,4 +46,5 @@ returns-then-n-lt1000 c =
     let x = c.digit-then-n-lt1000.result in
     let y = c.digit-then-n-lt1000-2.result in
     let z = c.digit-then-n-lt1000-3.result in
-    same_text _ a.at a.end 21 (x ∷ y ∷ z ∷ []) (decimal_of a.n) a.out-1.now _ (three_digits a.n x y z c.if-n-lt100.false c.if-n-lt1000.true c.digit-then-n-lt1000.ensures c.digit-then-n-lt1000-2.ensures c.digit-then-n-lt1000-3.ensures) (omega arith) (omega arith, four a.out-1.now a.at x y z a.end (omega (arith, c.requires)))
+    let s = same_text _ a.at a.end 21 (x ∷ y ∷ z ∷ []) (decimal_of a.n) a.out.now _ (three_digits a.n x y z c.if-n-lt100.false c.if-n-lt1000.true c.digit-then-n-lt1000.ensures c.digit-then-n-lt1000-2.ensures c.digit-then-n-lt1000-3.ensures) (omega arith) (omega arith, four a.out.now a.at x y z a.end (omega (arith, c.requires))) in
+    record { upper_bound = s.0; value = s.1.0; out_after = s.1.1 }

@@ -13,7 +13,7 @@ use Rattle.file_fields.proofs.put_hex.Goals as goal
 
 pub shape_of-out : goal.shape_of-out
 shape_of-out c =
-    simp length-set (c.put_word-2.auto.1.0 ∙ c.put_word.auto.1.0)
+    simp length-set (c.put_word-2.auto.out ∙ c.put_word.auto.out)
 
 pub returns : goal.returns
 returns c =
@@ -21,4 +21,5 @@ returns c =
     let u = c.spelled in
     let v = c.spelled-2 in
     let both = ap₂ (λ (x y : List ℕ). x ++ y) u.ensures v.ensures ∙ hex_split 8 8 a.n in
-    (omega arith, two_words a.at a.end (bytes_of 8 u.result) (bytes_of 8 v.result) (hex_of a.n) a.out-1.now _ _ (bytes_length 8 u.result) (bytes_length 8 v.result) both c.requires c.put_word.ensures c.put_word-2.ensures)
+    let w = two_words a.at a.end (bytes_of 8 u.result) (bytes_of 8 v.result) (hex_of a.n) a.out.now _ _ (bytes_length 8 u.result) (bytes_length 8 v.result) both c.requires c.put_word.ensures c.put_word-2.ensures in
+    record { upper_bound = omega arith; value = w.0; out_after = w.1 }

@@ -21,8 +21,8 @@ all_known-requires c =
 
 pub returns-then-not-all_known : goal.returns-then-not-all_known
 returns-then-not-all_known c =
-    unknown _ _ c.if-file-gt65536.false c.if-file-lt48.false c.parts-l.ensures _ c.placed.ensures c.if-not-placed.false _ c.sized.ensures c.if-not-sized.false _ c.all_Known.ensures c.if-not-all_known.true
+    unknown _ _ c.if-file-gt65536.false c.if-file-lt48.false c.parts-l.ensures _ c.placed.ensures c.if-not-placed.false _ c.sized.ensures c.if-not-sized.false _ c.all_known.ensures c.if-not-all_known.true
 
 pub returns : goal.returns
 returns c =
-    keeping _ _ c.if-file-gt65536.false c.if-file-lt48.false c.parts-l.ensures _ c.placed.ensures c.if-not-placed.false _ c.sized.ensures c.if-not-sized.false _ c.all_Known.ensures c.if-not-all_known.false
+    keeping _ _ c.if-file-gt65536.false c.if-file-lt48.false c.parts-l.ensures _ c.placed.ensures c.if-not-placed.false _ c.sized.ensures c.if-not-sized.false _ c.all_known.ensures c.if-not-all_known.false

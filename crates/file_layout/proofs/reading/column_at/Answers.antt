@@ -37,4 +37,4 @@ pub returns-in-7 : goal.returns-in-7
 returns-in-7 c = c.of_part-in-7.ensures ∙ ap (column_at c.args.l) (sym c.in-7.is)
 
 pub returns-in_default : goal.returns-in_default
-returns-in_default c = c.of_part-in_default.ensures ∙ ap (column_at c.args.l) (let x = c.match.rest in last _ c.requires (above _ x.0.0.0.0.0.0.0.1 x.0.0.0.0.0.0.1 x.0.0.0.0.0.1 x.0.0.0.0.1) x.0.0.0.1 x.0.0.1 x.0.1 x.1)
+returns-in_default c = c.of_part-in_default.ensures ∙ ap (column_at c.args.l) (let e : 8 ≡ c.args.which = omega arith in e)

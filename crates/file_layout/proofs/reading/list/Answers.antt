@@ -20,8 +20,8 @@ offset_bounds-floats-at c =
     let z = listed_at c.args.file.now c.args.l c.requires.0 c.args.which c.requires.2 _ c.column_at-c.ensures in
     omega (arith, z.room)
 
-pub no-slice-bounds-result-end : goal.no-slice-bounds-result-end
-no-slice-bounds-result-end c =
+pub slice_bounds-result-end : goal.slice_bounds-result-end
+slice_bounds-result-end c =
     let z = listed_at c.args.file.now c.args.l c.requires.0 c.args.which c.requires.2 _ c.column_at-c.ensures in
     omega (arith, z.room, c.requires.1.room)
 

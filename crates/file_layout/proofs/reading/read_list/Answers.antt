@@ -18,14 +18,14 @@ slice_bounds-column-end c =
 pub slice_bounds-column-end-2 : goal.slice_bounds-column-end-2
 slice_bounds-column-end-2 c =
     let z = listed_at c.args.file.now c.args.l c.requires.0 c.args.which c.requires.1 _ c.column_at-c.ensures in
-    sym (length-take-le _ c.args.out-1.now (omega (arith, z.count, c.requires.2)))
+    sym (length-take-le _ c.args.out.now (omega (arith, z.count, c.requires.2)))
 
 pub column-requires : goal.column-requires
 column-requires c =
     let z = listed_at c.args.file.now c.args.l c.requires.0 c.args.which c.requires.1 _ c.column_at-c.ensures in
-    (z.inside, (z.within, length-take-le _ c.args.out-1.now (omega (arith, z.count, c.requires.2))))
+    record { part_in_bounds = z.inside; field_bound = z.within; out_len = length-take-le _ c.args.out.now (omega (arith, z.count, c.requires.2)) }
 
 pub returns : goal.returns
 returns c =
     let z = listed_at c.args.file.now c.args.l c.requires.0 c.args.which c.requires.1 _ c.column_at-c.ensures in
-    (sym z.count, same_front _ _ _ (c.column.ensures ∙ z.is))
+    record { value = sym z.count; out_after = same_front _ _ _ (c.column.ensures ∙ z.is) }

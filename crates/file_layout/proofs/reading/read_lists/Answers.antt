@@ -21,14 +21,14 @@ slice_bounds-read_list-count c =
     let z = listed_at c.args.file.now c.args.l c.requires.0 l.which c.loop-which-test.true _ c.column_at-c.ensures in
     omega (arith, z.room, l.invariant.1)
 
-pub no-slice-bounds-read-list-start : goal.no-slice-bounds-read-list-start
-no-slice-bounds-read-list-start c =
+pub slice_bounds-read_list-start : goal.slice_bounds-read_list-start
+slice_bounds-read_list-start c =
     let l = c.loop-which in
     let z = listed_at c.args.file.now c.args.l c.requires.0 l.which c.loop-which-test.true _ c.column_at-c.ensures in
     omega (arith, z.room, l.invariant.1)
 
-pub no-slice-bounds-read-list-end : goal.no-slice-bounds-read-list-end
-no-slice-bounds-read-list-end c =
+pub slice_bounds-read_list-end : goal.slice_bounds-read_list-end
+slice_bounds-read_list-end c =
     let l = c.loop-which in
     let z = listed_at c.args.file.now c.args.l c.requires.0 l.which c.loop-which-test.true _ c.column_at-c.ensures in
     omega (arith, z.room, l.invariant.1)
@@ -37,7 +37,7 @@ pub read_list-requires : goal.read_list-requires
 read_list-requires c =
     let l = c.loop-which in
     let z = listed_at c.args.file.now c.args.l c.requires.0 l.which c.loop-which-test.true _ c.column_at-c.ensures in
-    (c.requires.0, c.loop-which-test.true, lent_room l.floats-1 _ (omega (arith, z.room, l.invariant.1)) _ (omega (arith, z.room, z.count, l.invariant.1)))
+    (c.requires.0, c.loop-which-test.true, lent_room l.floats _ (omega (arith, z.room, l.invariant.1)) _ (omega (arith, z.room, z.count, l.invariant.1)))
 
 pub loop-which-preserved : goal.loop-which-preserved
 loop-which-preserved c =
@@ -45,7 +45,7 @@ loop-which-preserved c =
     let z = listed_at c.args.file.now c.args.l c.requires.0 l.which c.loop-which-test.true _ c.column_at-c.ensures in
     let r = c.read_list in
     let t = c.loop-which-test.true in
-    (omega (arith, t), same_room l.floats-1 _ (omega (arith, z.room, l.invariant.1)) r.new.1.1.1.0 r.auto.1.1.1.0 ∙ l.invariant.1, one_more c.args.file.now c.args.l c.requires.0 l.which t _ (ap (λ (k : Column). k.place) c.column_at-c.ensures) l.floats-1 _ _ r.new.1.1.1.0 (omega (arith, z.room, l.invariant.1)) r.ensures.1 l.invariant.2)
+    (omega (arith, t), same_room l.floats _ (omega (arith, z.room, l.invariant.1)) r.new.out r.auto.out ∙ l.invariant.1, one_more c.args.file.now c.args.l c.requires.0 l.which t _ (ap (λ (k : Column). k.place) c.column_at-c.ensures) l.floats _ _ r.new.out (omega (arith, z.room, l.invariant.1)) r.ensures.out_after l.invariant.2)
 
 pub returns : goal.returns
 returns c = record { room = c.loop-which.invariant.1; lists = λ w h. c.loop-which.invariant.2 w (omega (arith, c.loop-which-test.false, h)) }

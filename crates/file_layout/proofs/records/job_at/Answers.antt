@@ -2,4 +2,4 @@
 use Rattle.file_layout.proofs.records.job_at.Goals as goal
 
 pub returns : goal.returns
-returns c = rw (c.word.ensures, c.Float-at.ensures, c.float_at-2.ensures, c.float_at-3.ensures, c.float_at-4.ensures)
+returns c = rw (c.word.ensures, c.float_at.ensures, c.float_at-2.ensures, c.float_at-3.ensures, c.float_at-4.ensures)

@@ -6,5 +6,5 @@ use Rattle.file_lines.proofs.lines.write_refused.Goals as goal
 
 pub returns : goal.returns
 returns c =
-    let d = c.args.out-1.now in
+    let d = c.args.out.now in
     begins _ refused_line d _ (next 0 _ d d (start d) _ refused_line _ (omega (arith, c.requires)) c.put.ensures.value c.put.ensures.out_after)
