@@ -8,7 +8,7 @@ use native.Mathlib.Omega.{arith}
 use lib.Dec.{T, lit<, lit≤}
 use lib.Pow.{pow-add, pow_pos, pow_mono}
 use lib.Count.{count_leading_zeros, leading_top}
-use lib.Ieee.{Float, binary64, size, units, round, sum, fits, to_bits, of_bits, nan_bits}
+use lib.Ieee.{Float, binary64, size, round, fits, to_bits, of_bits, nan_bits}
 use lib.Ieee.Bits.{of_bits-to_bits}
 use lib.Ieee.Exact.{HasValue, units_val}
 use Rattle.ieee_words.specs.Words.{words, jammed}

@@ -139,7 +139,3 @@ unfolding lt is_nan
 under_nan a nan h = absurd (false≢true h)
 under_nan a (inf t) h = refl
 under_nan a (fin t n d) h = refl
-
-pub either_way : (t : Bool) (a : Float) → a ≡ cond t a a
-either_way true a = refl
-either_way false a = refl

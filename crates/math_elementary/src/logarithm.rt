@@ -38,9 +38,11 @@ struct Halved {
     k: i32,
 }
 
-// The digits of x under the exponent that puts them between 0.75 and 1.5: 0x18_0000_0000_0000 is 1.5 at full
-// width, and the leading digit of `full` adds one to the exponent's field. A caller has tested that x is finite
-// and above 0.
+// 1.5 at full width.
+const ONE_AND_A_HALF: u64 = 0x18_0000_0000_0000;
+
+// The digits of x under the exponent that puts them between 0.75 and 1.5: the leading digit of `full` adds one to
+// the exponent's field. A caller has tested that x is finite and above 0.
 fn split(x: f64) -> Halved
     requires { T (positive x) }
     ensures { (result.m ≡ significand_of x) × (result.k ≡ exponent_of x) × (mag result.k < 10000) }
@@ -48,7 +50,7 @@ fn split(x: f64) -> Halved
     let w = widen(x);
     let full = w.full;
     let size = w.size as i32;
-    if full < 0x18_0000_0000_0000 {
+    if full < ONE_AND_A_HALF {
         Halved {
             m: f64::from_bits(full + 0x3fe0_0000_0000_0000),
             k: size - 1075,

@@ -9,6 +9,8 @@ pub fn midpoint(a: f64, b: f64) -> f64
     (a + b) / 2.0
 }
 
+// A test against a NaN fails, so none of its own is needed for the second argument.
+#[tactic(auto, using(crate::proofs::Floats::nan_yes, crate::proofs::Floats::nan_no, crate::proofs::Floats::above_nan))]
 pub fn max(a: f64, b: f64) -> f64
     ensures { result ≡ max_of a b }
 {
@@ -21,6 +23,7 @@ pub fn max(a: f64, b: f64) -> f64
     }
 }
 
+#[tactic(auto, using(crate::proofs::Floats::nan_yes, crate::proofs::Floats::nan_no, crate::proofs::Floats::under_nan))]
 pub fn min(a: f64, b: f64) -> f64
     ensures { result ≡ min_of a b }
 {
@@ -46,13 +49,16 @@ pub fn abs(x: f64) -> f64
     }
 }
 
+// The leading bit of an f64's pattern: its sign.
+const SIGN_BIT: u64 = 0x8000_0000_0000_0000;
+
 // The sign is read off the bits, since no comparison tells -0 from +0.
 pub fn signum(x: f64) -> f64
     ensures { result ≡ signum_of x }
 {
     if x != x {
         x
-    } else if f64::to_bits(x) < 0x8000_0000_0000_0000 {
+    } else if f64::to_bits(x) < SIGN_BIT {
         1.0
     } else {
         -1.0

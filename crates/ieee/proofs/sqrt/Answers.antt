@@ -2,7 +2,6 @@
 use mathlib.Core.Path.{sym, ◌∙◌, subst}
 use mathlib.Core.Logic.{inl, inr}
 use lib.Dec.{T}
-use lib.Ieee.{Float, binary64, fits}
 use Rattle.ieee.proofs.Rooting.{below_zero, above_zero, otherwise}
 use Rattle.ieee.proofs.Nearness.{rounded_root}
 use Rattle.ieee.proofs.sqrt.Goals as goal

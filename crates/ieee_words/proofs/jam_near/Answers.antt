@@ -1,5 +1,5 @@
 -- `ieee_words::jam_near` meets its contract. A shift by less than a word, by its laws in `proofs/Words.antt`. Assumes nothing.
-use Rattle.std.proofs.Common.{◌+◌, ◌%◌, ◌^◌, ◌<◌}
+use Rattle.std.proofs.Common.{◌+◌, ◌%◌}
 use Rattle.ieee_words.proofs.Words.{near_low_of, near_low_fits, cut_le, even_fits, stuck_fits, near_is}
 use Rattle.ieee_words.proofs.jam_near.Goals as goal
 

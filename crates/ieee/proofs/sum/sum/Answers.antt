@@ -2,7 +2,7 @@
 use mathlib.Core.Path.{◌≡◌, sym, ap, ap₂, ◌∙◌}
 use mathlib.Core.Bool.{Bool, true}
 use borrow.Author.Tests.{ltb-true}
-use Prim.Native.Nat.{ℕ, ◌+◌, ◌-◌, ◌*◌, ◌/◌, ◌^◌, ◌≤◌, ◌<◌}
+use Prim.Native.Nat.{ℕ, ◌+◌, ◌-◌, ◌*◌, ◌/◌, ◌^◌, ◌<◌}
 use native.Mathlib.Nat.{lt_of_lt_of_le, lt_of_le_of_lt, le_of_eq, le_of_lt, le_antisymm}
 use lib.Dec.{lit≤, lit<, ltb}
 use lib.Ieee.{Float, binary64, round}
@@ -94,10 +94,10 @@ returns c =
     let n = c.args.e - c.args.d in
     record {
       value =
-        level_case c.args.xh c.args.xl c.args.e c.args.yh c.args.yl c.args.d c.requires.1 c.requires.2 c.requires.3 c.ranges.yl.fits c.args.s c.args.t (sym c.requires.0 ∙ c.if-like.false)
-        (le_antisymm
-        (not_less_so _ _ _ _ _ c.less.ensures c.if-less.false (w_is n c.requires.2 c.jam-w.ensures) (v_is c.requires.1))
-        (not_less_so _ _ _ _ _ c.less-2.ensures c.if-less-2.false (v_is c.requires.1) (w_is n c.requires.2 c.jam-w.ensures)));
+          level_case c.args.xh c.args.xl c.args.e c.args.yh c.args.yl c.args.d c.requires.1 c.requires.2 c.requires.3 c.ranges.yl.fits c.args.s c.args.t (sym c.requires.0 ∙ c.if-like.false)
+          (le_antisymm
+          (not_less_so _ _ _ _ _ c.less.ensures c.if-less.false (w_is n c.requires.2 c.jam-w.ensures) (v_is c.requires.1))
+          (not_less_so _ _ _ _ _ c.less-2.ensures c.if-less-2.false (v_is c.requires.1) (w_is n c.requires.2 c.jam-w.ensures)));
       under = lit< tt;
       small = c.requires.1.small;
     }

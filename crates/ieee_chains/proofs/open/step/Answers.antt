@@ -7,7 +7,6 @@ use lib.Dec.{lit<}
 use lib.Pow.{pow_pos}
 use mir.Syntax.{w64}
 use mir.Val.{Fits}
-use Rattle.ieee_words.specs.Words.{words}
 use Rattle.ieee_words.proofs.Words.{by_words, low_lt}
 use Rattle.ieee.specs.Fused.{fused_of}
 use Rattle.ieee_chains.specs.Open.{value_of, field, Digits}
@@ -60,11 +59,11 @@ overflow_add-o c =
 pub rounded-requires : goal.rounded-requires
 rounded-requires c =
     let b =
-      near_bounds c.args.q c.args.i c.args.y c.args.j c.opened-o.result.sig c.opened-o.result.exp
+    near_bounds c.args.q c.args.i c.args.y c.args.j c.opened-o.result.sig c.opened-o.result.exp
     (operands_of c.requires.0 c.requires.1 c.requires.2 c.requires.3 c.opened-o.ensures.1 c.opened-o.ensures.2 c.requires.6)
     c.product-v.result.hi c.product-v.result.lo (low_lt (c.args.q * 2 ^ 9 * (c.args.y * 2 ^ 10)) c.product-v.result.lo c.product-v.ensures.1)
     (by_words (c.args.q * 2 ^ 9 * (c.args.y * 2 ^ 10)) c.product-v.result.hi c.product-v.result.lo c.product-v.ensures.0 c.product-v.ensures.1)
-      c.if-p-l.true c.jam_below-w.result.hi c.jam_below-w.result.lo c.jam_below-w.ensures.0 in
+    c.if-p-l.true c.jam_below-w.result.hi c.jam_below-w.result.lo c.jam_below-w.ensures.0 in
     let f = go c.opened-o.result.exp (field c.args.c) c.opened-o.ensures.2 c.requires.5 c.requires.6 in
     (b.0, b.1, c.jam_below-w.ensures.1, f.0, f.1)
   where
@@ -85,11 +84,11 @@ jam_below-w-requires-else-p-l c = lit< tt
 pub rounded-requires-else-p-l : goal.rounded-requires-else-p-l
 rounded-requires-else-p-l c =
     let b =
-      far_bounds c.args.q c.args.i c.args.y c.args.j c.opened-o.result.sig c.opened-o.result.exp
+    far_bounds c.args.q c.args.i c.args.y c.args.j c.opened-o.result.sig c.opened-o.result.exp
     (operands_of c.requires.0 c.requires.1 c.requires.2 c.requires.3 c.opened-o.ensures.1 c.opened-o.ensures.2 c.requires.6)
     c.product-v.result.hi c.product-v.result.lo (low_lt (c.args.q * 2 ^ 9 * (c.args.y * 2 ^ 10)) c.product-v.result.lo c.product-v.ensures.1)
     (by_words (c.args.q * 2 ^ 9 * (c.args.y * 2 ^ 10)) c.product-v.result.hi c.product-v.result.lo c.product-v.ensures.0 c.product-v.ensures.1)
-      c.if-p-l.false (close c.opened-o.result.exp c.args.i c.args.j (field c.args.c) c.opened-o.ensures.2 c.requires.8) c.plus-s.result.hi c.plus-s.result.lo (low_of_lt c.opened-o.result.sig (c.args.i + c.args.j - (c.opened-o.result.exp + 1027))) c.plus-s.ensures c.jam_below-w-else-p-l.result.hi c.jam_below-w-else-p-l.result.lo c.jam_below-w-else-p-l.ensures.0 c.jam_below-w-else-p-l.ensures.1 in
+    c.if-p-l.false (close c.opened-o.result.exp c.args.i c.args.j (field c.args.c) c.opened-o.ensures.2 c.requires.8) c.plus-s.result.hi c.plus-s.result.lo (low_of_lt c.opened-o.result.sig (c.args.i + c.args.j - (c.opened-o.result.exp + 1027))) c.plus-s.ensures c.jam_below-w-else-p-l.result.hi c.jam_below-w-else-p-l.result.lo c.jam_below-w-else-p-l.ensures.0 c.jam_below-w-else-p-l.ensures.1 in
     let f = go c.args.i c.args.j c.opened-o.result.exp (field c.args.c) c.opened-o.ensures.2 c.requires.5 c.requires.2 c.requires.3 c.if-p-l.false in
     (b.0, b.1, c.jam_below-w-else-p-l.ensures.1, f.0, f.1)
   where
@@ -99,12 +98,12 @@ rounded-requires-else-p-l c =
 pub returns-then-p-l : goal.returns-then-p-l
 returns-then-p-l c = (
   c.rounded.ensures.0
-    ∙ near_step c.args.q c.args.i c.args.y c.args.j c.opened-o.result.sig c.opened-o.result.exp
-    (operands_of c.requires.0 c.requires.1 c.requires.2 c.requires.3 c.opened-o.ensures.1 c.opened-o.ensures.2 c.requires.6)
-    c.product-v.result.hi c.product-v.result.lo (low_lt (c.args.q * 2 ^ 9 * (c.args.y * 2 ^ 10)) c.product-v.result.lo c.product-v.ensures.1)
-    (by_words (c.args.q * 2 ^ 9 * (c.args.y * 2 ^ 10)) c.product-v.result.hi c.product-v.result.lo c.product-v.ensures.0 c.product-v.ensures.1)
-    c.if-p-l.true c.jam_below-w.result.hi c.jam_below-w.result.lo c.jam_below-w.ensures.0
-    ∙ ap (fused_of (value_of c.args.q c.args.i) (value_of c.args.y c.args.j)) c.opened-o.ensures.0,
+      ∙ near_step c.args.q c.args.i c.args.y c.args.j c.opened-o.result.sig c.opened-o.result.exp
+      (operands_of c.requires.0 c.requires.1 c.requires.2 c.requires.3 c.opened-o.ensures.1 c.opened-o.ensures.2 c.requires.6)
+      c.product-v.result.hi c.product-v.result.lo (low_lt (c.args.q * 2 ^ 9 * (c.args.y * 2 ^ 10)) c.product-v.result.lo c.product-v.ensures.1)
+      (by_words (c.args.q * 2 ^ 9 * (c.args.y * 2 ^ 10)) c.product-v.result.hi c.product-v.result.lo c.product-v.ensures.0 c.product-v.ensures.1)
+      c.if-p-l.true c.jam_below-w.result.hi c.jam_below-w.result.lo c.jam_below-w.ensures.0
+      ∙ ap (fused_of (value_of c.args.q c.args.i) (value_of c.args.y c.args.j)) c.opened-o.ensures.0,
   c.rounded.ensures.1,
   low c.opened-o.result.exp c.rounded.result.exp (field c.args.c) c.opened-o.ensures.2 c.rounded.ensures.2,
   high c.opened-o.result.exp c.rounded.result.exp (field c.args.c) (c.args.i + c.args.j - 1020) c.opened-o.ensures.2 c.rounded.ensures.3,
@@ -119,12 +118,12 @@ returns-then-p-l c = (
 pub returns-else-p-l : goal.returns-else-p-l
 returns-else-p-l c = (
   c.rounded-else-p-l.ensures.0
-    ∙ far_step c.args.q c.args.i c.args.y c.args.j c.opened-o.result.sig c.opened-o.result.exp
-    (operands_of c.requires.0 c.requires.1 c.requires.2 c.requires.3 c.opened-o.ensures.1 c.opened-o.ensures.2 c.requires.6)
-    c.product-v.result.hi c.product-v.result.lo (low_lt (c.args.q * 2 ^ 9 * (c.args.y * 2 ^ 10)) c.product-v.result.lo c.product-v.ensures.1)
-    (by_words (c.args.q * 2 ^ 9 * (c.args.y * 2 ^ 10)) c.product-v.result.hi c.product-v.result.lo c.product-v.ensures.0 c.product-v.ensures.1)
-    c.if-p-l.false (close c.opened-o.result.exp c.args.i c.args.j (field c.args.c) c.opened-o.ensures.2 c.requires.8) c.plus-s.result.hi c.plus-s.result.lo (low_of_lt c.opened-o.result.sig (c.args.i + c.args.j - (c.opened-o.result.exp + 1027))) c.plus-s.ensures c.jam_below-w-else-p-l.result.hi c.jam_below-w-else-p-l.result.lo c.jam_below-w-else-p-l.ensures.0 c.jam_below-w-else-p-l.ensures.1
-    ∙ ap (fused_of (value_of c.args.q c.args.i) (value_of c.args.y c.args.j)) c.opened-o.ensures.0,
+      ∙ far_step c.args.q c.args.i c.args.y c.args.j c.opened-o.result.sig c.opened-o.result.exp
+      (operands_of c.requires.0 c.requires.1 c.requires.2 c.requires.3 c.opened-o.ensures.1 c.opened-o.ensures.2 c.requires.6)
+      c.product-v.result.hi c.product-v.result.lo (low_lt (c.args.q * 2 ^ 9 * (c.args.y * 2 ^ 10)) c.product-v.result.lo c.product-v.ensures.1)
+      (by_words (c.args.q * 2 ^ 9 * (c.args.y * 2 ^ 10)) c.product-v.result.hi c.product-v.result.lo c.product-v.ensures.0 c.product-v.ensures.1)
+      c.if-p-l.false (close c.opened-o.result.exp c.args.i c.args.j (field c.args.c) c.opened-o.ensures.2 c.requires.8) c.plus-s.result.hi c.plus-s.result.lo (low_of_lt c.opened-o.result.sig (c.args.i + c.args.j - (c.opened-o.result.exp + 1027))) c.plus-s.ensures c.jam_below-w-else-p-l.result.hi c.jam_below-w-else-p-l.result.lo c.jam_below-w-else-p-l.ensures.0 c.jam_below-w-else-p-l.ensures.1
+      ∙ ap (fused_of (value_of c.args.q c.args.i) (value_of c.args.y c.args.j)) c.opened-o.ensures.0,
   c.rounded-else-p-l.ensures.1,
   low c.args.i c.args.j c.opened-o.result.exp c.rounded-else-p-l.result.exp (field c.args.c) c.opened-o.ensures.2 c.if-p-l.false c.rounded-else-p-l.ensures.2,
   high (c.args.i + c.args.j) c.rounded-else-p-l.result.exp (field c.args.c) c.rounded-else-p-l.ensures.3,

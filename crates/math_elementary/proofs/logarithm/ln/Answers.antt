@@ -49,7 +49,7 @@ returns c =
     let k : to_z w32 (of_z w32 s.result.k) ≡ s.result.k = to_z-of_z w32 s.result.k (record { sfits = omega (arith, s.ensures.2) }) in
     record {
       value =
-        rw (nan_no _ c.if-x.false, c.if-x-2.false, c.if-x-3.false, inf_no _ c.if-x-4.false)
-        (c.joined.ensures ∙ ap (λ (z : ℤ). joined_of s.result.m z) (k ∙ s.ensures.1) ∙ ap (λ (z : Float). joined_of z (exponent_of c.args.x)) s.ensures.0);
+          rw (nan_no _ c.if-x.false, c.if-x-2.false, c.if-x-3.false, inf_no _ c.if-x-4.false)
+          (c.joined.ensures ∙ ap (λ (z : ℤ). joined_of s.result.m z) (k ∙ s.ensures.1) ∙ ap (λ (z : Float). joined_of z (exponent_of c.args.x)) s.ensures.0);
       split = split_exact _;
     }

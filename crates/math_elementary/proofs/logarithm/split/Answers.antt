@@ -4,7 +4,6 @@ use native.Mathlib.Omega.{arith}
 use Prim.Native.Nat.{ℕ, ◌<◌}
 use lib.Dec.{T}
 use lib.IntN.{pos, ◌-ℤ◌}
-use lib.Ieee.{binary64, fits}
 use mir.Syntax.{w32}
 use mir.Val.{SFits, to_z}
 use mir.ValLaws.{to_z-of_z}
@@ -37,21 +36,21 @@ float_from_bits-result c = let w = c.widen-w.ensures.0 in pattern_no_nan c.widen
 pub overflow_sub-result : goal.overflow_sub-result
 overflow_sub-result c = rw (d_is _ c.widen-w.ensures.1) (less_fits _ c.widen-w.ensures.1 1075 (omega arith))
 
-pub overflow_add-result-else-full-lt6755399441055744 : goal.overflow_add-result-else-full-lt6755399441055744
-overflow_add-result-else-full-lt6755399441055744 c = omega (arith, c.widen-w.ensures.0.below)
+pub overflow_add-result-else-full-lt-ONE_AND_A_HALF : goal.overflow_add-result-else-full-lt-ONE_AND_A_HALF
+overflow_add-result-else-full-lt-ONE_AND_A_HALF c = omega (arith, c.widen-w.ensures.0.below)
 
-pub float_from_bits-result-else-full-lt6755399441055744 : goal.float_from_bits-result-else-full-lt6755399441055744
-float_from_bits-result-else-full-lt6755399441055744 c = let w = c.widen-w.ensures.0 in pattern_no_nan c.widen-w.result.full 1021 w.from w.below (omega arith)
+pub float_from_bits-result-else-full-lt-ONE_AND_A_HALF : goal.float_from_bits-result-else-full-lt-ONE_AND_A_HALF
+float_from_bits-result-else-full-lt-ONE_AND_A_HALF c = let w = c.widen-w.ensures.0 in pattern_no_nan c.widen-w.result.full 1021 w.from w.below (omega arith)
 
-pub overflow_sub-result-else-full-lt6755399441055744 : goal.overflow_sub-result-else-full-lt6755399441055744
-overflow_sub-result-else-full-lt6755399441055744 c = rw (d_is _ c.widen-w.ensures.1) (less_fits _ c.widen-w.ensures.1 1074 (omega arith))
+pub overflow_sub-result-else-full-lt-ONE_AND_A_HALF : goal.overflow_sub-result-else-full-lt-ONE_AND_A_HALF
+overflow_sub-result-else-full-lt-ONE_AND_A_HALF c = rw (d_is _ c.widen-w.ensures.1) (less_fits _ c.widen-w.ensures.1 1074 (omega arith))
 
-pub returns-then-full-lt6755399441055744 : goal.returns-then-full-lt6755399441055744
-returns-then-full-lt6755399441055744 c =
-    let s = low_split c.args.x c.widen-w.result.full c.widen-w.result.size (subst T (sym c.well_formed.0.1) tt) c.requires c.widen-w.ensures.0 c.if-full-lt6755399441055744.true in
+pub returns-then-full-lt-ONE_AND_A_HALF : goal.returns-then-full-lt-ONE_AND_A_HALF
+returns-then-full-lt-ONE_AND_A_HALF c =
+    let s = low_split c.args.x c.widen-w.result.full c.widen-w.result.size (subst T (sym c.well_formed.0.1) tt) c.requires c.widen-w.ensures.0 c.if-full-lt-ONE_AND_A_HALF.true in
     (s.0, simp (d_is _ c.widen-w.ensures.1, to_z-of_z w32 _ (less_fits _ c.widen-w.ensures.1 1075 (omega arith))) s.1, simp (d_is _ c.widen-w.ensures.1, to_z-of_z w32 _ (less_fits _ c.widen-w.ensures.1 1075 (omega arith))) (omega (arith, c.widen-w.ensures.1, mag_less c.widen-w.result.size 1075)))
 
-pub returns-else-full-lt6755399441055744 : goal.returns-else-full-lt6755399441055744
-returns-else-full-lt6755399441055744 c =
-    let s = high_split c.args.x c.widen-w.result.full c.widen-w.result.size (subst T (sym c.well_formed.0.1) tt) c.requires c.widen-w.ensures.0 c.if-full-lt6755399441055744.false in
+pub returns-else-full-lt-ONE_AND_A_HALF : goal.returns-else-full-lt-ONE_AND_A_HALF
+returns-else-full-lt-ONE_AND_A_HALF c =
+    let s = high_split c.args.x c.widen-w.result.full c.widen-w.result.size (subst T (sym c.well_formed.0.1) tt) c.requires c.widen-w.ensures.0 c.if-full-lt-ONE_AND_A_HALF.false in
     (s.0, simp (d_is _ c.widen-w.ensures.1, to_z-of_z w32 _ (less_fits _ c.widen-w.ensures.1 1074 (omega arith))) s.1, simp (d_is _ c.widen-w.ensures.1, to_z-of_z w32 _ (less_fits _ c.widen-w.ensures.1 1074 (omega arith))) (omega (arith, c.widen-w.ensures.1, mag_less c.widen-w.result.size 1074)))

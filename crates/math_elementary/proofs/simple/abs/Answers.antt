@@ -1,7 +1,6 @@
 -- `math_elementary::abs` meets its contract: by the two tests, below zero, at a zero and above. Assumes nothing.
 use mathlib.Core.Path.{sym, subst}
 use lib.Dec.{T}
-use lib.Ieee.{Float}
 use Rattle.math_elementary.proofs.Floats.{abs_below, abs_zero, abs_same}
 use Rattle.math_elementary.proofs.simple.abs.Goals as goal
 

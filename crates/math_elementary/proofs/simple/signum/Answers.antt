@@ -2,7 +2,6 @@
 use mathlib.Core.Path.{sym, subst}
 use borrow.Author.Tests.{lt-leb, le-leb}
 use lib.Dec.{T}
-use lib.Ieee.{Float}
 use Rattle.math_elementary.proofs.Floats.{not_nan, is_nan_lem, signum_by_bits}
 use Rattle.math_elementary.proofs.simple.signum.Goals as goal
 
@@ -12,12 +11,12 @@ float_to_bits-x c = not_nan c.args.x c.if-x.false
 pub returns-then-x : goal.returns-then-x
 returns-then-x c = rw (is_nan_lem c.args.x c.if-x.true)
 
-pub returns-then-x-lt9223372036854775808 : goal.returns-then-x-lt9223372036854775808
-returns-then-x-lt9223372036854775808 c =
+pub returns-then-x-lt-SIGN_BIT : goal.returns-then-x-lt-SIGN_BIT
+returns-then-x-lt-SIGN_BIT c =
     let x = c.args.x in
-    rw (signum_by_bits x (subst T (sym c.well_formed.0.1) tt) (not_nan x c.if-x.false), lt-leb _ _ c.if-x-lt9223372036854775808.true)
+    rw (signum_by_bits x (subst T (sym c.well_formed.0.1) tt) (not_nan x c.if-x.false), lt-leb _ _ c.if-x-lt-SIGN_BIT.true)
 
-pub returns-else-x-lt9223372036854775808 : goal.returns-else-x-lt9223372036854775808
-returns-else-x-lt9223372036854775808 c =
+pub returns-else-x-lt-SIGN_BIT : goal.returns-else-x-lt-SIGN_BIT
+returns-else-x-lt-SIGN_BIT c =
     let x = c.args.x in
-    rw (signum_by_bits x (subst T (sym c.well_formed.0.1) tt) (not_nan x c.if-x.false), le-leb _ _ c.if-x-lt9223372036854775808.false)
+    rw (signum_by_bits x (subst T (sym c.well_formed.0.1) tt) (not_nan x c.if-x.false), le-leb _ _ c.if-x-lt-SIGN_BIT.false)
