@@ -1,11 +1,10 @@
 -- Objectives that agree on the sigmas that a fit tries have the same fit, and try the same. Assumes nothing.
 use mathlib.Core.Path.{◌≡◌, refl, sym, ap, ◌∙◌}
-use mathlib.Core.List.{List, [], ◌∷◌, Memᴰ}
+use mathlib.Core.List.{List, ◌∷◌, Memᴰ}
 use Prim.Native.Nat.{ℕ, zero, suc}
 use lib.Ieee.{Float}
-use Rattle.refusals.specs.Refusals.{Outcome, following}
+use Rattle.refusals.specs.Refusals.{Outcome}
 use Rattle.math_bisection.specs.declared.halving.Ends.{Ends}
-use Rattle.math_bisection.specs.declared.result.Fit.{Fit}
 use Rattle.math_bisection.specs.Solve.{lowest, highest, residual_at, ends_moved_to, halvings_from, ends_of, solve_of}
 use Rattle.math_bisection.specs.Tried.{tried_from, tried_of}
 use Rattle.math_bisection.proofs.Steps.{mid, Met, stopped, close, away, met, last_stopped, last_served, halving_stopped, halving_close, halving_away, tried_last, tried_stopped, tried_close, tried_away, Begun, low_stopped, high_stopped, alike, apart, begun, solve_low, solve_high, solve_alike, solve_apart, tried_low, tried_high, tried_alike, tried_apart}

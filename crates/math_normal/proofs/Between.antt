@@ -26,7 +26,7 @@ use Rattle.math_normal.proofs.Sizes.{Upto, upto_below, one_less}
 use Rattle.math_normal.proofs.Powers.{reach, mid, unit, mul_neg, series_below, series_neg, scale_below, scale_zero}
 use Rattle.math_normal.proofs.Quotient.{Sound, hart_unit, eight, below_trans, below_nought}
 use Rattle.math_normal.proofs.Tails.{lt_no, lt_yes, seven, top, tail_unit}
-use Rattle.math_normal.proofs.Reduce.{K, t, N0, D0, t_below, K-small, low_K, up_K, reduced_size}
+use Rattle.math_normal.proofs.Reduce.{K, N0, D0, t_below, K-small, low_K, up_K, reduced_size}
 
 nearest_neg : (t : Float) → T (nn t) → nearest_whole (neg t) ≡ neg_ℤ (pos ((2 * num t + den t) / (2 * den t)))
 unfolding nearest_whole neg

@@ -9,7 +9,7 @@ use borrow.Author.Tests.{eq-eqb}
 use lib.Pow.{pow-add, pow_mono, shl_lt}
 use lib.Dec.{T, ltb, lit<, lit≤}
 use lib.IntN.{pos, negsuc}
-use lib.Ieee.{Float, nan, inf, fin, binary64, up, down, round, sum, add, sub, mul, neg, le, fits, of_int, of_bits}
+use lib.Ieee.{Float, nan, inf, fin, binary64, up, down, round, sum, add, sub, mul, neg, fits, of_int, of_bits}
 use lib.Ieee.Back.{round_whole}
 use lib.Ieee.Exact.{HasValue, round_exact}
 use lib.Ieee.Fits.{down_pos}

@@ -9,26 +9,6 @@ use Rattle.math_hart.proofs.Coefficients.{literal, num_bits, num_is, den_bits, d
 use Rattle.math_hart.proofs.Chain.{After, Coefficient, coefficients, coefficient_opens, ordinary_opens, first, ready, stepped, closes}
 use Rattle.math_hart.proofs.quotient.Goals as goal
 
--- the point of the walk that the rest speaks of: where z is taken apart, from the fourth step, the eighth and the twelfth
-abbrev apart_4 : goal.After-step-a-2 → goal.After-opened-y
-apart_4 c = c.before.before.before.before.before.before
-
-abbrev apart_8 : goal.After-step-a-4 → goal.After-opened-y
-apart_8 c = apart_4 c.before.before.before.before
-
-abbrev apart_12 : goal.After-step-a-6 → goal.After-opened-y
-apart_12 c = apart_8 c.before.before.before.before
-
--- there: z, and its significand and exponent
-abbrev z : goal.After-opened-y → Float
-z o = o.before.args.z
-
-abbrev y : goal.After-opened-y → ℕ
-y o = o.opened-y.result.sig
-
-abbrev j : goal.After-opened-y → ℕ
-j o = o.opened-y.result.exp
-
 abbrev ca : ℕ → Float
 ca = literal num_bits
 
@@ -96,90 +76,89 @@ after_b0 : (c : goal.After-opened-b) → After 0 c.opened-b.result.sig c.opened-
 after_b0 c = first (cb 0) c.opened-b.result.sig c.opened-b.result.exp (Cb 0 (lit< tt)) c.opened-b.ensures
 
 pub step-b-requires : goal.step-b-requires
-step-b-requires c = let o = c.before.before in ready (z o) (y o) (j o) o.before.requires o.opened-y.ensures 0 c.opened-b.result.sig c.opened-b.result.exp (cb 0) (cb 1) (lit≤ tt) (after_b0 c) (Cb 1 (lit< tt))
+step-b-requires c = ready c.args.z c.opened-y.result.sig c.opened-y.result.exp c.requires c.opened-y.ensures 0 c.opened-b.result.sig c.opened-b.result.exp (cb 0) (cb 1) (lit≤ tt) (after_b0 c) (Cb 1 (lit< tt))
 
-after_b1 : (c : goal.After-step-b) → After 1 c.step-b.result.sig c.step-b.result.exp (b1 (z c.before.before.before))
-after_b1 c = let o = c.before.before.before in stepped (z o) (y o) (j o) o.before.requires o.opened-y.ensures 0 c.before.opened-b.result.sig c.before.opened-b.result.exp (cb 0) (cb 1) (lit≤ tt) (after_b0 c.before) (Cb 1 (lit< tt)) c.step-b.result.sig c.step-b.result.exp c.step-b.ensures
+after_b1 : (c : goal.After-step-b) → After 1 c.step-b.result.sig c.step-b.result.exp (b1 c.args.z)
+after_b1 c = stepped c.args.z c.opened-y.result.sig c.opened-y.result.exp c.requires c.opened-y.ensures 0 c.opened-b.result.sig c.opened-b.result.exp (cb 0) (cb 1) (lit≤ tt) (after_b0 c.before) (Cb 1 (lit< tt)) c.step-b.result.sig c.step-b.result.exp c.step-b.ensures
 
 pub step-a-requires : goal.step-a-requires
-step-a-requires c = let o = c.before.before.before in ready (z o) (y o) (j o) o.before.requires o.opened-y.ensures 0 c.before.before.opened-a.result.sig c.before.before.opened-a.result.exp (ca 0) (ca 1) (lit≤ tt) (after_a0 c.before.before) (Ca 1 (lit< tt))
+step-a-requires c = ready c.args.z c.opened-y.result.sig c.opened-y.result.exp c.requires c.opened-y.ensures 0 c.opened-a.result.sig c.opened-a.result.exp (ca 0) (ca 1) (lit≤ tt) (after_a0 c.before.before) (Ca 1 (lit< tt))
 
-after_a1 : (c : goal.After-step-a) → After 1 c.step-a.result.sig c.step-a.result.exp (a1 (z c.before.before.before.before))
-after_a1 c = let o = c.before.before.before.before in stepped (z o) (y o) (j o) o.before.requires o.opened-y.ensures 0 c.before.before.before.opened-a.result.sig c.before.before.before.opened-a.result.exp (ca 0) (ca 1) (lit≤ tt) (after_a0 c.before.before.before) (Ca 1 (lit< tt)) c.step-a.result.sig c.step-a.result.exp c.step-a.ensures
+after_a1 : (c : goal.After-step-a) → After 1 c.step-a.result.sig c.step-a.result.exp (a1 c.args.z)
+after_a1 c = stepped c.args.z c.opened-y.result.sig c.opened-y.result.exp c.requires c.opened-y.ensures 0 c.opened-a.result.sig c.opened-a.result.exp (ca 0) (ca 1) (lit≤ tt) (after_a0 c.before.before.before) (Ca 1 (lit< tt)) c.step-a.result.sig c.step-a.result.exp c.step-a.ensures
 
 pub step-b-requires-2 : goal.step-b-requires-2
-step-b-requires-2 c = let o = c.before.before.before.before in ready (z o) (y o) (j o) o.before.requires o.opened-y.ensures 1 c.before.step-b.result.sig c.before.step-b.result.exp (b1 (z o)) (cb 2) (lit≤ tt) (after_b1 c.before) (Cb 2 (lit< tt))
+step-b-requires-2 c = ready c.args.z c.opened-y.result.sig c.opened-y.result.exp c.requires c.opened-y.ensures 1 c.step-b.result.sig c.step-b.result.exp (b1 c.args.z) (cb 2) (lit≤ tt) (after_b1 c.before) (Cb 2 (lit< tt))
 
-after_b2 : (c : goal.After-step-b-2) → After 2 c.step-b-2.result.sig c.step-b-2.result.exp (b2 (z c.before.before.before.before.before))
-after_b2 c = let o = c.before.before.before.before.before in stepped (z o) (y o) (j o) o.before.requires o.opened-y.ensures 1 c.before.before.step-b.result.sig c.before.before.step-b.result.exp (b1 (z o)) (cb 2) (lit≤ tt) (after_b1 c.before.before) (Cb 2 (lit< tt)) c.step-b-2.result.sig c.step-b-2.result.exp c.step-b-2.ensures
+after_b2 : (c : goal.After-step-b-2) → After 2 c.step-b-2.result.sig c.step-b-2.result.exp (b2 c.args.z)
+after_b2 c = stepped c.args.z c.opened-y.result.sig c.opened-y.result.exp c.requires c.opened-y.ensures 1 c.step-b.result.sig c.step-b.result.exp (b1 c.args.z) (cb 2) (lit≤ tt) (after_b1 c.before.before) (Cb 2 (lit< tt)) c.step-b-2.result.sig c.step-b-2.result.exp c.step-b-2.ensures
 
 pub step-a-requires-2 : goal.step-a-requires-2
-step-a-requires-2 c = let o = c.before.before.before.before.before in ready (z o) (y o) (j o) o.before.requires o.opened-y.ensures 1 c.before.step-a.result.sig c.before.step-a.result.exp (a1 (z o)) (ca 2) (lit≤ tt) (after_a1 c.before) (Ca 2 (lit< tt))
+step-a-requires-2 c = ready c.args.z c.opened-y.result.sig c.opened-y.result.exp c.requires c.opened-y.ensures 1 c.step-a.result.sig c.step-a.result.exp (a1 c.args.z) (ca 2) (lit≤ tt) (after_a1 c.before) (Ca 2 (lit< tt))
 
-after_a2 : (c : goal.After-step-a-2) → After 2 c.step-a-2.result.sig c.step-a-2.result.exp (a2 (z (apart_4 c)))
-after_a2 c = let o = apart_4 c in stepped (z o) (y o) (j o) o.before.requires o.opened-y.ensures 1 c.before.before.step-a.result.sig c.before.before.step-a.result.exp (a1 (z o)) (ca 2) (lit≤ tt) (after_a1 c.before.before) (Ca 2 (lit< tt)) c.step-a-2.result.sig c.step-a-2.result.exp c.step-a-2.ensures
+after_a2 : (c : goal.After-step-a-2) → After 2 c.step-a-2.result.sig c.step-a-2.result.exp (a2 c.args.z)
+after_a2 c = stepped c.args.z c.opened-y.result.sig c.opened-y.result.exp c.requires c.opened-y.ensures 1 c.step-a.result.sig c.step-a.result.exp (a1 c.args.z) (ca 2) (lit≤ tt) (after_a1 c.before.before) (Ca 2 (lit< tt)) c.step-a-2.result.sig c.step-a-2.result.exp c.step-a-2.ensures
 
 pub step-b-requires-3 : goal.step-b-requires-3
-step-b-requires-3 c = let o = apart_4 c in ready (z o) (y o) (j o) o.before.requires o.opened-y.ensures 2 c.before.step-b-2.result.sig c.before.step-b-2.result.exp (b2 (z o)) (cb 3) (lit≤ tt) (after_b2 c.before) (Cb 3 (lit< tt))
+step-b-requires-3 c = ready c.args.z c.opened-y.result.sig c.opened-y.result.exp c.requires c.opened-y.ensures 2 c.step-b-2.result.sig c.step-b-2.result.exp (b2 c.args.z) (cb 3) (lit≤ tt) (after_b2 c.before) (Cb 3 (lit< tt))
 
-after_b3 : (c : goal.After-step-b-3) → After 3 c.step-b-3.result.sig c.step-b-3.result.exp (b3 (z (apart_4 c.before)))
-after_b3 c = let o = apart_4 c.before in stepped (z o) (y o) (j o) o.before.requires o.opened-y.ensures 2 c.before.before.step-b-2.result.sig c.before.before.step-b-2.result.exp (b2 (z o)) (cb 3) (lit≤ tt) (after_b2 c.before.before) (Cb 3 (lit< tt)) c.step-b-3.result.sig c.step-b-3.result.exp c.step-b-3.ensures
+after_b3 : (c : goal.After-step-b-3) → After 3 c.step-b-3.result.sig c.step-b-3.result.exp (b3 c.args.z)
+after_b3 c = stepped c.args.z c.opened-y.result.sig c.opened-y.result.exp c.requires c.opened-y.ensures 2 c.step-b-2.result.sig c.step-b-2.result.exp (b2 c.args.z) (cb 3) (lit≤ tt) (after_b2 c.before.before) (Cb 3 (lit< tt)) c.step-b-3.result.sig c.step-b-3.result.exp c.step-b-3.ensures
 
 pub step-a-requires-3 : goal.step-a-requires-3
-step-a-requires-3 c = let o = apart_4 c.before in ready (z o) (y o) (j o) o.before.requires o.opened-y.ensures 2 c.before.step-a-2.result.sig c.before.step-a-2.result.exp (a2 (z o)) (ca 3) (lit≤ tt) (after_a2 c.before) (Ca 3 (lit< tt))
+step-a-requires-3 c = ready c.args.z c.opened-y.result.sig c.opened-y.result.exp c.requires c.opened-y.ensures 2 c.step-a-2.result.sig c.step-a-2.result.exp (a2 c.args.z) (ca 3) (lit≤ tt) (after_a2 c.before) (Ca 3 (lit< tt))
 
-after_a3 : (c : goal.After-step-a-3) → After 3 c.step-a-3.result.sig c.step-a-3.result.exp (a3 (z (apart_4 c.before.before)))
-after_a3 c = let o = apart_4 c.before.before in stepped (z o) (y o) (j o) o.before.requires o.opened-y.ensures 2 c.before.before.step-a-2.result.sig c.before.before.step-a-2.result.exp (a2 (z o)) (ca 3) (lit≤ tt) (after_a2 c.before.before) (Ca 3 (lit< tt)) c.step-a-3.result.sig c.step-a-3.result.exp c.step-a-3.ensures
+after_a3 : (c : goal.After-step-a-3) → After 3 c.step-a-3.result.sig c.step-a-3.result.exp (a3 c.args.z)
+after_a3 c = stepped c.args.z c.opened-y.result.sig c.opened-y.result.exp c.requires c.opened-y.ensures 2 c.step-a-2.result.sig c.step-a-2.result.exp (a2 c.args.z) (ca 3) (lit≤ tt) (after_a2 c.before.before) (Ca 3 (lit< tt)) c.step-a-3.result.sig c.step-a-3.result.exp c.step-a-3.ensures
 
 pub step-b-requires-4 : goal.step-b-requires-4
-step-b-requires-4 c = let o = apart_4 c.before.before in ready (z o) (y o) (j o) o.before.requires o.opened-y.ensures 3 c.before.step-b-3.result.sig c.before.step-b-3.result.exp (b3 (z o)) (cb 4) (lit≤ tt) (after_b3 c.before) (Cb 4 (lit< tt))
+step-b-requires-4 c = ready c.args.z c.opened-y.result.sig c.opened-y.result.exp c.requires c.opened-y.ensures 3 c.step-b-3.result.sig c.step-b-3.result.exp (b3 c.args.z) (cb 4) (lit≤ tt) (after_b3 c.before) (Cb 4 (lit< tt))
 
-after_b4 : (c : goal.After-step-b-4) → After 4 c.step-b-4.result.sig c.step-b-4.result.exp (b4 (z (apart_4 c.before.before.before)))
-after_b4 c = let o = apart_4 c.before.before.before in stepped (z o) (y o) (j o) o.before.requires o.opened-y.ensures 3 c.before.before.step-b-3.result.sig c.before.before.step-b-3.result.exp (b3 (z o)) (cb 4) (lit≤ tt) (after_b3 c.before.before) (Cb 4 (lit< tt)) c.step-b-4.result.sig c.step-b-4.result.exp c.step-b-4.ensures
+after_b4 : (c : goal.After-step-b-4) → After 4 c.step-b-4.result.sig c.step-b-4.result.exp (b4 c.args.z)
+after_b4 c = stepped c.args.z c.opened-y.result.sig c.opened-y.result.exp c.requires c.opened-y.ensures 3 c.step-b-3.result.sig c.step-b-3.result.exp (b3 c.args.z) (cb 4) (lit≤ tt) (after_b3 c.before.before) (Cb 4 (lit< tt)) c.step-b-4.result.sig c.step-b-4.result.exp c.step-b-4.ensures
 
 pub step-a-requires-4 : goal.step-a-requires-4
-step-a-requires-4 c = let o = apart_4 c.before.before.before in ready (z o) (y o) (j o) o.before.requires o.opened-y.ensures 3 c.before.step-a-3.result.sig c.before.step-a-3.result.exp (a3 (z o)) (ca 4) (lit≤ tt) (after_a3 c.before) (Ca 4 (lit< tt))
+step-a-requires-4 c = ready c.args.z c.opened-y.result.sig c.opened-y.result.exp c.requires c.opened-y.ensures 3 c.step-a-3.result.sig c.step-a-3.result.exp (a3 c.args.z) (ca 4) (lit≤ tt) (after_a3 c.before) (Ca 4 (lit< tt))
 
-after_a4 : (c : goal.After-step-a-4) → After 4 c.step-a-4.result.sig c.step-a-4.result.exp (a4 (z (apart_8 c)))
-after_a4 c = let o = apart_8 c in stepped (z o) (y o) (j o) o.before.requires o.opened-y.ensures 3 c.before.before.step-a-3.result.sig c.before.before.step-a-3.result.exp (a3 (z o)) (ca 4) (lit≤ tt) (after_a3 c.before.before) (Ca 4 (lit< tt)) c.step-a-4.result.sig c.step-a-4.result.exp c.step-a-4.ensures
+after_a4 : (c : goal.After-step-a-4) → After 4 c.step-a-4.result.sig c.step-a-4.result.exp (a4 c.args.z)
+after_a4 c = stepped c.args.z c.opened-y.result.sig c.opened-y.result.exp c.requires c.opened-y.ensures 3 c.step-a-3.result.sig c.step-a-3.result.exp (a3 c.args.z) (ca 4) (lit≤ tt) (after_a3 c.before.before) (Ca 4 (lit< tt)) c.step-a-4.result.sig c.step-a-4.result.exp c.step-a-4.ensures
 
 pub step-b-requires-5 : goal.step-b-requires-5
-step-b-requires-5 c = let o = apart_8 c in ready (z o) (y o) (j o) o.before.requires o.opened-y.ensures 4 c.before.step-b-4.result.sig c.before.step-b-4.result.exp (b4 (z o)) (cb 5) (lit≤ tt) (after_b4 c.before) (Cb 5 (lit< tt))
+step-b-requires-5 c = ready c.args.z c.opened-y.result.sig c.opened-y.result.exp c.requires c.opened-y.ensures 4 c.step-b-4.result.sig c.step-b-4.result.exp (b4 c.args.z) (cb 5) (lit≤ tt) (after_b4 c.before) (Cb 5 (lit< tt))
 
-after_b5 : (c : goal.After-step-b-5) → After 5 c.step-b-5.result.sig c.step-b-5.result.exp (b5 (z (apart_8 c.before)))
-after_b5 c = let o = apart_8 c.before in stepped (z o) (y o) (j o) o.before.requires o.opened-y.ensures 4 c.before.before.step-b-4.result.sig c.before.before.step-b-4.result.exp (b4 (z o)) (cb 5) (lit≤ tt) (after_b4 c.before.before) (Cb 5 (lit< tt)) c.step-b-5.result.sig c.step-b-5.result.exp c.step-b-5.ensures
+after_b5 : (c : goal.After-step-b-5) → After 5 c.step-b-5.result.sig c.step-b-5.result.exp (b5 c.args.z)
+after_b5 c = stepped c.args.z c.opened-y.result.sig c.opened-y.result.exp c.requires c.opened-y.ensures 4 c.step-b-4.result.sig c.step-b-4.result.exp (b4 c.args.z) (cb 5) (lit≤ tt) (after_b4 c.before.before) (Cb 5 (lit< tt)) c.step-b-5.result.sig c.step-b-5.result.exp c.step-b-5.ensures
 
 pub step-a-requires-5 : goal.step-a-requires-5
-step-a-requires-5 c = let o = apart_8 c.before in ready (z o) (y o) (j o) o.before.requires o.opened-y.ensures 4 c.before.step-a-4.result.sig c.before.step-a-4.result.exp (a4 (z o)) (ca 5) (lit≤ tt) (after_a4 c.before) (Ca 5 (lit< tt))
+step-a-requires-5 c = ready c.args.z c.opened-y.result.sig c.opened-y.result.exp c.requires c.opened-y.ensures 4 c.step-a-4.result.sig c.step-a-4.result.exp (a4 c.args.z) (ca 5) (lit≤ tt) (after_a4 c.before) (Ca 5 (lit< tt))
 
-after_a5 : (c : goal.After-step-a-5) → After 5 c.step-a-5.result.sig c.step-a-5.result.exp (a5 (z (apart_8 c.before.before)))
-after_a5 c = let o = apart_8 c.before.before in stepped (z o) (y o) (j o) o.before.requires o.opened-y.ensures 4 c.before.before.step-a-4.result.sig c.before.before.step-a-4.result.exp (a4 (z o)) (ca 5) (lit≤ tt) (after_a4 c.before.before) (Ca 5 (lit< tt)) c.step-a-5.result.sig c.step-a-5.result.exp c.step-a-5.ensures
+after_a5 : (c : goal.After-step-a-5) → After 5 c.step-a-5.result.sig c.step-a-5.result.exp (a5 c.args.z)
+after_a5 c = stepped c.args.z c.opened-y.result.sig c.opened-y.result.exp c.requires c.opened-y.ensures 4 c.step-a-4.result.sig c.step-a-4.result.exp (a4 c.args.z) (ca 5) (lit≤ tt) (after_a4 c.before.before) (Ca 5 (lit< tt)) c.step-a-5.result.sig c.step-a-5.result.exp c.step-a-5.ensures
 
 pub step-b-requires-6 : goal.step-b-requires-6
-step-b-requires-6 c = let o = apart_8 c.before.before in ready (z o) (y o) (j o) o.before.requires o.opened-y.ensures 5 c.before.step-b-5.result.sig c.before.step-b-5.result.exp (b5 (z o)) (cb 6) (lit≤ tt) (after_b5 c.before) (Cb 6 (lit< tt))
+step-b-requires-6 c = ready c.args.z c.opened-y.result.sig c.opened-y.result.exp c.requires c.opened-y.ensures 5 c.step-b-5.result.sig c.step-b-5.result.exp (b5 c.args.z) (cb 6) (lit≤ tt) (after_b5 c.before) (Cb 6 (lit< tt))
 
-after_b6 : (c : goal.After-step-b-6) → After 6 c.step-b-6.result.sig c.step-b-6.result.exp (b6 (z (apart_8 c.before.before.before)))
-after_b6 c = let o = apart_8 c.before.before.before in stepped (z o) (y o) (j o) o.before.requires o.opened-y.ensures 5 c.before.before.step-b-5.result.sig c.before.before.step-b-5.result.exp (b5 (z o)) (cb 6) (lit≤ tt) (after_b5 c.before.before) (Cb 6 (lit< tt)) c.step-b-6.result.sig c.step-b-6.result.exp c.step-b-6.ensures
+after_b6 : (c : goal.After-step-b-6) → After 6 c.step-b-6.result.sig c.step-b-6.result.exp (b6 c.args.z)
+after_b6 c = stepped c.args.z c.opened-y.result.sig c.opened-y.result.exp c.requires c.opened-y.ensures 5 c.step-b-5.result.sig c.step-b-5.result.exp (b5 c.args.z) (cb 6) (lit≤ tt) (after_b5 c.before.before) (Cb 6 (lit< tt)) c.step-b-6.result.sig c.step-b-6.result.exp c.step-b-6.ensures
 
 pub step-a-requires-6 : goal.step-a-requires-6
-step-a-requires-6 c = let o = apart_8 c.before.before.before in ready (z o) (y o) (j o) o.before.requires o.opened-y.ensures 5 c.before.step-a-5.result.sig c.before.step-a-5.result.exp (a5 (z o)) (ca 6) (lit≤ tt) (after_a5 c.before) (Ca 6 (lit< tt))
+step-a-requires-6 c = ready c.args.z c.opened-y.result.sig c.opened-y.result.exp c.requires c.opened-y.ensures 5 c.step-a-5.result.sig c.step-a-5.result.exp (a5 c.args.z) (ca 6) (lit≤ tt) (after_a5 c.before) (Ca 6 (lit< tt))
 
-after_a6 : (c : goal.After-step-a-6) → After 6 c.step-a-6.result.sig c.step-a-6.result.exp (a6 (z (apart_12 c)))
-after_a6 c = let o = apart_12 c in stepped (z o) (y o) (j o) o.before.requires o.opened-y.ensures 5 c.before.before.step-a-5.result.sig c.before.before.step-a-5.result.exp (a5 (z o)) (ca 6) (lit≤ tt) (after_a5 c.before.before) (Ca 6 (lit< tt)) c.step-a-6.result.sig c.step-a-6.result.exp c.step-a-6.ensures
+after_a6 : (c : goal.After-step-a-6) → After 6 c.step-a-6.result.sig c.step-a-6.result.exp (a6 c.args.z)
+after_a6 c = stepped c.args.z c.opened-y.result.sig c.opened-y.result.exp c.requires c.opened-y.ensures 5 c.step-a-5.result.sig c.step-a-5.result.exp (a5 c.args.z) (ca 6) (lit≤ tt) (after_a5 c.before.before) (Ca 6 (lit< tt)) c.step-a-6.result.sig c.step-a-6.result.exp c.step-a-6.ensures
 
 pub step-b-requires-7 : goal.step-b-requires-7
-step-b-requires-7 c = let o = apart_12 c in ready (z o) (y o) (j o) o.before.requires o.opened-y.ensures 6 c.before.step-b-6.result.sig c.before.step-b-6.result.exp (b6 (z o)) (cb 7) (lit≤ tt) (after_b6 c.before) (Cb 7 (lit< tt))
+step-b-requires-7 c = ready c.args.z c.opened-y.result.sig c.opened-y.result.exp c.requires c.opened-y.ensures 6 c.step-b-6.result.sig c.step-b-6.result.exp (b6 c.args.z) (cb 7) (lit≤ tt) (after_b6 c.before) (Cb 7 (lit< tt))
 
-after_b7 : (c : goal.After-step-b-7) → After 7 c.step-b-7.result.sig c.step-b-7.result.exp (b7 (z (apart_12 c.before)))
-after_b7 c = let o = apart_12 c.before in stepped (z o) (y o) (j o) o.before.requires o.opened-y.ensures 6 c.before.before.step-b-6.result.sig c.before.before.step-b-6.result.exp (b6 (z o)) (cb 7) (lit≤ tt) (after_b6 c.before.before) (Cb 7 (lit< tt)) c.step-b-7.result.sig c.step-b-7.result.exp c.step-b-7.ensures
+after_b7 : (c : goal.After-step-b-7) → After 7 c.step-b-7.result.sig c.step-b-7.result.exp (b7 c.args.z)
+after_b7 c = stepped c.args.z c.opened-y.result.sig c.opened-y.result.exp c.requires c.opened-y.ensures 6 c.step-b-6.result.sig c.step-b-6.result.exp (b6 c.args.z) (cb 7) (lit≤ tt) (after_b6 c.before.before) (Cb 7 (lit< tt)) c.step-b-7.result.sig c.step-b-7.result.exp c.step-b-7.ensures
 
 pub closed-requires : goal.closed-requires
-closed-requires c = closes 6 c.before.step-a-6.result.sig c.before.step-a-6.result.exp (a6 (z (apart_12 c.before))) (lit≤ tt) (after_a6 c.before)
+closed-requires c = closes 6 c.step-a-6.result.sig c.step-a-6.result.exp (a6 c.args.z) (lit≤ tt) (after_a6 c.before)
 
 pub closed-requires-2 : goal.closed-requires-2
-closed-requires-2 c = closes 7 c.before.step-b-7.result.sig c.before.step-b-7.result.exp (b7 (z (apart_12 c.before.before))) (lit≤ tt) (after_b7 c.before)
+closed-requires-2 c = closes 7 c.step-b-7.result.sig c.step-b-7.result.exp (b7 c.args.z) (lit≤ tt) (after_b7 c.before)
 
 pub returns : goal.returns
 returns c =
-    let o = apart_12 c.before.before.before in
-    ap₂ (λ (p q : Float). o.before.args.e ⊗ p ⊘ q) (c.before.closed.ensures ∙ (after_a6 c.before.before.before).0 ∙ num_is fused_of (z o)) (c.closed-2.ensures ∙ (after_b7 c.before.before).0 ∙ den_is fused_of (z o))
+    ap₂ (λ (p q : Float). c.args.e ⊗ p ⊘ q) (c.closed.ensures ∙ (after_a6 c.before.before.before).0 ∙ num_is fused_of c.args.z) (c.closed-2.ensures ∙ (after_b7 c.before.before).0 ∙ den_is fused_of c.args.z)

@@ -75,8 +75,8 @@ last-requires-2 c =
 
 pub returns : goal.returns
 returns c = (
-      assembled c.args.z c.args.a c.reduce-e.result.r c.last.result c.fixed_of-y.result c.reduce-e.result.k c.fixed_of-y.ensures.1 c.fixed_of-y.ensures.0 c.requires.4 c.requires.2 c.reduce-e.ensures.0 c.reduce-e.ensures.1
-          c.begun-s.ensures.0 c.turn_two-s.ensures.0 c.turn_two-s-2.ensures.0 c.turn_two-s-3.ensures.0 c.turn_two-s-4.ensures.0 c.turn_two-s-5.ensures.0 c.last.ensures,
-      assembled c.args.w c.args.b c.reduce-f.result.r c.last-2.result c.fixed_of-x.result c.reduce-f.result.k c.fixed_of-x.ensures.1 c.fixed_of-x.ensures.0 c.requires.5 c.requires.3 c.reduce-f.ensures.0 c.reduce-f.ensures.1
-          c.begun-s.ensures.1 c.turn_two-s.ensures.1 c.turn_two-s-2.ensures.1 c.turn_two-s-3.ensures.1 c.turn_two-s-4.ensures.1 c.turn_two-s-5.ensures.1 c.last-2.ensures,
-    )
+  assembled c.args.z c.args.a c.reduce-e.result.r c.last.result c.fixed_of-y.result c.reduce-e.result.k c.fixed_of-y.ensures.1 c.fixed_of-y.ensures.0 c.requires.4 c.requires.2 c.reduce-e.ensures.0 c.reduce-e.ensures.1
+      c.begun-s.ensures.0 c.turn_two-s.ensures.0 c.turn_two-s-2.ensures.0 c.turn_two-s-3.ensures.0 c.turn_two-s-4.ensures.0 c.turn_two-s-5.ensures.0 c.last.ensures,
+  assembled c.args.w c.args.b c.reduce-f.result.r c.last-2.result c.fixed_of-x.result c.reduce-f.result.k c.fixed_of-x.ensures.1 c.fixed_of-x.ensures.0 c.requires.5 c.requires.3 c.reduce-f.ensures.0 c.reduce-f.ensures.1
+      c.begun-s.ensures.1 c.turn_two-s.ensures.1 c.turn_two-s-2.ensures.1 c.turn_two-s-3.ensures.1 c.turn_two-s-4.ensures.1 c.turn_two-s-5.ensures.1 c.last-2.ensures,
+)

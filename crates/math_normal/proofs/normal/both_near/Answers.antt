@@ -1,6 +1,6 @@
 -- `math_normal::both_near` meets its contract: by its four tests. Assumes nothing.
 use mathlib.Core.Path.{sym, ◌∙◌}
-use mathlib.Core.Bool.{true, false≢true}
+use mathlib.Core.Bool.{false≢true}
 use Rattle.math_normal.proofs.normal.both_near.Goals as goal
 
 pub returns-then-within_limits : goal.returns-then-within_limits
