@@ -13,7 +13,7 @@ use lib.IntN.{pos}
 use Rattle.ieee.specs.Decimal.{decimal}
 use Rattle.math_elementary.specs.Simple.{midpoint_of}
 use Rattle.search.specs.Line.{place, Neighbours, Tight}
-use Rattle.search.specs.Halving.{Halves, raised, lowered, Halvings, none, one_more, Start, Between, HalvingLaw}
+use Rattle.search.specs.Halving.{raised, lowered, Halvings, none, one_more, Start, Between, HalvingLaw}
 use Rattle.search.proofs.Near.{Near}
 use Rattle.search.proofs.Iterates.{iterate, iterate_zero, iterate_last}
 use Rattle.search.proofs.Place.{Real, le→place, place→le}

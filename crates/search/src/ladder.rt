@@ -3,6 +3,9 @@ ghost use Rattle.std.specs.Prelude.{◌≡◌};
 ghost use Rattle.search_sum.specs.Sum.{weighted_sum};
 ghost use Rattle.search.specs.Rate.{rate_at, good, ladder_of};
 
+// The first rung is number 0.
+const LAST_RUNG: u64 = 60;
+
 // What a ladder comes to: its first good rung, a NaN sum that was met before one, or neither.
 #[derive(Clone, Copy)]
 pub enum Ladder {
@@ -40,7 +43,7 @@ pub fn climb(weights: &[f64], b: &[f64], below: bool) -> Ladder
         if is_good(below, sum) {
             break Ladder::At { rung, rate, sum };
         }
-        if rung == 60 {
+        if rung == LAST_RUNG {
             break Ladder::Nothing;
         }
         rate = rate * 2.0;

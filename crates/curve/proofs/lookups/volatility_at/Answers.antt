@@ -1,6 +1,6 @@
 -- `volatility_at` meets its contract. The loop's invariant: the last pillar among those from place i on, with the best so far, is the last of all, with the first.
 use borrow.Author.Rules.{rules}
-use mathlib.Core.Path.{◌≡◌, sym, ap, ◌∙◌}
+use mathlib.Core.Path.{◌≡◌, refl, sym, ap, ◌∙◌}
 use mathlib.Core.Bool.{cond}
 use Prim.Native.Nat.{◌+◌}
 use lib.ListN.{drop, get_or}
@@ -15,6 +15,9 @@ returns-then-times-eq0 c = sym (volatility_none _ _ _ c.if-times-eq0.true)
 
 pub returns-then-sigmas-eq0 : goal.returns-then-sigmas-eq0
 returns-then-sigmas-eq0 c = sym (volatility_short _ _ _ c.if-sigmas-eq0.true)
+
+pub loop-i-init : goal.loop-i-init
+loop-i-init c = (search rules, refl)
 
 pub returns-then-sigmas-i : goal.returns-then-sigmas-i
 returns-then-sigmas-i c =

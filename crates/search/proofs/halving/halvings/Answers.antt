@@ -22,4 +22,4 @@ loop-k-preserved c =
     (search rules, on_at _ _ c.loop-k.k _ c.loop-k.invariant.1 _ (sym c.in-Next.is ∙ c.halve.ensures))
 
 pub returns : goal.returns
-returns c = let l = c in end_at _ _ l.loop-k.k _ l.loop-k.invariant.1 l.loop-k.invariant.0 c.loop-k-test.false
+returns c = end_at _ _ c.loop-k.k _ c.loop-k.invariant.1 c.loop-k.invariant.0 c.loop-k-test.false
