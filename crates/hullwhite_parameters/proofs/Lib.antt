@@ -1,3 +1,3 @@
 -- What the functions' proofs cite.
-pub mod Reached
+pub mod ReachedLaws
 pub mod Walks

@@ -22,7 +22,7 @@ volatility_outcome ts ss t = unless (rules_at ts ss t) (volatility_found ts ss t
 unfoldable pub reached_outcome : List Float → List Float → Float → Outcome (List Float)
 reached_outcome ts ss t = unless (rules_at ts ss t) (served (up_to t ts))
 
--- the answer and the part that are handed back, against the outcome: the answer's number is document 01's, and is that of the volatility at t (proved in proofs/Reached.antt); "any returned part empty" beside a refusal
+-- the answer and the part that are handed back, against the outcome: the answer's number is document 01's, and is that of the volatility at t (proved in proofs/ReachedLaws.antt); "any returned part empty" beside a refusal
 pub record ReachedIs (answer : Answer) (part : List Float) (ts ss : List Float) (t : Float) : Type 0 where
   pub answered : answer ≡ answer_of (reached_outcome ts ss t)
   pub number : answer_number answer ≡ (reported [] (reached_outcome ts ss t)).answer

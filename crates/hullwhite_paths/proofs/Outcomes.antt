@@ -1,5 +1,5 @@
 -- What a path that its rules let through knows: its lengths, and that the times of its pillars and of its curve rise. Assumes nothing.
-use mathlib.Core.Path.{◌≡◌, refl, sym, ap, ◌∙◌}
+use mathlib.Core.Path.{◌≡◌, refl, sym, ◌∙◌}
 use mathlib.Core.Bool.{Bool, true, false, not, ◌||◌}
 use mathlib.Core.List.{List}
 use Prim.Native.Nat.{ℕ, ◌≤◌}
@@ -81,7 +81,7 @@ pub seeded_fits : (ps ss ts fs grid : List Float) {schedule curve points : Fault
     → (length grid ≤ 1024) × (in_order true ts ≡ true) × (in_order true ps ≡ true) × (length grid ≤ room)
 seeded_fits ps ss ts fs grid zero_seed empty several below room alpha p q r e h =
     let rules = seeded_rules_of zero_seed empty (ltb room (length grid)) alpha p q r refl refl h in
-    let b = behind ps ss ts fs grid (seeded_grid_faults grid) empty several below room alpha (unseeded _ _ _ zero_seed _ _ _ _ _ (sym rules ∙ e)) in
+    let b = behind ps ss ts fs grid (seeded_grid_faults grid) empty several below room alpha (unseeded (pillar_faults ps ss) (curve_faults ts fs) (seeded_grid_faults grid) zero_seed empty several below (ltb room (length grid)) alpha (sym rules ∙ e)) in
     (seeded_sized grid b.0, b.1, b.2, b.3)
 
 -- ---- the state that is told beside what a path came to

@@ -62,7 +62,7 @@ module _ (centre : Centre) (alpha : Float) (ps ss ts fs : List Float) where
       let d = required_served R.OffCurve (factor_at ts fs (t ⊕ h)) (λ p_plus. prepend (next.x ⊕ shift_of centre alpha a.0 t next.variance (forward_of b.0 p_plus)) (path_from centre alpha ps ss ts fs next grid draws)) ys b.1 in
       let w = prepend_served (next.x ⊕ shift_of centre alpha a.0 t next.variance (forward_of b.0 d.0)) (path_from centre alpha ps ss ts fs next grid draws) ys d.1 in
       let z : length draws ≡ length grid = omega arith in
-      sym (ap length w.2) ∙ ap suc (from_length next grid draws w.0 z w.1)
+      rw (← w.2) (ap suc {x = length w.0} (from_length next grid draws w.0 z w.1))
 
   -- behind the rules
   walked_length : (grid draws xs : List Float) → length draws ≡ length grid → following (path_from centre alpha ps ss ts fs start_state grid draws) finishing_list ≡ served xs → length xs ≡ length grid

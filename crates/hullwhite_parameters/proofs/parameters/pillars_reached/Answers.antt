@@ -1,5 +1,5 @@
 -- `hullwhite_parameters::pillars_reached` meets its contract: the answer and the part come from two calls. Assumes nothing.
-use Rattle.hullwhite_parameters.proofs.Reached.{reached_is}
+use Rattle.hullwhite_parameters.proofs.ReachedLaws.{reached_is}
 use Rattle.hullwhite_parameters.proofs.parameters.pillars_reached.Goals as goal
 
 pub returns : goal.returns

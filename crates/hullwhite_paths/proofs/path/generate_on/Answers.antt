@@ -6,7 +6,7 @@ use Rattle.refusals.specs.Refusals.{answer_number, following}
 use Rattle.refusals.proofs.Outcomes.{turned_down, let_through}
 use Rattle.hullwhite_transitions.specs.Written.{finishing_list}
 use Rattle.hullwhite_points.specs.Path.{start_state, path_from}
-use Rattle.hullwhite_paths.specs.Generate.{starts_below, several_for, generate_outcome}
+use Rattle.hullwhite_paths.specs.Generate.{generate_outcome}
 use Rattle.hullwhite_paths.proofs.Outcomes.{rules_of, grid_fits}
 use Rattle.hullwhite_paths.proofs.path.generate_on.Goals as goal
 
@@ -15,7 +15,7 @@ unfolding generate_outcome
 returns-in-Refused c =
     let a = c.args in
     let rules = rules_of (eqb (length a.pillars.now) 0) (ltb (length a.out.now) (length a.grid.now)) a.alpha c.pillar_faults-schedule.ensures c.requires c.grid_faults-points.ensures c.several_for.ensures c.starts_below.ensures c.path_rules-answer.ensures in
-    rw (turned_down _ (following (path_from a.centre a.alpha a.pillars.now a.sigmas.now a.times.now a.factors.now start_state a.grid.now a.draws.now) finishing_list) c.in-Refused.is rules) (refl, (refl, refl))
+    rw (turned_down _ (following (path_from a.centre a.alpha a.pillars.now a.sigmas.now a.times.now a.factors.now start_state a.grid.now a.draws.now) finishing_list) c.in-Refused.is rules) record { answer = refl; output = refl; number = refl }
 
 pub write_path-requires : goal.write_path-requires
 write_path-requires c =
@@ -29,4 +29,4 @@ returns c =
     let a = c.args in
     let rules = rules_of (eqb (length a.pillars.now) 0) (ltb (length a.out.now) (length a.grid.now)) a.alpha c.pillar_faults-schedule.ensures c.requires c.grid_faults-points.ensures c.several_for.ensures c.starts_below.ensures c.path_rules-answer.ensures in
     let w = c.write_path.ensures in
-    rw (let_through _ (following (path_from a.centre a.alpha a.pillars.now a.sigmas.now a.times.now a.factors.now start_state a.grid.now a.draws.now) finishing_list) c.in_default.is rules) (w.answer, (w.output, ap answer_number w.answer))
+    rw (let_through _ (following (path_from a.centre a.alpha a.pillars.now a.sigmas.now a.times.now a.factors.now start_state a.grid.now a.draws.now) finishing_list) c.in_default.is rules) record { answer = w.answer; output = w.output; number = ap answer_number w.answer }

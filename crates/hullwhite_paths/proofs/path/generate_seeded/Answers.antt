@@ -25,16 +25,16 @@ path centre alpha ps ss ts fs grid draws = following (path_from centre alpha ps 
 abbrev room : List Float
 room = replicate 1024 zero
 
--- ---- the list that the draws are written to, of which the first n places are lent, and what it then holds
-drawn : (n seed : ℕ) {k : ℕ} (fits : n ≤ 1024) (written : List Float) (same : length written ≡ length (take n room)) → written ≡ draws_of k seed → k ≡ length (take n room) → take n (written ++ drop n room) ≡ draws_of n seed
-drawn n seed fits written same e k = values_are room n fits written same ∙ e ∙ ap (λ (m : ℕ). draws_of m seed) (k ∙ sym (lent_is room n fits))
+-- its front, n places that are lent, holds the draws of the seed when it is handed back
+drawn : (n seed : ℕ) (fits : n ≤ 1024) (written : List Float) (same : length written ≡ length (take n room)) → written ≡ draws_of (length (take n room)) seed → take n (written ++ drop n room) ≡ draws_of n seed
+drawn n seed fits written same e = values_are room n fits written same ∙ e ∙ ap (λ (m : ℕ). draws_of m seed) (sym (lent_is room n fits))
 
 pub returns-in-Refused : goal.returns-in-Refused
 unfolding seeded_outcome
 returns-in-Refused c =
     let a = c.args in
     let rules = seeded_rules_of (eqb a.seed 0) (eqb (length a.pillars.now) 0) (ltb (length a.out.now) (length a.grid.now)) a.alpha c.pillar_faults-schedule.ensures c.curve_faults-curve.ensures c.seeded_grid_faults-points.ensures c.several_for-several.ensures c.starts_below.ensures c.seeded_rules-answer.ensures in
-    rw (turned_down _ (path a.centre a.alpha a.pillars.now a.sigmas.now a.times.now a.factors.now a.grid.now (draws_of (length a.grid.now) a.seed)) c.in-Refused.is rules) (refl, (refl, refl))
+    rw (turned_down _ (path a.centre a.alpha a.pillars.now a.sigmas.now a.times.now a.factors.now a.grid.now (draws_of (length a.grid.now) a.seed)) c.in-Refused.is rules) record { answer = refl; output = refl; report = refl }
 
 pub slice_bounds-drawn-end : goal.slice_bounds-drawn-end
 slice_bounds-drawn-end c = (seeded_fits _ _ _ _ _ _ _ _ _ _ _ c.pillar_faults-schedule.ensures c.curve_faults-curve.ensures c.seeded_grid_faults-points.ensures c.in_default.is c.seeded_rules-answer.ensures).0
@@ -55,8 +55,24 @@ write_path-written-requires c =
 
 pub returns-in-Refused-written : goal.returns-in-Refused-written
 unfolding seeded_outcome
-returns-in-Refused-written c = ?
+returns-in-Refused-written c =
+    let a = c.args in
+    let rules = seeded_rules_of (eqb a.seed 0) (eqb (length a.pillars.now) 0) (ltb (length a.out.now) (length a.grid.now)) a.alpha c.pillar_faults-schedule.ensures c.curve_faults-curve.ensures c.seeded_grid_faults-points.ensures c.several_for-several.ensures c.starts_below.ensures c.seeded_rules-answer.ensures in
+    let k = seeded_fits _ _ _ _ _ _ _ _ _ _ _ c.pillar_faults-schedule.ensures c.curve_faults-curve.ensures c.seeded_grid_faults-points.ensures c.in_default.is c.seeded_rules-answer.ensures in
+    let on = path a.centre a.alpha a.pillars.now a.sigmas.now a.times.now a.factors.now a.grid.now in
+    let d = drawn (length a.grid.now) a.seed k.0 c.write_draws-state.new.out c.write_draws-state.auto.out c.write_draws-state.ensures.draws in
+    let w = c.write_path-written.ensures in
+    let answer = not_reached (on (draws_of (length a.grid.now) a.seed)) (reached_by (length a.grid.now) a.seed) c.in-Refused-written.is (w.answer ∙ ap (λ (ds : List Float). answer_of (on ds)) d) in
+    rw (let_through _ (on (draws_of (length a.grid.now) a.seed)) c.in_default.is rules) record { answer = answer; output = w.output ∙ ap (λ (ds : List Float). stored_of (on ds) a.out.now) d; report = ap (reported 0) answer }
 
 pub returns : goal.returns
 unfolding seeded_outcome
-returns c = ?
+returns c =
+    let a = c.args in
+    let rules = seeded_rules_of (eqb a.seed 0) (eqb (length a.pillars.now) 0) (ltb (length a.out.now) (length a.grid.now)) a.alpha c.pillar_faults-schedule.ensures c.curve_faults-curve.ensures c.seeded_grid_faults-points.ensures c.several_for-several.ensures c.starts_below.ensures c.seeded_rules-answer.ensures in
+    let k = seeded_fits _ _ _ _ _ _ _ _ _ _ _ c.pillar_faults-schedule.ensures c.curve_faults-curve.ensures c.seeded_grid_faults-points.ensures c.in_default.is c.seeded_rules-answer.ensures in
+    let on = path a.centre a.alpha a.pillars.now a.sigmas.now a.times.now a.factors.now a.grid.now in
+    let d = drawn (length a.grid.now) a.seed k.0 c.write_draws-state.new.out c.write_draws-state.auto.out c.write_draws-state.ensures.draws in
+    let w = c.write_path-written.ensures in
+    let answer = ap served (c.write_draws-state.ensures.state ∙ ap (λ (m : ℕ). reached_by m a.seed) (sym (lent_is room _ k.0))) ∙ reached (on (draws_of (length a.grid.now) a.seed)) (reached_by (length a.grid.now) a.seed) c.in_default-written.is (w.answer ∙ ap (λ (ds : List Float). answer_of (on ds)) d) in
+    rw (let_through _ (on (draws_of (length a.grid.now) a.seed)) c.in_default.is rules) record { answer = answer; output = w.output ∙ ap (λ (ds : List Float). stored_of (on ds) a.out.now) d; report = ap (reported 0) answer }

@@ -22,7 +22,7 @@ pub walk_grid-walk-requires : goal.walk_grid-walk-requires
 walk_grid-walk-requires c = let p = c.requires in (sym (lent_is work _ p.0), p.1, p.2, p.3)
 
 pub returns-in-Refused : goal.returns-in-Refused
-returns-in-Refused c = rw (c.walk_grid-walk.ensures ∙ turned_down _ _ c.in-Refused.is refl) (refl, refl)
+returns-in-Refused c = rw (c.walk_grid-walk.ensures ∙ turned_down _ _ c.in-Refused.is refl) record { answer = refl; output = refl }
 
 pub slice_bounds-work-end-2 : goal.slice_bounds-work-end-2
 slice_bounds-work-end-2 c = back_fits work _ c.requires.0 c.walk_grid-walk.new.out c.walk_grid-walk.auto.out
@@ -36,4 +36,4 @@ finish-requires c = rw (← back_is work _ c.requires.0 c.walk_grid-walk.new.out
 pub returns : goal.returns
 returns c =
     let w = values_are work _ c.requires.0 c.walk_grid-walk.new.out c.walk_grid-walk.auto.out in
-    rw (c.walk_grid-walk.ensures ∙ let_through _ _ c.in_default.is refl, ← w) (c.finish.ensures.0, c.finish.ensures.1)
+    rw (c.walk_grid-walk.ensures ∙ let_through _ _ c.in_default.is refl, ← w) record { answer = c.finish.ensures.answer; output = c.finish.ensures.output }

@@ -4,4 +4,4 @@ use Rattle.hullwhite_transitions.proofs.Outcomes.{finished_answer, finished_outp
 use Rattle.hullwhite_transitions.proofs.output.finish.Goals as goal
 
 pub returns : goal.returns
-returns c = (c.and_rule.ensures ∙ finished_answer _ _ c.all-finite.ensures, finished_output _ _ _ c.all-finite.ensures c.store.ensures)
+returns c = record { answer = c.and_rule.ensures ∙ finished_answer _ _ c.all-finite.ensures; output = finished_output _ _ _ c.all-finite.ensures c.store.ensures }

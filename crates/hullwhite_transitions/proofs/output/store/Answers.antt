@@ -2,13 +2,12 @@
 use mathlib.Core.Path.{refl}
 use native.Mathlib.Nat.{le_antisymm}
 use borrow.Author.Rules.{rules}
-use borrow.Author.Tests.{not-true, not-false}
 use lib.ListN.{length-set}
 use Rattle.hullwhite_transitions.proofs.Walks.{store_turn, store_end}
 use Rattle.hullwhite_transitions.proofs.output.store.Goals as goal
 
 pub returns-then-not-wanted : goal.returns-then-not-wanted
-returns-then-not-wanted c = rw (not-true c.args.wanted c.if-not-wanted.true)
+returns-then-not-wanted c = rw c.if-not-wanted.true
 
 pub loop-i-init : goal.loop-i-init
 loop-i-init c = (search rules, refl, refl)
@@ -26,4 +25,4 @@ pub returns : goal.returns
 returns c =
     let l = c.loop-i in
     let a = c.args in
-    rw (not-false a.wanted c.if-not-wanted.false) (store_end a.values.now a.out.now l.out l.i (le_antisymm l.invariant.0 c.loop-i-test.false) l.invariant.2)
+    rw c.if-not-wanted.false (store_end a.values.now a.out.now l.out l.i (le_antisymm l.invariant.0 c.loop-i-test.false) l.invariant.2)
