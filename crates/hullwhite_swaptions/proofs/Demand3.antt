@@ -11,7 +11,7 @@ use lib.ListN.{length}
 use lib.Ieee.{Float}
 use lib.Ieee.Scale.{finite}
 use Rattle.refusals.specs.declared.refusals.Refusal.TheVariants as R
-use Rattle.refusals.specs.Refusals.{Outcome, served, refused, after, following}
+use Rattle.refusals.specs.Refusals.{Outcome, served, refused, after, following, reported}
 use Rattle.refusals.proofs.Outcomes.{not_both}
 use Rattle.hullwhite_formulas.specs.HullWhite.{forward_of}
 use Rattle.search.specs.Rate.{critical_of}
@@ -22,9 +22,11 @@ use Rattle.hullwhite_terms.proofs.Callers.{Late, past_rules, searching, root_loc
 use Rattle.hullwhite_terms.specs.Terms.{coefficients_of}
 use Rattle.hullwhite_terms.specs.Begun.{Begun, RootFound, WantsBracket}
 use Rattle.hullwhite_terms.proofs.Begun.{Searches, looked_up_lem, looks_up}
-use Rattle.hullwhite_jamshidian.specs.Price.{ModelValued, no_model_valued, puts_of, price_at, finishing_swaption}
+use Rattle.hullwhite_jamshidian.specs.declared.price.Swaption.{Swaption}
+use Rattle.hullwhite_jamshidian.specs.Price.{ModelValued, swaption_outcome, no_model_valued, puts_of, price_at, finishing_swaption}
 use Rattle.hullwhite_swaptions.specs.Model.{model_rules_on, terms_priced, model_priced, model_outcome}
 use Rattle.hullwhite_jamshidian.specs.PricedSum.{model_sum_of}
+use Rattle.hullwhite_swaptions.specs.Demand3.{ModelRootLocated, ModelNoBracketExactly}
 
 -- ---- rule 13 after the price
 keeps : (w v : ModelValued) → finishing_swaption w ≡ served v → w ≡ v
@@ -96,13 +98,13 @@ module _ (alpha : Float) (ts fs payments accruals : List Float) (strike t sigma 
 
   -- ---- of any answer whose outcome is the one defined: `ModelRootLocated` and `ModelNoBracketExactly`
   module _ {o : Outcome ModelValued} (is : o ≡ model_outcome alpha ts fs payments accruals strike t sigma) where
-    pub rooted : (v : ModelValued) → o ≡ served v → 0 < length payments → RootFound (model_rules_on alpha ts fs payments accruals strike t sigma) ts fs payments t (model_sum_of alpha t payments accruals strike sigma) v.root
+    rooted : (v : ModelValued) → o ≡ served v → 0 < length payments → RootFound (model_rules_on alpha ts fs payments accruals strike t sigma) ts fs payments t (model_sum_of alpha t payments accruals strike sigma) v.root
     unfolding sum
     rooted v e l =
         let s = (searches (served v) tt (sym is ∙ e) (λ z. l)).1 in
         record { begun = s.begun; located = located alpha payments accruals strike t sigma s.begun.pt s.begun.p_plus s.begun.ps v s.goes_on }
 
-    pub refused_so : (o ≡ refused R.NoBracket) ↔ ((0 < length payments) × WantsBracket (model_rules_on alpha ts fs payments accruals strike t sigma) ts fs payments t (model_sum_of alpha t payments accruals strike sigma))
+    refused_so : (o ≡ refused R.NoBracket) ↔ ((0 < length payments) × WantsBracket (model_rules_on alpha ts fs payments accruals strike t sigma) ts fs payments t (model_sum_of alpha t payments accruals strike sigma))
     unfolding sum
     refused_so = (
       λ e. let s = searches (refused R.NoBracket) tt (sym is ∙ e) (coupons_there (length payments) (model_priced alpha ts fs payments accruals strike t sigma)) in
@@ -110,3 +112,12 @@ module _ (alpha : Float) (ts fs payments accruals : List Float) (strike t sigma 
           (s.0, record { begun = b; unbracketed = unbracketed alpha payments accruals strike t sigma b.pt b.p_plus b.ps s.1.goes_on }),
       λ w. let b = w.1.begun in is ∙ begins w.0 b ∙ bracket_wanted alpha payments accruals strike t sigma b.pt b.p_plus b.ps w.1.unbracketed,
     )
+
+  -- ---- all that the call promises of an answer whose outcome is the one defined
+  pub promised : (r : Swaption) → swaption_outcome r ≡ model_outcome alpha ts fs payments accruals strike t sigma → record {
+      answer : swaption_outcome r ≡ model_outcome alpha ts fs payments accruals strike t sigma;
+      rooted : ModelRootLocated alpha ts fs payments accruals strike t sigma r;
+      bracket : ModelNoBracketExactly alpha ts fs payments accruals strike t sigma r;
+      report : reported no_model_valued (swaption_outcome r) ≡ reported no_model_valued (model_outcome alpha ts fs payments accruals strike t sigma)
+    }
+  promised r is = record { answer = is; rooted = rooted is; bracket = refused_so is; report = ap (reported no_model_valued) is }

@@ -11,7 +11,7 @@ use Rattle.ieee.specs.Numbers.{zero}
 use Rattle.math_elementary.specs.Simple.{abs_of}
 use Rattle.refusals.specs.declared.checks.Test.TheVariants.{Zero}
 use Rattle.refusals.specs.declared.refusals.Refusal.TheVariants as R
-use Rattle.refusals.specs.Refusals.{Outcome, served, refused, answer_number, answer_of, following}
+use Rattle.refusals.specs.Refusals.{Outcome, served, refused, answer_number, answer_of, following, reported}
 use Rattle.refusals.specs.Checks.{all_of}
 use Rattle.refusals.proofs.Outcomes.{not_both}
 use Rattle.hullwhite_formulas.specs.HullWhite.{forward_of}
@@ -28,9 +28,10 @@ use Rattle.pricer_formulas.specs.declared.bond_option.SwaptionType.{SwaptionType
 use Rattle.pricer_formulas.specs.Affine.{pricer_deviation_of, affine_aList_of}
 use Rattle.pricer_formulas.specs.Newton.{flat_limit, sums_of, stepped}
 use Rattle.pricer_formulas.specs.Components.{components_of}
-use Rattle.pricer_value.specs.Value.{PricerValued, finishing_valuation, priced_by, swaption_priced}
+use Rattle.pricer_value.specs.declared.value.Valuation.{Valuation}
+use Rattle.pricer_value.specs.Value.{PricerValued, valuation_outcome, no_pricer_valued, finishing_valuation, priced_by, swaption_priced}
 use Rattle.pricer.specs.Pricer.{pricer_rules_on, pricer_outcome}
-use Rattle.pricer.specs.Demand3.{pricer_sum_of}
+use Rattle.pricer.specs.Demand3.{pricer_sum_of, PricerRootLocated, PricerNoBracketExactly}
 
 -- ---- rule 13
 keeps : (w v : PricerValued) → finishing_valuation w ≡ served v → w ≡ v
@@ -101,16 +102,25 @@ module _ (option : SwaptionType) (alpha : Float) (pls ss ts fs payments accruals
 
   -- ---- of any answer whose outcome is the one defined: `PricerRootLocated` and `PricerNoBracketExactly`
   module _ {o : Outcome PricerValued} (is : o ≡ pricer_outcome option alpha pls ss ts fs payments accruals owns strike t notional side) where
-    pub rooted : (v : PricerValued) → o ≡ served v → RootFound (pricer_rules_on alpha pls ss ts fs payments accruals owns strike t notional side) ts fs payments t (pricer_sum_of alpha pls ss t payments accruals strike) v.root
+    rooted : (v : PricerValued) → o ≡ served v → RootFound (pricer_rules_on alpha pls ss ts fs payments accruals owns strike t notional side) ts fs payments t (pricer_sum_of alpha pls ss t payments accruals strike) v.root
     unfolding pricer_outcome swaption_priced on
     rooted v e =
         let s = searches (pricer_rules_on alpha pls ss ts fs payments accruals owns strike t notional side) ts fs payments t on tt (served v) tt (sym is ∙ e) in
         record { begun = s.begun; located = (priced _ _ _ _ _ _ _ _ _ _ v s.goes_on).located }
 
-    pub refused_so : (o ≡ refused R.NoBracket) ↔ WantsBracket (pricer_rules_on alpha pls ss ts fs payments accruals owns strike t notional side) ts fs payments t (pricer_sum_of alpha pls ss t payments accruals strike)
+    refused_so : (o ≡ refused R.NoBracket) ↔ WantsBracket (pricer_rules_on alpha pls ss ts fs payments accruals owns strike t notional side) ts fs payments t (pricer_sum_of alpha pls ss t payments accruals strike)
     unfolding pricer_outcome swaption_priced on
     refused_so = (
       λ e. let s = searches (pricer_rules_on alpha pls ss ts fs payments accruals owns strike t notional side) ts fs payments t on tt (refused R.NoBracket) tt (sym is ∙ e) in
           record { begun = s.begun; unbracketed = unbracketed _ _ _ _ _ _ _ _ _ _ s.goes_on },
       λ w. is ∙ begins (pricer_rules_on alpha pls ss ts fs payments accruals owns strike t notional side) ts fs payments t on w.begun ∙ bracket_wanted _ _ _ _ _ _ _ _ _ _ w.unbracketed,
     )
+
+  -- ---- all that the call promises of an answer whose outcome is the one defined
+  pub promised : (r : Valuation) → valuation_outcome r ≡ pricer_outcome option alpha pls ss ts fs payments accruals owns strike t notional side → record {
+      answer : valuation_outcome r ≡ pricer_outcome option alpha pls ss ts fs payments accruals owns strike t notional side;
+      rooted : PricerRootLocated alpha pls ss ts fs payments accruals owns strike t notional side r;
+      bracket : PricerNoBracketExactly alpha pls ss ts fs payments accruals owns strike t notional side r;
+      report : reported no_pricer_valued (valuation_outcome r) ≡ reported no_pricer_valued (pricer_outcome option alpha pls ss ts fs payments accruals owns strike t notional side)
+    }
+  promised r is = record { answer = is; rooted = rooted is; bracket = refused_so is; report = ap (reported no_pricer_valued) is }

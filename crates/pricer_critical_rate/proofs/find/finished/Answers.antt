@@ -8,7 +8,7 @@ pub returns-in-NotANumber : goal.returns-in-NotANumber
 returns-in-NotANumber c = rw c.in-NotANumber.is
 
 pub returns-in_default-found : goal.returns-in_default-found
-returns-in_default-found c = rw (nothing_found c.args.found-1 c.in_default.not-NotANumber c.in_default-found.not-Found)
+returns-in_default-found c = rw (nothing_found c.args.found c.in_default.not-NotANumber c.in_default-found.not-Found)
 
 pub returns-then-root_finite : goal.returns-then-root_finite
 returns-then-root_finite c = finishes _ c.in-Found.is (sym c.root_finite.ensures ∙ c.if-root_finite.true)

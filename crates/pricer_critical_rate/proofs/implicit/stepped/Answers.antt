@@ -9,7 +9,7 @@ pub returns-in-NotANumber : goal.returns-in-NotANumber
 returns-in-NotANumber c = rw c.in-NotANumber.is
 
 pub returns-in_default-found : goal.returns-in_default-found
-returns-in_default-found c = rw (nothing_found c.args.found-1 c.in_default.not-NotANumber c.in_default-found.not-Found)
+returns-in_default-found c = rw (nothing_found c.args.found c.in_default.not-NotANumber c.in_default-found.not-Found)
 
 pub returns-in_default-implicit_critical_rate_of : goal.returns-in_default-implicit_critical_rate_of
 returns-in_default-implicit_critical_rate_of c = step_flat _ c.in-Found.is _ _ _ (sym c.implicit_critical_rate_of.ensures ∙ ap step_outcome c.in_default-implicit_critical_rate_of.is)

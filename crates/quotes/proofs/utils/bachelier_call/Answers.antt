@@ -7,8 +7,8 @@ use Rattle.quotes.proofs.utils.bachelier_call.Goals as goal
 
 pub returns-in-Refused : goal.returns-in-Refused
 unfolding bachelier_call_outcome
-returns-in-Refused c = priced_refused _ _ c.in-Refused.is c.quote_rules_lem.ensures
+returns-in-Refused c = priced_refused _ _ c.in-Refused.is c.quote_rules-answer.ensures
 
 pub returns-in-Served : goal.returns-in-Served
 unfolding bachelier_call_outcome
-returns-in-Served c = priced_served _ _ c.in-Served.is c.quote_rules_lem.ensures (c.served.ensures ∙ ap finishing c.bachelier_call_of.ensures)
+returns-in-Served c = priced_served _ _ c.in-Served.is c.quote_rules-answer.ensures (c.served.ensures ∙ ap finishing c.bachelier_call_of.ensures)

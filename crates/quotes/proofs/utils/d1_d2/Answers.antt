@@ -8,11 +8,11 @@ use Rattle.quotes.proofs.utils.d1_d2.Goals as goal
 pub returns-in-Refused : goal.returns-in-Refused
 unfolding d1d2_outcome
 returns-in-Refused c =
-    let o = sym (turned_down _ (d1d2_worked _ _ _ _) c.in-Refused.is c.quote_rules_lem.ensures) in
-    (o, ap (reported no_d1_d2) o)
+    let o = sym (turned_down _ (d1d2_worked _ _ _ _) c.in-Refused.is c.quote_rules-answer.ensures) in
+    record { answer = o; report = ap (reported no_d1_d2) o }
 
 pub returns-in-Served : goal.returns-in-Served
 unfolding d1d2_outcome
 returns-in-Served c =
-    let o = c.d1_d2_worked.ensures ∙ sym (let_through _ _ c.in-Served.is c.quote_rules_lem.ensures) in
-    (o, ap (reported no_d1_d2) o)
+    let o = c.d1_d2_worked.ensures ∙ sym (let_through _ _ c.in-Served.is c.quote_rules-answer.ensures) in
+    record { answer = o; report = ap (reported no_d1_d2) o }
