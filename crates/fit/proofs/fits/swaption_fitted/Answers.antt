@@ -1,81 +1,14 @@
 -- `fit::fits::swaption_fitted` meets its contract: refused as the terms are, or the fit on them. Assumes nothing.
-use mathlib.Core.Path.{sym, ◌∙◌}
-use mathlib.Core.List.{List}
-use lib.Ieee.{Float}
-use Rattle.refusals.proofs.Lending.{work, lent_is, back_fits, back_is, values_are}
+use Rattle.refusals.proofs.Lending.{work, values_are}
 use Rattle.fit.proofs.Worked.{off_curve, on_curve}
 use Rattle.fit.proofs.fits.swaption_fitted.Goals as goal
 
--- the points of the walk that the rest speaks of: where it was called, from the last of the lists known, and where the terms are worked out, from where they are served
-abbrev called : goal.After-shared_slice_known-4-1 → goal.Start
-called c = c.before.before.before.before
-
-abbrev worked_out : goal.In-Served → goal.After-swaption_terms-worked
-worked_out c = c.before.before.before.before.before.before
-
--- ---- what was written into the lent lists
-abbrev cs_of : goal.After-swaption_terms-worked → List Float
-cs_of g = g.swaption_terms-worked.last.1.1.1.1.1.1.1.0
-
-abbrev bs_of_lem : goal.After-swaption_terms-worked → List Float
-bs_of_lem g = g.swaption_terms-worked.last.1.1.1.1.1.1.1.1.0
-
-abbrev ps_of : goal.After-swaption_terms-worked → List Float
-ps_of g = g.swaption_terms-worked.last.1.1.1.1.1.1.1.1.1.0
-
-pub slice_bounds-swaption_terms-end : goal.slice_bounds-swaption_terms-end
-slice_bounds-swaption_terms-end c = lent_is work _ (called c.before).requires.1
-
-pub slice_bounds-swaption_terms-end-2 : goal.slice_bounds-swaption_terms-end-2
-slice_bounds-swaption_terms-end-2 c = lent_is work _ (called c.before.before).requires.1
-
-pub slice_bounds-swaption_terms-end-3 : goal.slice_bounds-swaption_terms-end-3
-slice_bounds-swaption_terms-end-3 c = lent_is work _ (called c.before.before.before).requires.1
-
-pub swaption_terms-worked-requires : goal.swaption_terms-worked-requires
-swaption_terms-worked-requires c =
-    let s = (called c.before.before.before).requires in
-    let l = sym (lent_is work _ s.1) in
-    (s.3, s.2, l, l, l)
-
-pub slice_bounds-p-end-in-Served : goal.slice_bounds-p-end-in-Served
-slice_bounds-p-end-in-Served c = let g = worked_out c in back_fits work _ (called g.before.before.before.before).requires.1 (ps_of g) g.swaption_terms-worked.kept.1.1.1.1.1.1.1.1.1.0
-
-pub slice_bounds-fetched-end : goal.slice_bounds-fetched-end
-slice_bounds-fetched-end c = let g = worked_out c.before in back_is work _ (called g.before.before.before.before).requires.1 (ps_of g) g.swaption_terms-worked.kept.1.1.1.1.1.1.1.1.1.0
-
-pub swaption_market_price-price-requires : goal.swaption_market_price-price-requires
-swaption_market_price-price-requires c =
-    let g = worked_out c.before in
-    let s = (called g.before.before.before.before).requires in
-    let n = back_is work _ s.1 (ps_of g) g.swaption_terms-worked.kept.1.1.1.1.1.1.1.1.1.0 in
-    (sym n ∙ sym s.2, rw (← n) s.0)
-
-pub slice_bounds-c-end-in-Served : goal.slice_bounds-c-end-in-Served
-slice_bounds-c-end-in-Served c = let g = worked_out c.before.before in back_fits work _ (called g.before.before.before.before).requires.1 (cs_of g) g.swaption_terms-worked.kept.1.1.1.1.1.1.1.0
-
-pub slice_bounds-terms_fitted-end : goal.slice_bounds-terms_fitted-end
-slice_bounds-terms_fitted-end c = let g = worked_out c.before.before.before in back_is work _ (called g.before.before.before.before).requires.1 (cs_of g) g.swaption_terms-worked.kept.1.1.1.1.1.1.1.0
-
-pub slice_bounds-b-end-in-Served : goal.slice_bounds-b-end-in-Served
-slice_bounds-b-end-in-Served c = let g = worked_out c.before.before.before in back_fits work _ (called g.before.before.before.before).requires.1 (bs_of_lem g) g.swaption_terms-worked.kept.1.1.1.1.1.1.1.1.0
-
-pub slice_bounds-terms_fitted-end-in-Served : goal.slice_bounds-terms_fitted-end-in-Served
-slice_bounds-terms_fitted-end-in-Served c = let g = worked_out c.before.before.before.before in back_is work _ (called g.before.before.before.before).requires.1 (bs_of_lem g) g.swaption_terms-worked.kept.1.1.1.1.1.1.1.1.0
-
-pub terms_fitted-requires : goal.terms_fitted-requires
-terms_fitted-requires c =
-    let g = worked_out c.before.before.before.before in
-    let s = (called g.before.before.before.before).requires.1 in
-    let n = back_is work _ s (cs_of g) g.swaption_terms-worked.kept.1.1.1.1.1.1.1.0 in
-    (rw (← n) s, sym (back_is work _ s (bs_of_lem g) g.swaption_terms-worked.kept.1.1.1.1.1.1.1.1.0) ∙ n, sym (back_is work _ s (ps_of g) g.swaption_terms-worked.kept.1.1.1.1.1.1.1.1.1.0) ∙ n)
-
 pub returns-in-Refused : goal.returns-in-Refused
-returns-in-Refused c = let g = c.before.before.before.before.before.before in off_curve _ _ _ _ _ _ _ _ _ _ _ _ _ g.swaption_terms-worked.ensures c.before.in-Refused.is
+returns-in-Refused c = off_curve _ _ _ _ _ _ _ _ _ _ _ _ _ c.swaption_terms-worked.ensures c.in-Refused.is
 
+-- what was written into the lent lists is what the fit is given
 pub returns-in-Served : goal.returns-in-Served
 returns-in-Served c =
-    let w = c.before.before.before.before.before.before in
-    let g = w.before.before.before.before.before in
-    let s = (called g.before.before.before.before).requires.1 in
-    on_curve _ _ _ _ _ _ _ _ _ _ _ _ _ g.swaption_terms-worked.ensures w.in-Served.is (values_are work _ s (cs_of g) g.swaption_terms-worked.auto.1.1.1.1.1.1.1.0) (values_are work _ s (bs_of_lem g) g.swaption_terms-worked.auto.1.1.1.1.1.1.1.1.0) (values_are work _ s (ps_of g) g.swaption_terms-worked.auto.1.1.1.1.1.1.1.1.1.0) c.before.before.before.swaption_market_price-price.ensures c.terms_fitted.ensures
+    let s = c.requires.1 in
+    let g = c.swaption_terms-worked in
+    on_curve _ _ _ _ _ _ _ _ _ _ _ _ _ g.ensures c.in-Served.is (values_are work _ s g.new.c g.auto.c) (values_are work _ s g.new.b g.auto.b) (values_are work _ s g.new.p g.auto.p) c.swaption_market_price-price.ensures c.terms_fitted.ensures

@@ -1,34 +1,10 @@
 -- `fit::fits::terms_fitted` meets its contract: the curve's parts are those of specs/, the bisection is that of their objective, and its fit is looked at by rule 13. Assumes nothing.
-use mathlib.Core.Path.{sym, ◌∙◌}
-use mathlib.Core.List.{List}
-use lib.Ieee.{Float}
-use Rattle.refusals.proofs.Lending.{work, lent_is, back_fits, back_is, values_are}
+use mathlib.Core.Path.{◌∙◌}
+use Rattle.refusals.proofs.Lending.{work, values_are}
 use Rattle.fit.proofs.Worked.{swaption_fit}
 use Rattle.fit.proofs.fits.terms_fitted.Goals as goal
 
--- ---- what was written into the lent list
-abbrev ds_of : goal.After-curve_parts → List Float
-ds_of d = d.curve_parts.new.1.1.1.1.0
-
-pub slice_bounds-curve_parts-end : goal.slice_bounds-curve_parts-end
-slice_bounds-curve_parts-end c = lent_is work _ c.before.before.before.before.requires.0
-
-pub curve_parts-requires : goal.curve_parts-requires
-curve_parts-requires c = let s = c.before.before.before.before.requires in (sym (lent_is work _ s.0) ∙ sym s.1, s.2 ∙ sym s.1)
-
-pub slice_bounds-curve_part-end-2 : goal.slice_bounds-curve_part-end-2
-slice_bounds-curve_part-end-2 c = let d = c.before.before in back_fits work _ d.before.before.before.before.before.requires.0 (ds_of d) d.curve_parts.auto.1.1.1.1.0
-
-pub slice_bounds-solve-end : goal.slice_bounds-solve-end
-slice_bounds-solve-end c = let d = c.before.before.before in back_is work _ d.before.before.before.before.before.requires.0 (ds_of d) d.curve_parts.auto.1.1.1.1.0
-
-pub solve-fitted-requires : goal.solve-fitted-requires
-solve-fitted-requires c =
-    let d = c.before.before.before in
-    let s = d.before.before.before.before.before.requires in
-    (s.0, s.1, sym (back_is work _ s.0 (ds_of d) d.curve_parts.auto.1.1.1.1.0), s.2)
-
+-- what was written into the lent list is what the bisection is given
 pub returns : goal.returns
 returns c =
-    let d = c.before.before.before.before.before in
-    swaption_fit _ _ _ _ _ _ _ _ (values_are work _ d.before.before.before.before.before.requires.0 (ds_of d) d.curve_parts.auto.1.1.1.1.0 ∙ d.curve_parts.ensures) c.before.before.before.ahead_of_lem.ensures c.before.solve-fitted.ensures c.finished.ensures
+    swaption_fit _ _ _ _ _ _ _ _ (values_are work _ c.requires.0 c.curve_parts.new.out c.curve_parts.auto.out ∙ c.curve_parts.ensures) c.ahead_of.ensures c.solve-fitted.ensures c.finished.ensures
