@@ -4,7 +4,7 @@ use Rattle.file_output.proofs.Front.{none, job_piece_is, behind_jobs}
 use Rattle.file_output.proofs.pieces.job_piece.Goals as goal
 
 pub returns-then-n_jobs-k : goal.returns-then-n_jobs-k
-returns-then-n_jobs-k c = let s = c in none _ _ (behind_jobs s.args.file.now s.args.l s.requires.0 s.args.k (omega (arith, c.if-n_jobs-k.true)))
+returns-then-n_jobs-k c = none _ _ (behind_jobs c.args.file.now c.args.l c.requires.0 c.args.k (omega (arith, c.if-n_jobs-k.true)))
 
 pub returns : goal.returns
 returns c =
