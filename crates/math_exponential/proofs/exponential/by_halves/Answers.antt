@@ -12,18 +12,18 @@ held c = subst T (sym c.well_formed.0.1) tt
 
 module _ (c : goal.After-truncating_f64_to_i64-q) where
   abbrev p : Float
-  p = c.before.args.p
+  p = c.args.p
 
   -- twice p, cut
   abbrev q : ℤ
   q = signed (sgn p) (halves p)
 
   q_mag : mag q ≤ 4096
-  q_mag = omega (arith, signed_mag (sgn p) (halves p), halves_le p c.before.requires)
+  q_mag = omega (arith, signed_mag (sgn p) (halves p), halves_le p c.requires)
 
   long : to_z w64 (of_z w64 c.truncating_f64_to_i64-q.result) ≡ q
   long =
-      ap (λ (z : ℤ). to_z w64 (of_z w64 z)) (c.truncating_f64_to_i64-q.ensures ∙ doubled_cut p (held c.before) c.before.requires)
+      ap (λ (z : ℤ). to_z w64 (of_z w64 z)) (c.truncating_f64_to_i64-q.ensures ∙ doubled_cut p (held c.before) c.requires)
       ∙ to_z-of_z w64 q (record { sfits = omega (arith, q_mag) })
 
   short : to_z w32 (of_z w32 q) ≡ q

@@ -1,8 +1,8 @@
 -- `math_exponential::exp` meets its contract: by the three tests, and inside the range by what its parts give. Assumes nothing.
-use Rattle.std.proofs.Common.{◌≡◌, true, not, ap, ◌∙◌}
+use Rattle.std.proofs.Common.{◌≡◌, not, ap, ◌∙◌}
 use lib.Ieee.{Float, div, of_bits}
 use Rattle.ieee.specs.Rows.{Gives, by_rows}
-use Rattle.math_exponential.specs.Exp.{exp_of, within_limits}
+use Rattle.math_exponential.specs.Exp.{exp_of}
 use Rattle.math_exponential.specs.ExactCases.{exact_cases, exact_cases_lem}
 use Rattle.math_elementary.proofs.Floats.{is_nan_lem, nan_yes, nan_no}
 use Rattle.math_elementary.proofs.Literals.{exp_top_is, exp_bottom_is}
@@ -15,29 +15,20 @@ both x r e = record { value = e; exact = by_rows exp_of exact_cases exact_cases_
 
 pub returns-then-x : goal.returns-then-x
 unfolding exp_of
-returns-then-x c = both _ _ (rw (nan_yes _ c.if-x.true) (is_nan_lem c.before.args.x c.if-x.true))
+returns-then-x c = both _ _ (rw (nan_yes _ c.if-x.true) (is_nan_lem c.args.x c.if-x.true))
 
 pub returns-then-x-2 : goal.returns-then-x-2
 unfolding exp_of div of_bits
-returns-then-x-2 c = both _ _ (rw (nan_no _ c.before.if-x.false, ← exp_top_is, c.if-x-2.true))
+returns-then-x-2 c = both _ _ (rw (nan_no _ c.if-x.false, ← exp_top_is, c.if-x-2.true))
 
 pub returns-then-x-3 : goal.returns-then-x-3
 unfolding exp_of of_bits
-returns-then-x-3 c = both _ _ (rw (nan_no _ c.before.before.if-x.false, ← exp_top_is, c.before.if-x-2.false, ← exp_bottom_is, c.if-x-3.true))
-
--- past the three tests
-module _ (c : goal.Else-x-3) where
-  abbrev x : Float
-  x = c.before.before.before.args.x
-
-  x_within : within_limits x ≡ true
-  x_within = past_tests x c.before.before.if-x.false c.before.if-x-2.false ∙ ap not c.if-x-3.false
+returns-then-x-3 c = both _ _ (rw (nan_no _ c.if-x.false, ← exp_top_is, c.if-x-2.false, ← exp_bottom_is, c.if-x-3.true))
 
 pub reduce-d-requires : goal.reduce-d-requires
-reduce-d-requires c = x_within c
+reduce-d-requires c = past_tests c.args.x c.if-x.false c.if-x-2.false ∙ ap not c.if-x-3.false
 
 pub returns : goal.returns
 returns c =
-    let b = c.before.before in
-    let d = b.before.reduce-d.ensures in
-    both _ _ (from_parts _ (x_within b.before.before) _ _ _ _ d.0 d.1 b.guessed.ensures c.scale.ensures)
+    both _ _
+    (from_parts _ (past_tests c.args.x c.if-x.false c.if-x-2.false ∙ ap not c.if-x-3.false) _ _ _ _ c.reduce-d.ensures.0 c.reduce-d.ensures.1 c.guessed.ensures c.scale.ensures)

@@ -10,30 +10,30 @@ use Rattle.math_exponential.proofs.exponential.nearest_whole.Goals as goal
 -- within the two tests
 module _ (c : goal.Then-d-2) where
   abbrev p : Float
-  p = c.before.before.args.p
+  p = c.args.p
 
-  found_nearest : found p c.before.before.requires ≡ nearest_whole p
+  found_nearest : found p c.requires ≡ nearest_whole p
   unfolding neg of_bits
-  found_nearest = found_is p c.before.before.requires c.before.if-d.true c.if-d-2.true
+  found_nearest = found_is p c.requires c.if-d.true c.if-d-2.true
 
   -- k and 2048
   abbrev up : ℕ
   up = to_bits binary64 (add binary64 p rounder) - 4843621399236966400
 
   up_fits : SFits w32 (pos up)
-  up_fits = record { sfits = omega (arith, bits_to p c.before.before.requires) }
+  up_fits = record { sfits = omega (arith, bits_to p c.requires) }
 
-  k_is : to_z w32 up -ℤ pos 2048 ≡ found p c.before.before.requires
-  k_is = ap (λ (z : ℤ). z -ℤ pos 2048) (to_z-of_z w32 (pos up) up_fits) ∙ bits_show p c.before.before.requires
+  k_is : to_z w32 up -ℤ pos 2048 ≡ found p c.requires
+  k_is = ap (λ (z : ℤ). z -ℤ pos 2048) (to_z-of_z w32 (pos up) up_fits) ∙ bits_show p c.requires
 
-  k_fits : SFits w32 (found p c.before.before.requires)
-  k_fits = record { sfits = omega (arith, found_mag p c.before.before.requires) }
+  k_fits : SFits w32 (found p c.requires)
+  k_fits = record { sfits = omega (arith, found_mag p c.requires) }
 
 pub float_to_bits-up : goal.float_to_bits-up
-float_to_bits-up c = sum_real (p c) c.before.before.requires
+float_to_bits-up c = sum_real (p c) c.requires
 
 pub overflow_sub-up : goal.overflow_sub-up
-overflow_sub-up c = bits_from (p c) c.before.before.requires
+overflow_sub-up c = bits_from (p c) c.requires
 
 pub overflow_cast-result : goal.overflow_cast-result
 overflow_cast-result c = up_fits c
@@ -43,14 +43,12 @@ overflow_sub-result c = subst (λ (z : ℤ). SFits w32 z) (sym (k_is c)) (k_fits
 
 pub returns-then-d-2 : goal.returns-then-d-2
 returns-then-d-2 c = (
-  less_is (p c) c.before.before.requires ∙ ap (λ (z : ℤ). of_int binary64 z) (found_nearest c),
+  less_is (p c) c.requires ∙ ap (λ (z : ℤ). of_int binary64 z) (found_nearest c),
   ap (λ (z : ℤ). to_z w32 (of_z w32 z)) (k_is c) ∙ to_z-of_z w32 _ (k_fits c) ∙ found_nearest c,
 )
 
 pub returns : goal.returns
 returns c =
-    let b = c.before in
-    let s = b.before.before in
-    let k : to_z w32 (of_z w32 b.by_halves-k.result) ≡ nearest_whole s.args.p =
-    ap (λ (z : ℤ). to_z w32 (of_z w32 z)) b.by_halves-k.ensures ∙ to_z-of_z w32 (nearest_whole s.args.p) (record { sfits = omega (arith, nearest_mag s.args.p s.requires) }) in
+    let k : to_z w32 (of_z w32 c.by_halves-k.result) ≡ nearest_whole c.args.p =
+    ap (λ (z : ℤ). to_z w32 (of_z w32 z)) c.by_halves-k.ensures ∙ to_z-of_z w32 (nearest_whole c.args.p) (record { sfits = omega (arith, nearest_mag c.args.p c.requires) }) in
     (ap (λ (z : ℤ). of_int binary64 z) k, k)
