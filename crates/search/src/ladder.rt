@@ -37,7 +37,8 @@ pub fn climb(weights: &[f64], b: &[f64], below: bool) -> Ladder
     let mut rung: u64 = 0;
     let found = loop {
         let sum = search_sum::coupon_sum(weights, b, rate);
-        if sum != sum {
+        let is_nan = sum != sum;
+        if is_nan {
             break Ladder::NotANumber;
         }
         if is_good(below, sum) {

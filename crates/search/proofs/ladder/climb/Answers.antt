@@ -7,21 +7,21 @@ use Rattle.search.proofs.ladder.climb.Goals as goal
 pub loop-sum-init : goal.loop-sum-init
 loop-sum-init c = (search rules, c.first_rate-rate.ensures, ladder_zero _ _)
 
-pub returns-then-sum : goal.returns-then-sum
-returns-then-sum c = let at = c.loop-sum.invariant in at_nan _ _ _ _ _ at.1 c.coupon_sum-sum.ensures at.2 at.0 c.if-sum.true
+pub returns-then-is_nan : goal.returns-then-is_nan
+returns-then-is_nan c = let at = c.loop-sum.invariant in at_nan _ _ _ _ _ at.1 c.coupon_sum-sum.ensures at.2 at.0 c.if-is_nan.true
 
 pub returns-then-is_good : goal.returns-then-is_good
 returns-then-is_good c =
     let at = c.loop-sum.invariant in
-    at_good _ _ _ _ _ at.1 c.coupon_sum-sum.ensures at.2 at.0 c.if-sum.false (sym c.is_good.ensures ∙ c.if-is_good.true)
+    at_good _ _ _ _ _ at.1 c.coupon_sum-sum.ensures at.2 at.0 c.if-is_nan.false (sym c.is_good.ensures ∙ c.if-is_good.true)
 
 pub returns-then-rung-eq-LAST_RUNG : goal.returns-then-rung-eq-LAST_RUNG
 returns-then-rung-eq-LAST_RUNG c =
     let at = c.loop-sum.invariant in
-    at_last _ _ _ _ _ at.1 c.coupon_sum-sum.ensures at.2 c.if-rung-eq-LAST_RUNG.true c.if-sum.false (sym c.is_good.ensures ∙ c.if-is_good.false)
+    at_last _ _ _ _ _ at.1 c.coupon_sum-sum.ensures at.2 c.if-rung-eq-LAST_RUNG.true c.if-is_nan.false (sym c.is_good.ensures ∙ c.if-is_good.false)
 
 pub loop-sum-preserved : goal.loop-sum-preserved
 loop-sum-preserved c =
     let at = c.loop-sum.invariant in
     let bad = sym c.is_good.ensures ∙ c.if-is_good.false in
-    (search rules, next_rate _ _ _ at.0 c.if-rung-eq-LAST_RUNG.false at.1, at_next _ _ _ _ _ at.1 c.coupon_sum-sum.ensures at.2 c.if-sum.false bad)
+    (search rules, next_rate _ _ _ at.0 c.if-rung-eq-LAST_RUNG.false at.1, at_next _ _ _ _ _ at.1 c.coupon_sum-sum.ensures at.2 c.if-is_nan.false bad)
