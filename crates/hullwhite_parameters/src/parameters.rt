@@ -37,8 +37,7 @@ pub struct Reached<'a> {
 }
 
 // The pillar times at or before t, as a part of the caller's own list, beside the answer, which is that of
-// `volatility` on the same lists. A struct that holds a reference is proved by hand, so the work is in
-// `reached_answer` and `reached_part`.
+// `volatility` on the same lists: `reached_answer` and `reached_part`, as one.
 pub fn pillars_reached<'a>(times: &'a [f64], sigmas: &[f64], t: f64) -> Reached<'a>
     ensures { ReachedIs result.answer result.part.now times.now sigmas.now t }
 {

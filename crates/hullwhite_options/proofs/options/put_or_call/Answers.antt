@@ -4,8 +4,8 @@ use Rattle.hullwhite_options.proofs.options.put_or_call.Goals as goal
 
 pub returns-in-Put : goal.returns-in-Put
 unfolding bond_option_at
-returns-in-Put c = rw c.in-Put.is c.bond_put_at.ensures
+returns-in-Put c = rw c.in-Put.is (cc)
 
 pub returns-in-Call : goal.returns-in-Call
 unfolding bond_option_at
-returns-in-Call c = rw c.in-Call.is c.bond_call_at.ensures
+returns-in-Call c = rw c.in-Call.is (cc)

@@ -4,7 +4,7 @@ use Rattle.hullwhite_points.proofs.walk.shift_of.Goals as goal
 
 pub returns-in-StateVariance : goal.returns-in-StateVariance
 unfolding generate_shift_of
-returns-in-StateVariance c = rw c.in-StateVariance.is c.fused.ensures
+returns-in-StateVariance c = rw c.in-StateVariance.is (cc)
 
 pub returns-in-Published : goal.returns-in-Published
-returns-in-Published c = rw c.in-Published.is c.published_shift.ensures
+returns-in-Published c = rw c.in-Published.is (cc)
