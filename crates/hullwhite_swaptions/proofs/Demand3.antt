@@ -98,13 +98,13 @@ module _ (alpha : Float) (ts fs payments accruals : List Float) (strike t sigma 
 
   -- ---- of any answer whose outcome is the one defined: `ModelRootLocated` and `ModelNoBracketExactly`
   module _ {o : Outcome ModelValued} (is : o ≡ model_outcome alpha ts fs payments accruals strike t sigma) where
-    rooted : (v : ModelValued) → o ≡ served v → 0 < length payments → RootFound (model_rules_on alpha ts fs payments accruals strike t sigma) ts fs payments t (model_sum_of alpha t payments accruals strike sigma) v.root
+    pub rooted : (v : ModelValued) → o ≡ served v → 0 < length payments → RootFound (model_rules_on alpha ts fs payments accruals strike t sigma) ts fs payments t (model_sum_of alpha t payments accruals strike sigma) v.root
     unfolding sum
     rooted v e l =
         let s = (searches (served v) tt (sym is ∙ e) (λ z. l)).1 in
         record { begun = s.begun; located = located alpha payments accruals strike t sigma s.begun.pt s.begun.p_plus s.begun.ps v s.goes_on }
 
-    refused_so : (o ≡ refused R.NoBracket) ↔ ((0 < length payments) × WantsBracket (model_rules_on alpha ts fs payments accruals strike t sigma) ts fs payments t (model_sum_of alpha t payments accruals strike sigma))
+    pub refused_so : (o ≡ refused R.NoBracket) ↔ ((0 < length payments) × WantsBracket (model_rules_on alpha ts fs payments accruals strike t sigma) ts fs payments t (model_sum_of alpha t payments accruals strike sigma))
     unfolding sum
     refused_so = (
       λ e. let s = searches (refused R.NoBracket) tt (sym is ∙ e) (coupons_there (length payments) (model_priced alpha ts fs payments accruals strike t sigma)) in
@@ -115,9 +115,9 @@ module _ (alpha : Float) (ts fs payments accruals : List Float) (strike t sigma 
 
   -- ---- all that the call promises of an answer whose outcome is the one defined
   pub promised : (r : Swaption) → swaption_outcome r ≡ model_outcome alpha ts fs payments accruals strike t sigma → record {
-      answer : swaption_outcome r ≡ model_outcome alpha ts fs payments accruals strike t sigma;
-      rooted : ModelRootLocated alpha ts fs payments accruals strike t sigma r;
-      bracket : ModelNoBracketExactly alpha ts fs payments accruals strike t sigma r;
-      report : reported no_model_valued (swaption_outcome r) ≡ reported no_model_valued (model_outcome alpha ts fs payments accruals strike t sigma)
-    }
+    answer : swaption_outcome r ≡ model_outcome alpha ts fs payments accruals strike t sigma;
+    rooted : ModelRootLocated alpha ts fs payments accruals strike t sigma r;
+    bracket : ModelNoBracketExactly alpha ts fs payments accruals strike t sigma r;
+    report : reported no_model_valued (swaption_outcome r) ≡ reported no_model_valued (model_outcome alpha ts fs payments accruals strike t sigma);
+  }
   promised r is = record { answer = is; rooted = rooted is; bracket = refused_so is; report = ap (reported no_model_valued) is }

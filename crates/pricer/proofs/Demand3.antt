@@ -102,13 +102,13 @@ module _ (option : SwaptionType) (alpha : Float) (pls ss ts fs payments accruals
 
   -- ---- of any answer whose outcome is the one defined: `PricerRootLocated` and `PricerNoBracketExactly`
   module _ {o : Outcome PricerValued} (is : o ≡ pricer_outcome option alpha pls ss ts fs payments accruals owns strike t notional side) where
-    rooted : (v : PricerValued) → o ≡ served v → RootFound (pricer_rules_on alpha pls ss ts fs payments accruals owns strike t notional side) ts fs payments t (pricer_sum_of alpha pls ss t payments accruals strike) v.root
+    pub rooted : (v : PricerValued) → o ≡ served v → RootFound (pricer_rules_on alpha pls ss ts fs payments accruals owns strike t notional side) ts fs payments t (pricer_sum_of alpha pls ss t payments accruals strike) v.root
     unfolding pricer_outcome swaption_priced on
     rooted v e =
         let s = searches (pricer_rules_on alpha pls ss ts fs payments accruals owns strike t notional side) ts fs payments t on tt (served v) tt (sym is ∙ e) in
         record { begun = s.begun; located = (priced _ _ _ _ _ _ _ _ _ _ v s.goes_on).located }
 
-    refused_so : (o ≡ refused R.NoBracket) ↔ WantsBracket (pricer_rules_on alpha pls ss ts fs payments accruals owns strike t notional side) ts fs payments t (pricer_sum_of alpha pls ss t payments accruals strike)
+    pub refused_so : (o ≡ refused R.NoBracket) ↔ WantsBracket (pricer_rules_on alpha pls ss ts fs payments accruals owns strike t notional side) ts fs payments t (pricer_sum_of alpha pls ss t payments accruals strike)
     unfolding pricer_outcome swaption_priced on
     refused_so = (
       λ e. let s = searches (pricer_rules_on alpha pls ss ts fs payments accruals owns strike t notional side) ts fs payments t on tt (refused R.NoBracket) tt (sym is ∙ e) in
@@ -118,9 +118,9 @@ module _ (option : SwaptionType) (alpha : Float) (pls ss ts fs payments accruals
 
   -- ---- all that the call promises of an answer whose outcome is the one defined
   pub promised : (r : Valuation) → valuation_outcome r ≡ pricer_outcome option alpha pls ss ts fs payments accruals owns strike t notional side → record {
-      answer : valuation_outcome r ≡ pricer_outcome option alpha pls ss ts fs payments accruals owns strike t notional side;
-      rooted : PricerRootLocated alpha pls ss ts fs payments accruals owns strike t notional side r;
-      bracket : PricerNoBracketExactly alpha pls ss ts fs payments accruals owns strike t notional side r;
-      report : reported no_pricer_valued (valuation_outcome r) ≡ reported no_pricer_valued (pricer_outcome option alpha pls ss ts fs payments accruals owns strike t notional side)
-    }
+    answer : valuation_outcome r ≡ pricer_outcome option alpha pls ss ts fs payments accruals owns strike t notional side;
+    rooted : PricerRootLocated alpha pls ss ts fs payments accruals owns strike t notional side r;
+    bracket : PricerNoBracketExactly alpha pls ss ts fs payments accruals owns strike t notional side r;
+    report : reported no_pricer_valued (valuation_outcome r) ≡ reported no_pricer_valued (pricer_outcome option alpha pls ss ts fs payments accruals owns strike t notional side);
+  }
   promised r is = record { answer = is; rooted = rooted is; bracket = refused_so is; report = ap (reported no_pricer_valued) is }

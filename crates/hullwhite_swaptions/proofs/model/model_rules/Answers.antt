@@ -2,7 +2,6 @@
 use Rattle.refusals.specs.Order.{end, ask, asked}
 use Rattle.hullwhite_swaptions.proofs.model.model_rules.Goals as goal
 
--- the points of the walk that it speaks of: the first rule, and where it is known of all four numbers whether they are finite
 pub returns : goal.returns
 returns c =
     let finite = rw (c.is_finite.ensures, c.is_finite-2.ensures, c.is_finite-3.ensures, c.is_finite-4.ensures) at c.and_rule-answer-2.ensures in
