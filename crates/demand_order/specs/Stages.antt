@@ -1,14 +1,9 @@
 -- What a call meets and in what order: its rules 1 to 7, with 14 before 7 and 15 behind it; then the times that it needs, rule 8; then what it evaluates, rules 9 to 12, among themselves "in the order of its evaluations"; and last the floats of its answer, rule 13.
-use Rattle.std.specs.Prelude.{◌≡◌, refl, ◌↔◌, Bool, true, false, cond, ◌&&◌, List, [], ◌∷◌, ℕ, ◌≤◌, ◌<◌, T, ltb, eqb, Float}
-use Rattle.std.proofs.Common.{sym, ◌∙◌, ap, subst, inl, inr, arith, ltb-true, ltb-false, eqb-true}
-use Rattle.std.proofs.lemmas.Bool.{eqb-false}
-use Rattle.std.specs.Float.Ieee.Fits.{and_l, and_r}
+use Rattle.std.specs.Prelude.{◌≡◌, ◌↔◌, Bool, true, cond, ◌&&◌, List, [], ◌∷◌, ℕ, ltb, eqb, Float}
 use Rattle.refusals.specs.declared.refusals.Refusal.{Refusal}
 use Rattle.refusals.specs.declared.refusals.Refusal.TheVariants as R
-use Rattle.refusals.specs.declared.refusals.Answer.{Answer}
 use Rattle.refusals.specs.declared.refusals.Answer.TheVariants as A
-use Rattle.refusals.specs.Refusals.{Outcome, served, refused, place_of, Rule, first_of, after, unless, following}
-use Rattle.refusals.specs.Order.{First, first_applies}
+use Rattle.refusals.specs.Refusals.{Outcome, served, refused, place_of, Rule, first_of, unless, following}
 
 -- ---- the stages of a call, and the stage of a refusal, which its place decides
 pub data Stage : Type 0 where
@@ -21,7 +16,7 @@ pub data Stage : Type 0 where
   -- 13
   finished : Stage
 
-abbrev stage_at : ℕ → Stage
+abbrev pub stage_at : ℕ → Stage
 stage_at place = cond (ltb place (place_of R.OffCurve)) by_rule (cond (eqb place (place_of R.OffCurve)) off_curve (cond (ltb place (place_of R.Overflow)) evaluated finished))
 
 abbrev pub stage_of : Refusal → Stage
@@ -33,47 +28,6 @@ order_of by_rule = 1
 order_of off_curve = 2
 order_of evaluated = 3
 order_of finished = 4
-
--- what is met in an earlier stage has a smaller place
-abbrev Within : Stage → ℕ → Type 0
-Within by_rule place = place < place_of R.OffCurve
-Within off_curve place = place ≡ place_of R.OffCurve
-Within evaluated place = (place_of R.OffCurve < place) × (place < place_of R.Overflow)
-Within finished place = place_of R.Overflow ≤ place
-
-chosen : (P : Stage → Type 0) (b : Bool) (x y : Stage) → (b ≡ true → P x) → (b ≡ false → P y) → P (cond b x y)
-chosen P true x y h k = h refl
-chosen P false x y h k = k refl
-
-within : (place : ℕ) → Within (stage_at place) place
-within place =
-    let P : Stage → Type 0 = λ s. Within s place in
-    chosen P (ltb place (place_of R.OffCurve)) _ _ (ltb-true place (place_of R.OffCurve)) (λ a.
-    chosen P (eqb place (place_of R.OffCurve)) _ _ (eqb-true place (place_of R.OffCurve)) (λ b.
-    let least = ltb-false place (place_of R.OffCurve) a in
-    let other = eqb-false place (place_of R.OffCurve) b in
-    chosen P (ltb place (place_of R.Overflow)) _ _ (λ c. (omega arith, ltb-true place (place_of R.Overflow) c)) (ltb-false place (place_of R.Overflow))))
-
-apart : (s t : Stage) (m n : ℕ) → Within s m → Within t n → order_of s < order_of t → m < n
-apart by_rule by_rule m n a b h = omega arith
-apart by_rule off_curve m n a b h = omega arith
-apart by_rule evaluated m n a b h = omega arith
-apart by_rule finished m n a b h = omega arith
-apart off_curve by_rule m n a b h = omega arith
-apart off_curve off_curve m n a b h = omega arith
-apart off_curve evaluated m n a b h = omega arith
-apart off_curve finished m n a b h = omega arith
-apart evaluated by_rule m n a b h = omega arith
-apart evaluated off_curve m n a b h = omega arith
-apart evaluated evaluated m n a b h = omega arith
-apart evaluated finished m n a b h = omega arith
-apart finished by_rule m n a b h = omega arith
-apart finished off_curve m n a b h = omega arith
-apart finished evaluated m n a b h = omega arith
-apart finished finished m n a b h = omega arith
-
-pub by_place : (q r : Refusal) → order_of (stage_of q) < order_of (stage_of r) → place_of q < place_of r
-by_place q r h = apart (stage_of q) (stage_of r) (place_of q) (place_of r) (within (place_of q)) (within (place_of r)) h
 
 -- refused, if at all, by what belongs to the stage
 abbrev pub Only : {B : Type 0} → Stage → Outcome B → Type 0
@@ -96,58 +50,7 @@ module _ {W B : Type 0} (rules : List Rule) (found : Outcome (List Float)) (work
     pub is : o ≡ staged
     pub refused_at : (r : Refusal) → (o ≡ refused r) ↔ RefusedAt (stage_of r) r
 
--- ---- the law: it is so of every call whose stages refuse by their own refusals alone
-
 -- the rules are those that stand before rule 8
 abbrev pub all_rules : List Rule → Bool
 all_rules [] = true
 all_rules (x ∷ xs) = ltb (place_of x.refusal) (place_of R.OffCurve) && all_rules xs
-
-taken : (b : Bool) (x y : Stage) → T b → cond b x y ≡ x
-taken true x y h = refl
-
-early : (r : Refusal) → T (ltb (place_of r) (place_of R.OffCurve)) → stage_of r ≡ by_rule
-early r h = taken (ltb (place_of r) (place_of R.OffCurve)) by_rule _ h
-
-ruled : (r : Refusal) (xs : List Rule) → T (all_rules xs) → First r xs → stage_of r ≡ by_rule
-ruled r [] k f = absurd f
-ruled r (x ∷ xs) k (inl e) = ap stage_of (sym e.1) ∙ early x.refusal (and_l (ltb (place_of x.refusal) (place_of R.OffCurve)) (all_rules xs) k)
-ruled r (x ∷ xs) k (inr e) = ruled r xs (and_r (ltb (place_of x.refusal) (place_of R.OffCurve)) (all_rules xs) k) e.1
-
-module _ {W B : Type 0} (rules : List Rule) (found : Outcome (List Float)) (worked : List Float → Outcome W) (answered : W → Outcome B) where
-  -- a stage that refuses, all before it being served, refuses the call
-  back : (s : Stage) (r : Refusal) → RefusedAt rules found worked answered s r → staged rules found worked answered ≡ refused r
-  back by_rule r e = rw e
-  back off_curve r e = rw (e.0, e.1)
-  back evaluated r e = rw (e.0, e.1.1, e.1.2)
-  back finished r e = rw (e.0, e.1.2, e.1.3, e.1.4)
-
-  -- and where it is refused, one of them does, which is r's own
-  module _ (k : T (all_rules rules)) (lookups : first_of rules ≡ A.Served → Only off_curve found) (evaluations : (ps : List Float) → Only evaluated (worked ps)) (answers : (v : W) → Only finished (answered v)) (r : Refusal) where
-    abbrev Here : Type 0
-    Here = RefusedAt rules found worked answered (stage_of r) r
-
-    own : {s : Stage} → stage_of r ≡ s → RefusedAt rules found worked answered s r → Here
-    own e h = subst (λ (s : Stage). RefusedAt rules found worked answered s r) (sym e) h
-
-    answering : (ps : List Float) (v : W) → first_of rules ≡ A.Served → found ≡ served ps → worked ps ≡ served v → answered v ≡ refused r → Here
-    answering ps v a b c e = own (answers v r e) (a, (ps, v, b, c, e))
-
-    evaluating : (ps : List Float) → first_of rules ≡ A.Served → found ≡ served ps → (o : Outcome W) → worked ps ≡ o → following o answered ≡ refused r → Here
-    evaluating ps a b (served v) c e = answering ps v a b c e
-    evaluating ps a b (refused q) c e = let p : worked ps ≡ refused r = cc in own (evaluations ps r p) (a, (ps, b, p))
-
-    looking : first_of rules ≡ A.Served → (o : Outcome (List Float)) → found ≡ o → following o (λ ps. following (worked ps) answered) ≡ refused r → Here
-    looking a (served ps) b e = evaluating ps a b (worked ps) refl e
-    looking a (refused q) b e = let p : found ≡ refused r = cc in own (lookups a r p) (a, p)
-
-    ruling : (a : Answer) → first_of rules ≡ a → after a (following found (λ ps. following (worked ps) answered)) ≡ refused r → Here
-    ruling A.Served a e = looking a found refl e
-    ruling (A.Refused q) a e = let p : first_of rules ≡ A.Refused r = cc in own (ruled r rules k ((first_applies r rules).0 p)) p
-
-  pub met : T (all_rules rules) → (first_of rules ≡ A.Served → Only off_curve found) → ((ps : List Float) → Only evaluated (worked ps)) → ((v : W) → Only finished (answered v))
-      → (o : Outcome B) → o ≡ staged rules found worked answered → Met rules found worked answered o
-  met k lookups evaluations answers o e = record {
-    is = e;
-    refused_at = λ r. (λ h. ruling k lookups evaluations answers r (first_of rules) refl (sym e ∙ h), λ h. e ∙ back (stage_of r) r h);
-  }

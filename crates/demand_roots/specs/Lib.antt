@@ -1,4 +1,3 @@
--- Demand 3 of every file: what each kind owes, that it is told, and that it is printed.
+-- Demand 3 of every file: what each kind owes, and what of it is told and printed.
 pub mod Owed
-pub mod Results
 pub mod Demand3

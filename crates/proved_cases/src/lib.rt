@@ -1,2 +1,2 @@
-// The proved cases of document 01, as one table under one computed check: specs/Table.antt.
+// The proved cases of document 01, as one table under one computed check: specs/Table.antt, and that it holds: proofs/Table.antt.
 #![tactic(auto)]

@@ -1,7 +1,7 @@
 -- Document 02, A.6: "The shift in document 01 is the Rust's; Brigo and Mercurio have another. Kind 13 is a path whose shift is f + 0.5 × (g × g), with g = (sigma/alpha) × (1 - exp((-alpha) × t)) and f as before. It serves one pillar only. Kind 12 goes on as the Rust has it, and kind 13 is judged by this formula alone. No pillars meet rule 7; more than one in kind 13 is refused as 15, directly after it." That no pillars meet rule 7 in either kind: `path_wants_pillars` in NoPillars.
 use Rattle.std.specs.Prelude.{◌≡◌, ◌↔◌, Bool, true, false, cond, not, ◌||◌, ℕ, suc, ◌<◌, ltb, eqb}
 use Rattle.std.proofs.Math.Path.{refl}
-use Rattle.std.proofs.Common.{sym, ap, ◌∙◌, arith}
+use Rattle.std.proofs.Common.{ap, ◌∙◌, arith}
 use Rattle.std.proofs.lemmas.Bool.{false≢true}
 use mathlib.Core.List.{List, [], ◌∷◌, ◌++◌}
 use borrow.Author.Tests.{ltb-true, ltb-false, eqb-true, eqb-false, lt-ltb, not-false}
@@ -28,11 +28,11 @@ use Rattle.hullwhite_points.specs.declared.walk.State.{State}
 use Rattle.hullwhite_points.specs.declared.walk.Centre.{Centre}
 use Rattle.hullwhite_points.specs.declared.walk.Centre.TheVariants as C
 use Rattle.hullwhite_points.specs.Path.{start_state, state_after, generate_shift_of, published_shift_of, shift_of, path_from}
-use Rattle.hullwhite_paths.specs.Generate.{starts_below, several_for, path_rules_on, generate_outcome}
-use Rattle.demand_order.specs.Calls.{path_met}
+use Rattle.hullwhite_paths.specs.Generate.{starts_below, generate_outcome}
+use Rattle.demand_order.proofs.Calls.{path_met}
 use Rattle.requests.specs.Asked.{silent_last, let_through, asked_last_first}
 
--- ---- both kinds differ in the shift alone
+-- ---- both kinds differ in the shift alone: `shift_alone` and `centred` of proofs/Centred.antt
 
 -- a point of a path ahead of its shift: the state reached there, the volatility and the forward
 pub record Point : Type 0 where
@@ -62,35 +62,6 @@ rate_at centre alpha point = point.state.x ⊕ shift_of centre alpha point.sigma
 unfoldable pub rates_of : Centre → Float → List Point → List Float
 rates_of centre alpha [] = []
 rates_of centre alpha (point ∷ points) = rate_at centre alpha point ∷ rates_of centre alpha points
-
-module _ (centre : Centre) (alpha : Float) (ps ss ts fs : List Float) where
-  abbrev rated : Outcome (List Point) → Outcome (List Float)
-  rated points = following points (λ xs. served (rates_of centre alpha xs))
-
-  onto_rated : (point : Point) (points : Outcome (List Point)) → prepend (rate_at centre alpha point) (rated points) ≡ rated (onto point points)
-  unfolding rates_of
-  onto_rated point (served xs) = refl
-  onto_rated point (refused r) = refl
-
-  pub shift_alone : (s : State) (grid draws : List Float) → path_from centre alpha ps ss ts fs s grid draws ≡ following (points_from alpha ps ss ts fs s grid draws) (λ points. served (rates_of centre alpha points))
-  unfolding path_from points_from rates_of state_after
-  shift_alone s [] draws = refl
-  shift_alone s (t ∷ grid) [] = refl
-  shift_alone s (t ∷ grid) (draw ∷ draws) = found (volatility_at ps ss t) (factor_at ts fs t) (factor_at ts fs (t ⊕ h)) (λ sigma. shift_alone (state_after alpha sigma t draw s) grid draws)
-    where
-      next : Float → State
-      next sigma = state_after alpha sigma t draw s
-
-      point : Float → Float → Float → Point
-      point sigma p p_plus = record { state = next sigma; sigma = sigma; forward = forward_of p p_plus }
-
-      found : (v m n : Maybe) → ((sigma : Float) → path_from centre alpha ps ss ts fs (next sigma) grid draws ≡ rated (points_from alpha ps ss ts fs (next sigma) grid draws))
-          → required R.Empty v (λ sigma. needing m (λ p. needing n (λ p_plus. prepend (rate_at centre alpha (point sigma p p_plus)) (path_from centre alpha ps ss ts fs (next sigma) grid draws))))
-          ≡ rated (required R.Empty v (λ sigma. needing m (λ p. needing n (λ p_plus. onto (point sigma p p_plus) (points_from alpha ps ss ts fs (next sigma) grid draws)))))
-      found (just sigma) (just p) (just q) later = ap (prepend (rate_at centre alpha (point sigma p q))) (later sigma) ∙ onto_rated (point sigma p q) (points_from alpha ps ss ts fs (next sigma) grid draws)
-      found (just sigma) (just p) nothing later = refl
-      found (just sigma) nothing n later = refl
-      found nothing m n later = refl
 
 -- ---- "Kind 12 goes on as the Rust has it": document 01's path as it stood, with its seven rules
 
@@ -169,35 +140,18 @@ module _ (alpha : Float) (ps ss ts fs grid draws : List Float) (room : ℕ) wher
       ∷ rule R.Empty (eqb (length ps) 0)
       ∷ []
 
-  -- a path on listed draws asks those seven and 15: 14 never applies to it
-  generated : (centre : Centre) → generate_outcome centre alpha ps ss ts fs grid draws room ≡ unless (seven_rules ++ (rule R.SeveralPillars (several_for centre (length ps)) ∷ [])) (following (path_from centre alpha ps ss ts fs start_state grid draws) finishing_list)
-  unfolding generate_outcome first_of
-  generated centre = refl
-
-  asked_of : (centre : Centre) → first_of (path_rules_on centre alpha ps ss ts fs grid (grid_faults grid draws) false room) ≡ first_of (seven_rules ++ (rule R.SeveralPillars (several_for centre (length ps)) ∷ []))
-  unfolding first_of
-  asked_of centre = refl
-
-  -- both kinds are worked from the same points, their states and draws the same; the rates alone are another's
-  pub centred : (centre : Centre) → generate_outcome centre alpha ps ss ts fs grid draws room
-      ≡ unless (seven_rules ++ (rule R.SeveralPillars (several_for centre (length ps)) ∷ [])) (following (points_from alpha ps ss ts fs start_state grid draws) (λ points. finishing_list (rates_of centre alpha points)))
-  centred centre = generated centre ∙ ap (λ (o : Outcome (List Float)). unless (seven_rules ++ (rule R.SeveralPillars (several_for centre (length ps)) ∷ [])) (following o finishing_list)) (shift_alone centre alpha ps ss ts fs start_state grid draws) ∙ ap (unless (seven_rules ++ (rule R.SeveralPillars (several_for centre (length ps)) ∷ []))) (once (points_from alpha ps ss ts fs start_state grid draws))
-    where
-      once : (points : Outcome (List Point)) → following (following points (λ xs. served (rates_of centre alpha xs))) finishing_list ≡ following points (λ xs. finishing_list (rates_of centre alpha xs))
-      once (served xs) = refl
-      once (refused r) = refl
-
   -- "Kind 12 goes on as the Rust has it": its outcome is what it was, on any input
   pub kind_twelve : generate_outcome C.StateVariance alpha ps ss ts fs grid draws room ≡ unless seven_rules (following (generated_from alpha ps ss ts fs start_state grid draws) finishing_list)
+  unfolding generate_outcome
   kind_twelve =
-      generated C.StateVariance
-      ∙ ap (λ (a : Answer). after a (following (path_from C.StateVariance alpha ps ss ts fs start_state grid draws) finishing_list)) (silent_last seven_rules R.SeveralPillars)
+      ap (λ (a : Answer). after a (following (path_from C.StateVariance alpha ps ss ts fs start_state grid draws) finishing_list)) (silent_last seven_rules R.SeveralPillars)
       ∙ ap (λ (o : Outcome (List Float)). unless seven_rules (following o finishing_list)) (same_points alpha ps ss ts fs start_state grid draws)
 
   -- "It serves one pillar only.": what is served has one pillar, with one sigma
   pub one_pillar : {v : List Float} → generate_outcome C.Published alpha ps ss ts fs grid draws room ≡ served v → (time : Float) × (sigma : Float) × (ps ≡ time ∷ []) × (ss ≡ sigma ∷ [])
+  unfolding generate_outcome
   one_pillar {v} e =
-      let none = (none_applies (seven_rules ++ (rule R.SeveralPillars (ltb 1 (length ps)) ∷ []))).0 (passed _ _ v (sym (generated C.Published) ∙ e)) in
+      let none = (none_applies (seven_rules ++ (rule R.SeveralPillars (ltb 1 (length ps)) ∷ []))).0 (passed _ _ v e) in
       let some = eqb-false (length ps) 0 none.1.1.1.1.1.1.0 in
       let few = ltb-false 1 (length ps) none.1.1.1.1.1.1.1.0 in
       let lists = (neither ((pillar_faults ps ss).size || (curve_faults ts fs).size || (grid_faults grid draws).size) (ltb room (length grid)) none.0).0 in
@@ -210,21 +164,21 @@ module _ (alpha : Float) (ps ss ts fs grid draws : List Float) (room : ℕ) wher
 
   -- "more than one in kind 13 is refused as 15, directly after it": exactly where rules 1 to 7 let the call through
   pub fifteen : (generate_outcome C.Published alpha ps ss ts fs grid draws room ≡ refused R.SeveralPillars) ↔ ((first_of seven_rules ≡ A.Served) × (1 < length ps))
-  unfolding first_of
+  unfolding generate_outcome first_of
   fifteen = (there, back)
     where
       there : generate_outcome C.Published alpha ps ss ts fs grid draws room ≡ refused R.SeveralPillars → (first_of seven_rules ≡ A.Served) × (1 < length ps)
       there e =
-          let both = asked_last_first seven_rules R.SeveralPillars (ltb 1 (length ps)) tt (sym (asked_of C.Published) ∙ ((path_met C.Published alpha ps ss ts fs grid room draws).refused_at R.SeveralPillars).0 e) in
+          let both = asked_last_first seven_rules R.SeveralPillars (ltb 1 (length ps)) tt (((path_met C.Published alpha ps ss ts fs grid draws room).refused_at R.SeveralPillars).0 e) in
           (both.0, ltb-true 1 (length ps) both.1)
 
       back : (first_of seven_rules ≡ A.Served) × (1 < length ps) → generate_outcome C.Published alpha ps ss ts fs grid draws room ≡ refused R.SeveralPillars
-      back e = generated C.Published ∙ ap (λ (a : Answer). after a (following (path_from C.Published alpha ps ss ts fs start_state grid draws) finishing_list))
+      back e = ap (λ (a : Answer). after a (following (path_from C.Published alpha ps ss ts fs start_state grid draws) finishing_list))
           (let_through seven_rules (rule R.SeveralPillars (ltb 1 (length ps)) ∷ []) e.0 ∙ ap (λ (b : Bool). cond b (A.Refused R.SeveralPillars) A.Served) (lt-ltb 1 (length ps) e.1))
 
   -- and never in kind 12
   pub twelve_never : generate_outcome C.StateVariance alpha ps ss ts fs grid draws room ≡ refused R.SeveralPillars → ⊥
-  twelve_never e = false≢true (asked_last_first seven_rules R.SeveralPillars false tt (sym (asked_of C.StateVariance) ∙ ((path_met C.StateVariance alpha ps ss ts fs grid room draws).refused_at R.SeveralPillars).0 e)).1
+  twelve_never e = false≢true (asked_last_first seven_rules R.SeveralPillars false tt (((path_met C.StateVariance alpha ps ss ts fs grid draws room).refused_at R.SeveralPillars).0 e)).1
 
   -- more than 64 pillars are "over its limit" in both kinds, before anything else is asked
   pub over_the_limit : (centre : Centre) → 64 < length ps → generate_outcome centre alpha ps ss ts fs grid draws room ≡ refused R.Size
@@ -234,9 +188,9 @@ module _ (alpha : Float) (ps ss ts fs grid draws : List Float) (room : ℕ) wher
 -- "Kind 13 is a path whose shift is f + 0.5 × (g × g)": with one pillar, the seven rules, and then the walk on its sigma with that shift, on any input
 pub kind_thirteen : (alpha time sigma : Float) (ts fs grid draws : List Float) (room : ℕ)
     → generate_outcome C.Published alpha (time ∷ []) (sigma ∷ []) ts fs grid draws room ≡ unless (seven_rules alpha (time ∷ []) (sigma ∷ []) ts fs grid draws room) (following (published_from alpha sigma ts fs start_state grid draws) finishing_list)
+unfolding generate_outcome
 kind_thirteen alpha time sigma ts fs grid draws room =
-    generated alpha (time ∷ []) (sigma ∷ []) ts fs grid draws room C.Published
-    ∙ ap (λ (a : Answer). after a (following (path_from C.Published alpha (time ∷ []) (sigma ∷ []) ts fs start_state grid draws) finishing_list)) (silent_last (seven_rules alpha (time ∷ []) (sigma ∷ []) ts fs grid draws room) R.SeveralPillars)
+    ap (λ (a : Answer). after a (following (path_from C.Published alpha (time ∷ []) (sigma ∷ []) ts fs start_state grid draws) finishing_list)) (silent_last (seven_rules alpha (time ∷ []) (sigma ∷ []) ts fs grid draws room) R.SeveralPillars)
     ∙ ap (λ (o : Outcome (List Float)). unless (seven_rules alpha (time ∷ []) (sigma ∷ []) ts fs grid draws room) (following o finishing_list)) (on_one_sigma alpha time sigma ts fs start_state grid draws)
 
 -- "directly after it": 15 stands between 7 and 8, and nothing between them and it

@@ -1,6 +1,6 @@
--- Document 02, A.4: "Jobs served before keep their values." `crates/demand_order/specs` has every call as its stages: its rules, the factors found at the times that it needs, what it works on them, and what it answers. Here the same stages stand on what document 01's rule 8 found: what they served is served still, the same value.
-use Rattle.std.specs.Prelude.{◌≡◌, refl, Bool, true, false, cond, ◌||◌, List, [], ◌∷◌, ℕ, ltb, eqb, length, take, Float}
-use Rattle.std.proofs.Common.{sym, ◌∙◌}
+-- Document 02, A.4: "Jobs served before keep their values." `crates/demand_order` has every call as its stages: its rules, the factors found at the times that it needs, what it works on them, and what it answers. Here the same stages stand on what document 01's rule 8 found: what they served is served still, the same value.
+use Rattle.std.specs.Prelude.{◌≡◌, refl, true, List, [], ◌∷◌, ℕ, eqb, length, take, Float}
+use Rattle.std.proofs.Common.{◌∙◌}
 use Rattle.std.specs.Float.Ieee.{lt}
 use Rattle.ieee.specs.Rounded.{◌⊕◌}
 use Rattle.ieee.specs.Numbers.{zero}
@@ -10,9 +10,9 @@ use Rattle.refusals.specs.declared.refusals.Refusal.TheVariants as R
 use Rattle.refusals.specs.Refusals.{Outcome, served, refused, Rule, first_of, after, following, prepend, finishing}
 use Rattle.refusals.specs.Order.{none_applies}
 use Rattle.refusals.specs.Checks.{in_order}
-use Rattle.refusals.specs.Faults.{curve_faults, pillar_faults, coupon_faults, grid_faults}
+use Rattle.refusals.specs.Faults.{curve_faults, coupon_faults}
 use Rattle.refusals.proofs.CurveLaws.{curve_rises}
-use Rattle.refusals.proofs.Outcomes.{neither, not_both}
+use Rattle.refusals.proofs.Outcomes.{not_both}
 use Rattle.curve.specs.Lookups.{Maybe, just, nothing, factor_at, volatility_at, required, needing}
 use Rattle.hullwhite_formulas.specs.HullWhite.{h, b_of, forward_of, a_of, zcb_price_of, zcb_price_volatility_of, optionlet_strike_of, optionlet_of}
 use Rattle.hullwhite_options.specs.declared.options.OptionType.{OptionType}
@@ -26,8 +26,8 @@ use Rattle.hullwhite_transitions.specs.Written.{finishing_list}
 use Rattle.hullwhite_points.specs.declared.walk.State.{State}
 use Rattle.hullwhite_points.specs.declared.walk.Centre.{Centre}
 use Rattle.hullwhite_points.specs.Path.{state_after, shift_of, start_state, path_from}
-use Rattle.hullwhite_paths.specs.Generate.{path_rules_on, generate_outcome}
-use Rattle.hullwhite_paths.proofs.Outcomes.{behind}
+use Rattle.hullwhite_paths.specs.Generate.{starts_below, several_for, generate_outcome}
+use Rattle.hullwhite_paths.proofs.Outcomes.{grid_fits}
 use Rattle.hullwhite_terms.specs.Terms.{factors_at}
 use Rattle.hullwhite_jamshidian.specs.Price.{ModelValued, finishing_swaption}
 use Rattle.hullwhite_swaptions.specs.Model.{model_rules_on, model_outcome}
@@ -44,8 +44,10 @@ use Rattle.basket_entries.specs.Entries.{Entry}
 use Rattle.basket.specs.Basket.{bump, fit_of, bump_of}
 use Rattle.demand_order.specs.Stages.{staged, Met}
 use Rattle.demand_order.specs.Steps.{nth}
-use Rattle.demand_order.specs.Calls.{theta_times, theta_on, optionlet_met, bond_option_met, a_met, zcb_met, forward_met, theta_met, annuity_met, path_met}
-use Rattle.demand_order.specs.Searches.{model_times, model_valued, pricer_valued, caplet_solved, swaption_solved, finishing_bump, model_met, pricer_met, caplet_fit_met, swaption_fit_met, entry_fit_met, entry_bump_met}
+use Rattle.demand_order.specs.Calls.{theta_times, theta_on, path_rules_on}
+use Rattle.demand_order.proofs.Calls.{optionlet_met, bond_option_met, a_met, zcb_met, forward_met, theta_met, annuity_met, path_met}
+use Rattle.demand_order.specs.Searches.{model_times, model_valued, pricer_valued, caplet_solved, swaption_solved, finishing_bump}
+use Rattle.demand_order.proofs.Searches.{model_met, pricer_met, caplet_fit_met, swaption_fit_met, entry_fit_met, entry_bump_met}
 use Rattle.requests.specs.BetweenPoints.{listed_at, kept}
 
 -- ---- the factors that document 01's rule found at the times that a call needs
@@ -205,8 +207,8 @@ points_kept centre alpha ps ss ts fs s (t ∷ grid) (draw ∷ draws) {rates} o e
     at nothing later k = absurd (not_both k)
 
 pub path_kept : (centre : Centre) (alpha : Float) (ps ss ts fs grid draws : List Float) (room : ℕ) {v : List Float}
-    → staged (path_rules_on centre alpha ps ss ts fs grid (grid_faults grid draws) false room) (path_listed centre alpha ps ss ts fs start_state grid draws) served finishing_list ≡ served v → generate_outcome centre alpha ps ss ts fs grid draws room ≡ served v
+    → staged (path_rules_on centre alpha ps ss ts fs grid draws room) (path_listed centre alpha ps ss ts fs start_state grid draws) served finishing_list ≡ served v → generate_outcome centre alpha ps ss ts fs grid draws room ≡ served v
 path_kept centre alpha ps ss ts fs grid draws room =
-    stages_kept (path_rules_on centre alpha ps ss ts fs grid (grid_faults grid draws) false room) (path_from centre alpha ps ss ts fs start_state grid draws) (path_listed centre alpha ps ss ts fs start_state grid draws) served finishing_list
-    (λ e rates. points_kept centre alpha ps ss ts fs start_state grid draws {rates = rates} (behind centre alpha ps ss ts fs grid (grid_faults grid draws) false room e refl).1)
-    (path_met centre alpha ps ss ts fs grid room draws)
+    stages_kept (path_rules_on centre alpha ps ss ts fs grid draws room) (path_from centre alpha ps ss ts fs start_state grid draws) (path_listed centre alpha ps ss ts fs start_state grid draws) served finishing_list
+    (λ e rates. points_kept centre alpha ps ss ts fs start_state grid draws {rates = rates} (grid_fits ps ss ts fs grid draws (eqb (length ps) 0) (several_for centre (length ps)) (starts_below grid) room alpha e refl).2)
+    (path_met centre alpha ps ss ts fs grid draws room)

@@ -3,7 +3,6 @@ pub mod Asked
 pub mod Intrinsic
 pub mod NoPillars
 pub mod AsWritten
-pub mod WorkAhead
 pub mod CouponWork
 pub mod BetweenPoints
 pub mod JobsKept

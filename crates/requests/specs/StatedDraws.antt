@@ -24,8 +24,11 @@ use Rattle.draws.proofs.Lists.{draws_length, draws_onward, draws_first, draw_num
 use Rattle.hullwhite_points.specs.declared.walk.Centre.{Centre}
 use Rattle.hullwhite_points.specs.Path.{start_state, path_from}
 use Rattle.hullwhite_transitions.specs.Written.{finishing_list}
-use Rattle.hullwhite_paths.specs.Generate.{starts_below, several_for, path_rules_on, generate_outcome, seeded_outcome}
-use Rattle.demand_order.specs.Calls.{path_met, seeded_met}
+use Rattle.hullwhite_paths.specs.Generate.{starts_below, several_for, generate_outcome}
+use Rattle.hullwhite_paths.specs.Seeded.{seeded_rules, seeded_outcome}
+use Rattle.hullwhite_paths.proofs.Outcomes.{same_rules}
+use Rattle.demand_order.specs.Calls.{path_rules_on}
+use Rattle.demand_order.proofs.Calls.{path_met, seeded_met}
 use Rattle.requests.specs.Asked.{asked_behind, silent_last, never_asked}
 
 -- a seed that is served
@@ -83,17 +86,6 @@ pub record Stated (d : Float) (sum : ℕ) : Type 0 where
   pub most : T (lt d (decimal 6 0))
   pub no_minus_zero : d ≡ neg Numbers.zero → ⊥
 
-pub every_draw : (n i x : ℕ) → Seed x → i < n → Stated (get_or (draws_of n x) i nan) (sum_of 12 (steps_of (12 * i) x))
-every_draw n i x s h =
-    let y = steps_of (12 * i) x in
-    let t = never_zero (12 * i) x s in
-    rw (each_draw n i x h) (record {
-      exact = (draw_exact y t).1;
-      least = (draw_between y t).0;
-      most = (draw_between y t).1;
-      no_minus_zero = never_minus_zero y t;
-    })
-
 -- ---- "A library call for a path may name a seed in place of its list of draws": with a seed that is served it is the call with those draws listed, refusals included
 
 all_finite_lem : (n x : ℕ) → x < 2 ^ 64 → all_of Finite (draws_of n x) ≡ true
@@ -119,8 +111,15 @@ unfolding seeded_outcome generate_outcome
 seeded_is_listed centre alpha ps ss ts fs grid seed room s =
     let draws = draws_of (length grid) seed in
     let path = following (path_from centre alpha ps ss ts fs start_state grid draws) finishing_list in
-    ap (λ (b : Bool). unless (path_rules_on centre alpha ps ss ts fs grid (seeded_grid_faults grid) b room) path) (ne_eqb seed 0 s.nonzero)
-    ∙ ap (λ (points : Faults). unless (path_rules_on centre alpha ps ss ts fs grid points false room) path) (sym (same_faults grid seed s.word))
+    let schedule = pillar_faults ps ss in
+    let curve = curve_faults ts fs in
+    let none = eqb (length ps) 0 in
+    let several = several_for centre (length ps) in
+    let below = starts_below grid in
+    let short = ltb room (length grid) in
+    ap (λ (b : Bool). unless (seeded_rules schedule curve (seeded_grid_faults grid) b none several below short alpha) path) (ne_eqb seed 0 s.nonzero)
+    ∙ ap (λ (points : Faults). unless (seeded_rules schedule curve points false none several below short alpha) path) (sym (same_faults grid seed s.word))
+    ∙ ap (λ (a : Answer). after a path) (same_rules schedule curve (grid_faults grid draws) none several below short alpha)
 
 -- ---- "A zero seed is refused as 14, directly after rule 6."
 module _ (centre : Centre) (alpha : Float) (ps ss ts fs grid : List Float) (room : ℕ) where
@@ -145,12 +144,12 @@ module _ (centre : Centre) (alpha : Float) (ps ss ts fs grid : List Float) (room
   -- and with any other seed never
   pub seed_let_through : (seed : ℕ) → (seed ≡ 0 → ⊥) → seeded_outcome centre alpha ps ss ts fs grid seed room ≡ refused R.ZeroSeed → ⊥
   seed_let_through seed s e =
-      never_asked (path_rules_on centre alpha ps ss ts fs grid (seeded_grid_faults grid) false room) R.ZeroSeed tt
-      (ap (λ (b : Bool). first_of (path_rules_on centre alpha ps ss ts fs grid (seeded_grid_faults grid) b room)) (sym (ne_eqb seed 0 s)) ∙ ((seeded_met centre alpha ps ss ts fs grid room seed).refused_at R.ZeroSeed).0 e)
+      let rules : Bool → List Rule = λ zero_seed. seeded_rules (pillar_faults ps ss) (curve_faults ts fs) (seeded_grid_faults grid) zero_seed (eqb (length ps) 0) (several_for centre (length ps)) (starts_below grid) (ltb room (length grid)) alpha in
+      never_asked (rules false) R.ZeroSeed tt (ap (λ (b : Bool). first_of (rules b)) (sym (ne_eqb seed 0 s)) ∙ ((seeded_met centre alpha ps ss ts fs grid seed room).refused_at R.ZeroSeed).0 e)
 
   -- "run files keep theirs": a path on listed draws is never refused so
   pub listed_never : (draws : List Float) → generate_outcome centre alpha ps ss ts fs grid draws room ≡ refused R.ZeroSeed → ⊥
-  listed_never draws e = never_asked (path_rules_on centre alpha ps ss ts fs grid (grid_faults grid draws) false room) R.ZeroSeed tt (((path_met centre alpha ps ss ts fs grid room draws).refused_at R.ZeroSeed).0 e)
+  listed_never draws e = never_asked (path_rules_on centre alpha ps ss ts fs grid draws room) R.ZeroSeed tt (((path_met centre alpha ps ss ts fs grid draws room).refused_at R.ZeroSeed).0 e)
 
 -- "as 14, directly after rule 6": nothing stands between 6 and 14, and 7 is behind it
 pub fourteen_behind_six : (number_of R.ZeroSeed ≡ 14) × (place_of R.ZeroSeed ≡ suc (place_of R.Domain)) × (place_of R.ZeroSeed < place_of R.Empty)

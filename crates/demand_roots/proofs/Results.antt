@@ -6,7 +6,8 @@ use Rattle.refusals.specs.declared.refusals.Refusal.TheVariants as R
 use Rattle.refusals.specs.Refusals.{Outcome, served, refused, number_of, answer_of, answer_number, following}
 use Rattle.refusals.proofs.Outcomes.{not_both}
 use Rattle.refusals.proofs.Numbered.{numbered, one_number}
-use Rattle.demand_order.specs.Grounds.{NeverNoBracket, optionlet_never, bond_option_never}
+use Rattle.demand_order.specs.Grounds.{NeverNoBracket}
+use Rattle.demand_order.proofs.Grounds.{optionlet_never, bond_option_never}
 use Rattle.hullwhite_swaptions.proofs.Demand3 as Swaptions
 use Rattle.pricer.proofs.Demand3 as Pricers
 use Rattle.pricer_formulas.specs.declared.bond_option.SwaptionType.{SwaptionType}
@@ -19,7 +20,7 @@ use Rattle.file_layout.specs.declared.records.Job.{Job}
 use Rattle.file_layout.specs.Request.{Request}
 use Rattle.file_jobs.specs.declared.results.JobResult.{JobResult}
 use Rattle.file_jobs.specs.Results.{result_of_price, result_of_fit, note_of, option_result, swaption_result, fit_result, job_result_of}
-use Rattle.demand_roots.specs.Owed.{Owed, option_owed, model_owed, pricer_owed, caplet_owed, swaption_owed, options_owed, swaptions_owed, fits_owed, owed_of, Accepted, ResultHolds}
+use Rattle.demand_roots.specs.Owed.{Owed, option_owed, model_owed, pricer_owed, caplet_owed, swaption_owed, options_owed, swaptions_owed, fits_owed, owed_of, ResultHolds}
 
 -- ---- the law: what is told of a call whose outcome has what is owed, holds
 abbrev result_by : {A : Type 0} → (A → Float) → (A → ℕ) → Outcome A → JobResult
