@@ -1,4 +1,5 @@
 -- The laws that the proofs of `file_layout` share, and, in Kept and Lists, those that a caller needs.
+pub mod Filling
 pub mod Walks
 pub mod Conditions
 pub mod Keeping

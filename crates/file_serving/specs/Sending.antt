@@ -1,5 +1,6 @@
--- When the output of a file is sent: every piece of it has been handed to the call that writes, or one of these calls has failed.
-use Rattle.std.specs.Prelude.{◌≡◌, refl, Bool, true, false, not, ◌⊎◌, List, ℕ, ◌≤◌, ◌<◌, T, leb, length, take}
+-- When the output of a file is sent: every piece of it has been handed to the call that writes, or one of these calls has failed; and what a writer was handed.
+use Rattle.std.specs.Prelude.{◌≡◌, refl, Bool, true, false, not, ◌⊎◌, List, ℕ, ◌≤◌, ◌<◌, T, leb, length, take, Option}
+use Rattle.std.specs.Io.KnownBytes.{Appends}
 use Rattle.std.proofs.Common.{sym, ◌∙◌, ap, subst, arith, leb→le, take_all, length-take-le}
 use Rattle.std.proofs.Math.Dec.{nleb→lt}
 use Rattle.file_layout.specs.declared.parts.Laid.TheVariants.{Broken}
@@ -22,6 +23,11 @@ SameFile s t = (t.bytes ≡ s.bytes) × (t.length ≡ s.length)
 -- the state is of this file, and all its pieces are sent, or a write has failed
 abbrev pub Done : List ℕ → Sent → Type 0
 Done file s = (file_of s ≡ file) × ((s.failed ≡ true) ⊎ (s.next ≡ length (pieces_of file)))
+
+-- what a writer holds, where that is known, has grown by the text, or, where a write failed, by a front of it
+abbrev pub Handed : Option (List ℕ) → Option (List ℕ) → List ℕ → Bool → Type 0
+Handed old new text false = Appends old new text
+Handed old new text true = (n : ℕ) × (n ≤ length text) × Appends old new (take n text)
 
 -- ---- "At most 65,536 bytes": the bytes behind the 65,537th change nothing
 too_long : (file : List ℕ) → leb (length file) 65536 ≡ false → layout_of file ≡ Broken

@@ -1,8 +1,11 @@
 // A run file as it was read, and how much of its output has been sent. The fields are this module's own: a file comes
 // from `receive` alone, and nothing is sent, or said to be, but by `send`, which has the file from the state it is given.
-ghost use Rattle.std.specs.Prelude.{◌≡◌, ◌+◌, ◌<◌, length};
+ghost use Rattle.std.specs.Prelude.{◌≡◌, ◌+◌, ◌<◌, ◌≤◌, length, take};
+ghost use Rattle.std.specs.Io.KnownBytes.{Appends, Consumes};
 ghost use Rattle.file_output.specs.Pieces.{pieces_of, piece_of};
-ghost use Rattle.file_serving.specs.Sending.{file_of, Due, SameFile};
+ghost use Rattle.file_serving.specs.Sending.{file_of, Due, SameFile, Handed};
+
+use std::io::{Read, Write};
 
 #[derive(Clone, Copy)]
 pub struct Sent {
@@ -15,13 +18,14 @@ pub struct Sent {
     failed: bool,
 }
 
-// Standard input to its end or to the buffer's, which is past what a file may have; nothing of its output is sent yet. A
+// The input to its end or to the buffer's, which is past what a file may have; nothing of its output is sent yet. A
 // read that fails ends the input, so a file cut short is served as it stands.
-pub fn receive() -> Sent
-    ensures { Due (file_of result) result 0 }
+pub fn receive<R: Read>(input: &mut R) -> Sent
+    ensures due { Due (file_of result) result 0 }
+    ensures read { Consumes (R.remaining input.old) (R.remaining input.new) (file_of result) }
 {
     let mut bytes = [0u8; 65537];
-    let length = io::read_full(libc::STDIN_FILENO, &mut bytes);
+    let length = file_layout::fill(input, &mut bytes);
     Sent {
         bytes,
         length,
@@ -51,14 +55,42 @@ pub fn failed(sent: Sent) -> bool
 // The one call that writes: the piece of the file's output that is due, behind no write that failed. A caller that
 // sends a file's pieces from the first on, each as it was worked, has both. A state may be copied, `due` may not: once a
 // piece is sent, an older state is not due any more.
-pub fn send(sent: Sent, due: &mut usize, text: &[u8]) -> Sent
+pub fn send<W: Write>(sent: Sent, due: &mut usize, text: &[u8], output: &mut W) -> Sent
     requires { Due (file_of sent) sent due.old × (due.old < length (pieces_of (file_of sent))) × (text.now ≡ piece_of (file_of sent) due.old) }
-    ensures { SameFile sent result × (result.next ≡ sent.next + 1) × (due.new ≡ result.next) }
+    ensures next { SameFile sent result × (result.next ≡ sent.next + 1) × (due.new ≡ result.next) }
+    ensures handed { Handed (W.contents output.old) (W.contents output.new) text.now result.failed }
 {
-    let written = io::write_all(libc::STDOUT_FILENO, text);
+    let failed = hand(text, output);
     *due += 1;
     let mut after = sent;
     after.next = sent.next + 1;
-    after.failed = !written;
+    after.failed = failed;
     after
+}
+
+// Hands all of the text to the writer, or stops at the first write that takes nothing or fails, and answers whether
+// one did.
+fn hand<W: Write>(text: &[u8], output: &mut W) -> bool
+    ensures { Handed (W.contents output.old) (W.contents output.new) text.now result }
+{
+    let mut done = 0;
+    while done < text.len() {
+        let n = took(&text[done..], output);
+        if n == 0 {
+            return true;
+        }
+        done += n;
+    }
+    false
+}
+
+// One write: how many bytes of the text the writer took, 0 where it failed.
+fn took<W: Write>(text: &[u8], output: &mut W) -> usize
+    ensures bound { result ≤ length text.now }
+    ensures written { Appends (W.contents output.old) (W.contents output.new) (take result text.now) }
+{
+    match output.write(text) {
+        Ok(n) => n,
+        Err(_) => 0,
+    }
 }

@@ -7,10 +7,10 @@ use Rattle.file_serving.proofs.Sending.{few}
 use Rattle.file_serving.proofs.sent.send.Goals as goal
 
 pub overflow_add-due : goal.overflow_add-due
-overflow_add-due c = let s = c in omega (arith, s.requires.1, few (file_of s.args.sent))
+overflow_add-due g c = omega (arith, c.requires.1, few (file_of c.args.sent))
 
 pub overflow_add-after : goal.overflow_add-after
-overflow_add-after c = let s = c in omega (arith, s.requires.0.2, s.requires.1, few (file_of s.args.sent))
+overflow_add-after g c = omega (arith, c.requires.0.2, c.requires.1, few (file_of c.args.sent))
 
-pub returns : goal.returns
-returns c = let s = c in ((refl, refl), refl, ap (λ n. n + 1) (sym s.requires.0.2))
+pub returns-clause-next : goal.returns-clause-next
+returns-clause-next g c = ((refl, refl), refl, ap (λ n. n + 1) (sym c.requires.0.2))

@@ -6,15 +6,23 @@ use Rattle.file_serving.proofs.Sending.{read_is}
 use Rattle.file_serving.proofs.serve.serve_input.Goals as goal
 
 pub slice_bounds-bytes-end : goal.slice_bounds-bytes-end
-slice_bounds-bytes-end c = omega (arith, c.receive-sent.ensures.1, c.length-n.ensures, c.bytes-bytes.type-inv)
+slice_bounds-bytes-end g c = omega (arith, c.receive-sent.ensures.due.1, c.length-n.ensures)
 
 pub slice_bounds-serve_file-end : goal.slice_bounds-serve_file-end
-slice_bounds-serve_file-end c = sym (length-take-le _ _ (array_share_prefix_bytes c))
+slice_bounds-serve_file-end g c = sym (length-take-le _ _ (omega (arith, c.receive-sent.ensures.due.1, c.length-n.ensures)))
 
 pub serve_file-requires : goal.serve_file-requires
-serve_file-requires c =
+serve_file-requires g c =
     let read = c.receive-sent in
-    ((read_is read.result c.length-n.result c.bytes-bytes.result c.length-n.ensures c.bytes-bytes.ensures, read.ensures.1, read.ensures.2, read.ensures.3), refl)
+    ((read_is read.result c.length-n.result c.bytes-bytes.result c.length-n.ensures c.bytes-bytes.ensures, read.ensures.due.1, read.ensures.due.2, read.ensures.due.3), refl)
 
 pub returns : goal.returns
-returns c = rw c.serve_file.ensures.0 (refl, c.serve_file.ensures.1)
+returns g c =
+    let read = c.receive-sent in
+    let same = read_is read.result c.length-n.result c.bytes-bytes.result c.length-n.ensures c.bytes-bytes.ensures in
+    let served = c.serve_file.ensures in
+    record {
+      done = rw served.done.0 (refl, served.done.1);
+      read = rw (served.done.0, ← same) read.ensures.read;
+      handed = rw served.done.0 served.handed;
+    }
