@@ -6,7 +6,8 @@ ghost use Rattle.draws.specs.Draws.{reached_by, draws_outcome};
 ghost use Rattle.hullwhite_transitions.specs.Written.{stored_of};
 ghost use Rattle.hullwhite_transitions.specs.Transition.{transition_outcome};
 ghost use Rattle.hullwhite_points.specs.declared.walk.Centre.TheVariants.{StateVariance, Published};
-ghost use Rattle.hullwhite_paths.specs.Generate.{generate_outcome, seeded_outcome};
+ghost use Rattle.hullwhite_paths.specs.Generate.{generate_outcome};
+ghost use Rattle.hullwhite_paths.specs.Seeded.{seeded_outcome};
 ghost use Rattle.calstwid_exports.specs.Reports.{count_report_of, draws_report_of};
 
 use super::reports;

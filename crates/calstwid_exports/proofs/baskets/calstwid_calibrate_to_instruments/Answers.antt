@@ -6,4 +6,8 @@ use Rattle.calstwid_exports.proofs.baskets.calstwid_calibrate_to_instruments.Goa
 pub returns : goal.returns
 returns c =
     let f = c.calibrate_to_instruments in
-    (c.basket_report.ensures ∙ ap basket_told f.ensures.0, (record { answer = f.result; reported = c.basket_report.ensures; holds = f.ensures.1.0 }, record { answer = f.result; reported = c.basket_report.ensures; holds = f.ensures.1.1.0 }))
+    record {
+      answer = c.basket_report.ensures ∙ ap basket_told f.ensures.answer;
+      held = record { answer = f.result; reported = c.basket_report.ensures; holds = f.ensures.held };
+      bracket = record { answer = f.result; reported = c.basket_report.ensures; holds = f.ensures.bracket };
+    }

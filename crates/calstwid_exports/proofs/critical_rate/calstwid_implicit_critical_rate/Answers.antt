@@ -6,4 +6,8 @@ use Rattle.calstwid_exports.proofs.critical_rate.calstwid_implicit_critical_rate
 pub returns : goal.returns
 returns c =
     let f = c.implicit_critical_rate in
-    (c.implicit_rate_report.ensures ∙ ap implicit_rate_report_of f.ensures.0, (record { answer = f.result; reported = c.implicit_rate_report.ensures; holds = f.ensures.1.0 }, record { answer = f.result; reported = c.implicit_rate_report.ensures; holds = f.ensures.1.1.0 }))
+    record {
+      answer = c.implicit_rate_report.ensures ∙ ap implicit_rate_report_of f.ensures.answer;
+      rooted = record { answer = f.result; reported = c.implicit_rate_report.ensures; holds = f.ensures.rooted };
+      bracket = record { answer = f.result; reported = c.implicit_rate_report.ensures; holds = f.ensures.bracket };
+    }

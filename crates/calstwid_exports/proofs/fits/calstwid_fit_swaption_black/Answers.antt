@@ -6,4 +6,8 @@ use Rattle.calstwid_exports.proofs.fits.calstwid_fit_swaption_black.Goals as goa
 pub returns : goal.returns
 returns c =
     let f = c.fit_swaption in
-    (c.fit_report.ensures ∙ ap fit_report_of f.ensures.0, (record { answer = f.result; reported = c.fit_report.ensures; holds = f.ensures.1.0 }, record { answer = f.result; reported = c.fit_report.ensures; holds = f.ensures.1.1.0 }))
+    record {
+      answer = c.fit_report.ensures ∙ ap fit_report_of f.ensures.answer;
+      held = record { answer = f.result; reported = c.fit_report.ensures; holds = f.ensures.held };
+      bracket = record { answer = f.result; reported = c.fit_report.ensures; holds = f.ensures.bracket };
+    }

@@ -8,4 +8,4 @@ pub returns : goal.returns
 returns c =
     let g = c.stated_draws-drawn in
     let a = c.args in
-    (c.draws_report.ensures ∙ drawn _ g.result _ (length a.out-1.now) g.ensures.0 (drawn_length a.seed (length a.out-1.now)), g.ensures.1.0)
+    record { answer = c.draws_report.ensures ∙ drawn _ g.result _ (length a.out.now) g.ensures.answer (drawn_length a.seed (length a.out.now)); output = g.ensures.output }

@@ -7,4 +7,4 @@ pub returns : goal.returns
 returns c =
     let g = c.transition_variances-answer in
     let a = c.args in
-    (c.count_report.ensures ∙ counted _ _ _ g.ensures.0 (steps_length a.alpha a.times.now a.sigmas.now a.time-step a.steps _), g.ensures.1.0)
+    record { answer = c.count_report.ensures ∙ counted _ _ _ g.ensures.answer (steps_length a.alpha a.times.now a.sigmas.now a.time_step a.steps _); output = g.ensures.output }

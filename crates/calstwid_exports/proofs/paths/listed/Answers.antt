@@ -8,4 +8,4 @@ pub returns : goal.returns
 returns c =
     let g = c.generate-answer in
     let a = c.args in
-    (c.count_report.ensures ∙ counted _ _ _ g.ensures.0 (path_length a.centre a.alpha a.pillars.now a.sigmas.now a.times.now a.factors.now a.grid.now a.draws.now _), g.ensures.1.0)
+    record { answer = c.count_report.ensures ∙ counted _ _ _ g.ensures.answer (path_length a.centre a.alpha a.pillars.now a.sigmas.now a.times.now a.factors.now a.grid.now a.draws.now _); output = g.ensures.output }

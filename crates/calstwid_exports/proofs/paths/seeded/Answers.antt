@@ -8,4 +8,4 @@ pub returns : goal.returns
 returns c =
     let g = c.generate_seeded-drawn in
     let a = c.args in
-    (c.draws_report.ensures ∙ drawn _ g.result _ _ g.ensures.0 (seeded_length a.centre a.alpha a.pillars.now a.sigmas.now a.times.now a.factors.now a.grid.now a.seed _), g.ensures.1.0)
+    record { answer = c.draws_report.ensures ∙ drawn _ g.result _ _ g.ensures.answer (seeded_length a.centre a.alpha a.pillars.now a.sigmas.now a.times.now a.factors.now a.grid.now a.seed _); output = g.ensures.output }

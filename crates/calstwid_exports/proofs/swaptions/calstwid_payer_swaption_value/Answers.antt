@@ -6,4 +6,8 @@ use Rattle.calstwid_exports.proofs.swaptions.calstwid_payer_swaption_value.Goals
 pub returns : goal.returns
 returns c =
     let f = c.swaption_value in
-    (c.valuation_report.ensures ∙ ap valuation_report_of f.ensures.0, (record { answer = f.result; reported = c.valuation_report.ensures; holds = f.ensures.1.0 }, record { answer = f.result; reported = c.valuation_report.ensures; holds = f.ensures.1.1.0 }))
+    record {
+      answer = c.valuation_report.ensures ∙ ap valuation_report_of f.ensures.answer;
+      rooted = record { answer = f.result; reported = c.valuation_report.ensures; holds = f.ensures.rooted };
+      bracket = record { answer = f.result; reported = c.valuation_report.ensures; holds = f.ensures.bracket };
+    }

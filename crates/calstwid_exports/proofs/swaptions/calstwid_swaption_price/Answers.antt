@@ -6,4 +6,8 @@ use Rattle.calstwid_exports.proofs.swaptions.calstwid_swaption_price.Goals as go
 pub returns : goal.returns
 returns c =
     let f = c.swaption_price in
-    (c.swaption_report.ensures ∙ ap swaption_report_of f.ensures.0, (record { answer = f.result; reported = c.swaption_report.ensures; holds = f.ensures.1.0 }, record { answer = f.result; reported = c.swaption_report.ensures; holds = f.ensures.1.1.0 }))
+    record {
+      answer = c.swaption_report.ensures ∙ ap swaption_report_of f.ensures.answer;
+      rooted = record { answer = f.result; reported = c.swaption_report.ensures; holds = f.ensures.rooted };
+      bracket = record { answer = f.result; reported = c.swaption_report.ensures; holds = f.ensures.bracket };
+    }
