@@ -11,42 +11,50 @@ ghost use Rattle.file_layout.specs.Lists.{HoldsLists, list_of};
 
 use file_layout::{Laid, Layout};
 use refusals::Faults;
+use std::io;
+use std::io::Print;
 
-fn main() {
+fn main(rt: HostRuntime) -> io::Result<()> {
     let mut rounds = [0u8; 4];
-    io::read_full(libc::STDIN_FILENO, &mut rounds);
+    file_layout::fill(&mut rt.stdin(), &mut rounds);
     let mut file = [0u8; 65537];
-    let n = io::read_full(libc::STDIN_FILENO, &mut file);
-    serve_file(&file[..n], file_layout::half(&rounds, 0));
+    let n = file_layout::fill(&mut rt.stdin(), &mut file);
+    serve_file(&rt, &file[..n], file_layout::half(&rounds, 0))
 }
 
-fn serve_file(file: &[u8], rounds: u64) {
+fn serve_file(rt: &impl Print, file: &[u8], rounds: u64) -> io::Result<()> {
     let laid = file_layout::lay_out(file);
     let mut text = [0u8; 128];
     match laid {
         Laid::Broken => {
             let n = file_lines::write_refused(&mut text);
-            io::write_all(libc::STDOUT_FILENO, &text[..n]);
+            rt.write_all(&text[..n])
         }
         Laid::Parts(l) => {
             let n = file_lines::write_header(&mut text);
-            io::write_all(libc::STDOUT_FILENO, &text[..n]);
-            serve_jobs(file, l, rounds);
+            rt.write_all(&text[..n])?;
+            serve_jobs(rt, file, l, rounds)
         }
     }
 }
 
 // The jobs of a file. A caller has the layout from `lay_out` of this very file.
-fn serve_jobs(file: &[u8], l: Layout, rounds: u64)
+fn serve_jobs(rt: &impl Print, file: &[u8], l: Layout, rounds: u64) -> io::Result<()>
     requires { layout_of file.now ≡ Parts l }
 {
     let mut floats = [0.0; 6464];
     file_layout::read_lists(file, l, &mut floats);
-    each_round(file, l, &floats, rounds);
+    each_round(rt, file, l, &floats, rounds)
 }
 
 // The same, on the lists that a caller has read from the file.
-fn each_round(file: &[u8], l: Layout, floats: &[f64], rounds: u64)
+fn each_round(
+    rt: &impl Print,
+    file: &[u8],
+    l: Layout,
+    floats: &[f64],
+    rounds: u64,
+) -> io::Result<()>
     requires { (layout_of file.now ≡ Parts l) × HoldsLists file.now l floats.now }
 {
     let curve = file_output::file_curve_faults(file, l, floats);
@@ -54,12 +62,21 @@ fn each_round(file: &[u8], l: Layout, floats: &[f64], rounds: u64)
     let mut left = rounds;
     while left > 0 {
         left -= 1;
-        each_job(file, l, floats, curve, left == 0, &mut out);
+        each_job(rt, file, l, floats, curve, left == 0, &mut out)?;
     }
+    Ok(())
 }
 
 // One round. A caller has the lists of the file, the curve's faults, and room for a path of 1,024 points.
-fn each_job(file: &[u8], l: Layout, floats: &[f64], curve: Faults, written: bool, out: &mut [u8])
+fn each_job(
+    rt: &impl Print,
+    file: &[u8],
+    l: Layout,
+    floats: &[f64],
+    curve: Faults,
+    written: bool,
+    out: &mut [u8],
+) -> io::Result<()>
     requires file_value { (layout_of file.now ≡ Parts l) × HoldsLists file.now l floats.now × (131072 ≤ length out.old) }
     requires curve_value { curve ≡ curve_faults (list_of (request_of file.now l) 2) (list_of (request_of file.now l) 3) }
 {
@@ -68,8 +85,9 @@ fn each_job(file: &[u8], l: Layout, floats: &[f64], curve: Faults, written: bool
     while k < n_jobs {
         let n = file_output::lines_on(file, l, floats, curve, k, out);
         if written {
-            io::write_all(libc::STDOUT_FILENO, &out[..n]);
+            rt.write_all(&out[..n])?;
         }
         k += 1;
     }
+    Ok(())
 }

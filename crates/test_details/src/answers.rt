@@ -5,13 +5,15 @@ use hullwhite_jamshidian::Swaption;
 use math_bisection::{Ends, Fit, Fitted};
 use pricer_value::Valuation;
 use search::Bracket;
+use std::io;
+use std::io::Print;
 
 // Of all that a job's call returned.
-pub fn worked(w: Worked) {
+pub fn worked(rt: &impl Print, w: Worked) -> io::Result<()> {
     match w {
-        Worked::Swaption(s) => swaption(s),
-        Worked::Valuation(v) => valuation(v),
-        Worked::Fit(f) => fitted(f),
+        Worked::Swaption(s) => swaption(rt, s),
+        Worked::Valuation(v) => valuation(rt, v),
+        Worked::Fit(f) => fitted(rt, f),
     }
 }
 
@@ -24,15 +26,17 @@ fn no_bracket() -> Bracket {
     }
 }
 
-fn swaption(s: Swaption) {
+fn swaption(rt: &impl Print, s: Swaption) -> io::Result<()> {
     match s {
-        Swaption::Served(_, root) => text::search(root.below, root.above, root.bracket, root.rate),
-        Swaption::Refused(_) => text::search(0, 0, no_bracket(), 0.0),
+        Swaption::Served(_, root) => {
+            text::search(rt, root.below, root.above, root.bracket, root.rate)?;
+        }
+        Swaption::Refused(_) => text::search(rt, 0, 0, no_bracket(), 0.0)?,
     }
-    text::end();
+    text::end(rt)
 }
 
-fn valuation(v: Valuation) {
+fn valuation(rt: &impl Print, v: Valuation) -> io::Result<()> {
     match v {
         Valuation::Served {
             value: _,
@@ -42,15 +46,15 @@ fn valuation(v: Valuation) {
             below,
             above,
         } => {
-            text::search(below, above, bracket, rate);
-            text::newton(stepped);
+            text::search(rt, below, above, bracket, rate)?;
+            text::newton(rt, stepped)?;
         }
         Valuation::Refused(_) => {
-            text::search(0, 0, no_bracket(), 0.0);
-            text::newton(0.0);
+            text::search(rt, 0, 0, no_bracket(), 0.0)?;
+            text::newton(rt, 0.0)?;
         }
     }
-    text::end();
+    text::end(rt)
 }
 
 fn no_fit() -> Fit {
@@ -68,25 +72,25 @@ fn no_fit() -> Fit {
     }
 }
 
-fn fit(f: Fit) {
-    io::write_all(libc::STDOUT_FILENO, b"  status");
-    text::number(if f.converged { 1 } else { 0 });
-    io::write_all(libc::STDOUT_FILENO, b" halvings");
-    text::number(f.halvings);
-    io::write_all(libc::STDOUT_FILENO, b" residual");
-    text::float(f.residual);
-    io::write_all(libc::STDOUT_FILENO, b" ends");
-    text::float(f.ends.low);
-    text::float(f.ends.high);
-    io::write_all(libc::STDOUT_FILENO, b" residuals");
-    text::float(f.ends.low_residual);
-    text::float(f.ends.high_residual);
-    text::end();
+fn fit(rt: &impl Print, f: Fit) -> io::Result<()> {
+    print!(rt; "  status")?;
+    text::number(rt, if f.converged { 1 } else { 0 })?;
+    print!(rt; " halvings")?;
+    text::number(rt, f.halvings)?;
+    print!(rt; " residual")?;
+    text::float(rt, f.residual)?;
+    print!(rt; " ends")?;
+    text::float(rt, f.ends.low)?;
+    text::float(rt, f.ends.high)?;
+    print!(rt; " residuals")?;
+    text::float(rt, f.ends.low_residual)?;
+    text::float(rt, f.ends.high_residual)?;
+    text::end(rt)
 }
 
-fn fitted(f: Fitted) {
+fn fitted(rt: &impl Print, f: Fitted) -> io::Result<()> {
     match f {
-        Fitted::Served(found) => fit(found),
-        Fitted::Refused(_) => fit(no_fit()),
+        Fitted::Served(found) => fit(rt, found),
+        Fitted::Refused(_) => fit(rt, no_fit()),
     }
 }

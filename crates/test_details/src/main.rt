@@ -6,8 +6,10 @@ mod answers;
 mod serve;
 mod text;
 
-fn main() {
+use std::io;
+
+fn main(rt: HostRuntime) -> io::Result<()> {
     let mut file = [0u8; 65537];
-    let n = io::read_full(libc::STDIN_FILENO, &mut file);
-    serve::serve_file(&file[..n]);
+    let n = file_layout::fill(&mut rt.stdin(), &mut file);
+    serve::serve_file(&rt, &file[..n])
 }

@@ -10,34 +10,36 @@ ghost use Rattle.file_jobs.specs.Results.{request_of_lists};
 use super::answers;
 use file_layout::{Laid, Layout};
 use refusals::Faults;
+use std::io;
+use std::io::Print;
 
-pub fn serve_file(file: &[u8]) {
+pub fn serve_file(rt: &impl Print, file: &[u8]) -> io::Result<()> {
     let laid = file_layout::lay_out(file);
     let mut text = [0u8; 128];
     match laid {
         Laid::Broken => {
             let n = file_lines::write_refused(&mut text);
-            io::write_all(libc::STDOUT_FILENO, &text[..n]);
+            rt.write_all(&text[..n])
         }
         Laid::Parts(l) => {
             let n = file_lines::write_header(&mut text);
-            io::write_all(libc::STDOUT_FILENO, &text[..n]);
-            serve_jobs(file, l);
+            rt.write_all(&text[..n])?;
+            serve_jobs(rt, file, l)
         }
     }
 }
 
 // The jobs of a file. A caller has the layout from `lay_out` of this very file.
-fn serve_jobs(file: &[u8], l: Layout)
+fn serve_jobs(rt: &impl Print, file: &[u8], l: Layout) -> io::Result<()>
     requires { layout_of file.now ≡ Parts l }
 {
     let mut floats = [0.0; 6464];
     file_layout::read_lists(file, l, &mut floats);
-    each_job(file, l, &floats);
+    each_job(rt, file, l, &floats)
 }
 
 // The same, on the lists that a caller has read from the file.
-fn each_job(file: &[u8], l: Layout, floats: &[f64])
+fn each_job(rt: &impl Print, file: &[u8], l: Layout, floats: &[f64]) -> io::Result<()>
     requires { (layout_of file.now ≡ Parts l) × HoldsLists file.now l floats.now }
 {
     let alpha = file_layout::alpha(file, l.model);
@@ -56,16 +58,18 @@ fn each_job(file: &[u8], l: Layout, floats: &[f64])
     let mut k = 0;
     while k < n_jobs {
         one_job(
-            file, l, curve, alpha, pillars, sigmas, times, factors, payments, accruals, owns, grid,
-            draws, k, &mut out,
-        );
+            rt, file, l, curve, alpha, pillars, sigmas, times, factors, payments, accruals, owns,
+            grid, draws, k, &mut out,
+        )?;
         k += 1;
     }
+    Ok(())
 }
 
 // The lines of job k and, of kinds 5 to 11, the details. A caller that goes through the jobs has what
 // `file_output::job_lines` asks.
 fn one_job(
+    rt: &impl Print,
     file: &[u8],
     l: Layout,
     curve: Faults,
@@ -81,7 +85,7 @@ fn one_job(
     draws: &[f64],
     k: usize,
     out: &mut [u8],
-)
+) -> io::Result<()>
     requires file_value { (layout_of file.now ≡ Parts l) × (k < l.jobs.length / 40) × (131072 ≤ length out.old) }
     requires curve_value { curve ≡ curve_faults times.now factors.now }
     requires jobs_value { request_of_lists alpha pillars.now sigmas.now times.now factors.now payments.now accruals.now owns.now grid.now draws.now (jobs_of file.now l.jobs) ≡ request_of file.now l }
@@ -92,13 +96,12 @@ fn one_job(
             file, l, curve, alpha, pillars, sigmas, times, factors, payments, accruals, owns, grid,
             draws, k, out,
         );
-        io::write_all(libc::STDOUT_FILENO, &out[..n]);
-        return;
+        return rt.write_all(&out[..n]);
     }
     let w = file_jobs::work(
         curve, alpha, pillars, sigmas, times, factors, payments, accruals, owns, j,
     );
     let n = file_output::worked_line(k as u64, j.kind, w, out);
-    io::write_all(libc::STDOUT_FILENO, &out[..n]);
-    answers::worked(w);
+    rt.write_all(&out[..n])?;
+    answers::worked(rt, w)
 }

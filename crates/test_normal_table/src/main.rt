@@ -9,6 +9,8 @@ mod row;
 mod tables;
 mod written;
 
-fn main() {
-    report::write();
+use std::io;
+
+fn main(rt: HostRuntime) -> io::Result<()> {
+    report::write(&rt)
 }

@@ -7,11 +7,13 @@ ghost use Rattle.std.specs.Prelude.{◌≡◌};
 ghost use Rattle.test_normal_table.specs.Meet.{normal_of, at_most, at_least, within_of, above_of, below_of, met_of};
 
 use crate::written;
+use std::io::Print;
 
 // Whether the function meets a row. The argument is `argument` / `scale`, or within half a unit of that where
 // `slack` is 1, and the value there is within `spread` quarters of a unit of `digits` / `unit`. At -x the value is
-// 1 less that. A row that is not met is written.
+// 1 less that. A row that is not met is written, and is not met either where that fails.
 pub fn met(
+    rt: &impl Print,
     argument: u64,
     slack: u64,
     scale: u64,
@@ -25,7 +27,7 @@ pub fn met(
 {
     let ok = test(argument, slack, scale, digits, spread, unit, negative, dual);
     if !ok {
-        written::row(argument, scale, digits, unit, negative, dual);
+        let _ = written::row(rt, argument, scale, digits, unit, negative, dual);
     }
     ok
 }

@@ -1,36 +1,48 @@
 // A row that is not met, on a line of its own.
+use std::io;
+use std::io::Print;
 
-pub fn row(argument: u64, scale: u64, digits: u64, unit: u64, negative: bool, dual: bool) {
+pub fn row(
+    rt: &impl Print,
+    argument: u64,
+    scale: u64,
+    digits: u64,
+    unit: u64,
+    negative: bool,
+    dual: bool,
+) -> io::Result<()> {
     if dual {
-        io::write_all(1, b"not met: norm_cdf_dual at ");
+        print!(rt; "not met: norm_cdf_dual at ")?;
     } else {
-        io::write_all(1, b"not met: norm_cdf at ");
+        print!(rt; "not met: norm_cdf at ")?;
     }
     if negative {
-        io::write_all(1, b"-");
+        print!(rt; "-")?;
     }
-    decimal(argument, scale);
-    io::write_all(1, b", by the row ");
-    decimal(argument, scale);
-    io::write_all(1, b" ");
-    decimal(digits, unit);
-    io::write_all(1, b"\n");
+    decimal(rt, argument, scale)?;
+    print!(rt; ", by the row ")?;
+    decimal(rt, argument, scale)?;
+    print!(rt; " ")?;
+    decimal(rt, digits, unit)?;
+    println!(rt;)
 }
 
 // n / unit, where the unit is a power of ten.
-fn decimal(n: u64, unit: u64) {
+fn decimal(rt: &impl Print, n: u64, unit: u64) -> io::Result<()> {
     if unit == 0 {
-        return;
+        return Ok(());
     }
-    io::print_decimal(1, n / unit);
-    io::write_all(1, b".");
-    places(n, unit);
+    let whole = n / unit;
+    print!(rt; "{whole}.")?;
+    places(rt, n, unit)
 }
 
-fn places(n: u64, unit: u64) {
+fn places(rt: &impl Print, n: u64, unit: u64) -> io::Result<()> {
     let mut u = unit;
     while u >= 10 {
         u = u / 10;
-        io::print_decimal(1, n / u % 10);
+        let digit = n / u % 10;
+        print!(rt; "{digit}")?;
     }
+    Ok(())
 }

@@ -7,6 +7,8 @@ ghost use Rattle.test_vectors.specs.Named.{result_of};
 
 use crate::record::Record;
 use crate::value;
+use std::io;
+use std::io::Print;
 
 // Whether the function that the record names gives what the record expects. A number that no function
 // has never agrees.
@@ -60,22 +62,22 @@ fn finite(x: f64) -> f64
 }
 
 // Writes the function's name.
-pub fn write_name(function: u64) {
+pub fn write_name(rt: &impl Print, function: u64) -> io::Result<()> {
     match function {
-        1 => io::write_all(1, b"fused"),
-        2 => io::write_all(1, b"sqrt"),
-        3 => io::write_all(1, b"exp"),
-        4 => io::write_all(1, b"exp_m1"),
-        5 => io::write_all(1, b"ln"),
-        6 => io::write_all(1, b"norm_pdf"),
-        7 => io::write_all(1, b"norm_cdf"),
-        8 => io::write_all(1, b"norm_cdf_dual"),
-        9 => io::write_all(1, b"signum"),
-        10 => io::write_all(1, b"midpoint"),
-        11 => io::write_all(1, b"max"),
-        12 => io::write_all(1, b"min"),
-        13 => io::write_all(1, b"abs"),
-        14 => io::write_all(1, b"is_finite"),
-        _ => io::write_all(1, b"no function"),
-    };
+        1 => print!(rt; "fused"),
+        2 => print!(rt; "sqrt"),
+        3 => print!(rt; "exp"),
+        4 => print!(rt; "exp_m1"),
+        5 => print!(rt; "ln"),
+        6 => print!(rt; "norm_pdf"),
+        7 => print!(rt; "norm_cdf"),
+        8 => print!(rt; "norm_cdf_dual"),
+        9 => print!(rt; "signum"),
+        10 => print!(rt; "midpoint"),
+        11 => print!(rt; "max"),
+        12 => print!(rt; "min"),
+        13 => print!(rt; "abs"),
+        14 => print!(rt; "is_finite"),
+        _ => print!(rt; "no function"),
+    }
 }

@@ -3,46 +3,42 @@ ghost use Rattle.std.specs.Prelude.{◌<◌};
 
 use crate::functions;
 use crate::tally::Tally;
+use std::io;
+use std::io::Print;
 
-pub fn write(t: Tally) {
+pub fn write(rt: &impl Print, t: Tally) -> io::Result<()> {
     for function in 1..15 {
-        write_line(t, function);
+        write_line(rt, t, function)?;
     }
     if t.seen[0] > 0 {
-        write_line(t, 0);
+        write_line(rt, t, 0)?;
     }
-    write_total(t);
+    write_total(rt, t)
 }
 
 // The line of one of the 15 places: a caller that writes the report goes through these.
-fn write_line(t: Tally, function: usize)
+fn write_line(rt: &impl Print, t: Tally, function: usize) -> io::Result<()>
     requires { function < 15 }
 {
-    functions::write_name(function as u64);
-    write_counts(t.seen[function], t.differ[function]);
+    functions::write_name(rt, function as u64)?;
+    write_counts(rt, t.seen[function], t.differ[function])?;
     if t.differ[function] > 0 {
-        io::write_all(1, b", first at record ");
-        io::print_decimal(1, t.first[function]);
+        let first = t.first[function];
+        print!(rt; ", first at record {first}")?;
     }
-    io::write_all(1, b"\n");
+    println!(rt;)
 }
 
-fn write_total(t: Tally) {
+fn write_total(rt: &impl Print, t: Tally) -> io::Result<()> {
     let rest = t.rest;
     if rest > 0 {
-        io::write_all(1, b"bytes after the last record: ");
-        io::print_decimal(1, rest);
-        io::write_all(1, b"\n");
+        println!(rt; "bytes after the last record: {rest}")?;
     }
-    io::write_all(1, b"total");
-    write_counts(t.records, t.differing);
-    io::write_all(1, b"\n");
+    print!(rt; "total")?;
+    write_counts(rt, t.records, t.differing)?;
+    println!(rt;)
 }
 
-fn write_counts(seen: u64, differ: u64) {
-    io::write_all(1, b" ");
-    io::print_decimal(1, seen);
-    io::write_all(1, b" vectors, ");
-    io::print_decimal(1, differ);
-    io::write_all(1, b" differ");
+fn write_counts(rt: &impl Print, seen: u64, differ: u64) -> io::Result<()> {
+    print!(rt; " {seen} vectors, {differ} differ")
 }

@@ -5,7 +5,7 @@ use lib.ListN.{length}
 use Rattle.bench_rounds.proofs.each_job.Given as goal
 
 abbrev pub invariant-loop-k : goal.invariant-loop-k
-invariant-loop-k l = (l.k ≤ l.n_jobs) × (length l.out ≡ length l.initial.out)
+invariant-loop-k g l = (l.k ≤ l.n_jobs) × (length l.out ≡ length l.initial.out)
 
 abbrev pub decreases-loop-k : goal.decreases-loop-k
-decreases-loop-k l = l.n_jobs - l.k
+decreases-loop-k g l = l.n_jobs - l.k

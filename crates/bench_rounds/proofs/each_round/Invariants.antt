@@ -5,7 +5,7 @@ use lib.ListN.{length}
 use Rattle.bench_rounds.proofs.each_round.Given as goal
 
 abbrev pub invariant-loop-left : goal.invariant-loop-left
-invariant-loop-left l = (l.left ≤ l.rounds) × (length l.out ≡ 131072)
+invariant-loop-left g l = (l.left ≤ l.rounds) × (length l.out ≡ 131072)
 
 abbrev pub decreases-loop-left : goal.decreases-loop-left
-decreases-loop-left l = l.left
+decreases-loop-left g l = l.left

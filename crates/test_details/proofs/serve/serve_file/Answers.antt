@@ -3,4 +3,4 @@ use mathlib.Core.Path.{sym, ◌∙◌}
 use Rattle.test_details.proofs.serve.serve_file.Goals as goal
 
 pub serve_jobs-requires : goal.serve_jobs-requires
-serve_jobs-requires c = sym c.lay_out-laid.ensures ∙ c.in-Parts.is
+serve_jobs-requires g c = sym c.lay_out-laid.ensures ∙ c.in-Parts.is

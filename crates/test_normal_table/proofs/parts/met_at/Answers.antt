@@ -1,5 +1,5 @@
 -- `test_normal_table::met_at` meets its contract: in each arm the number is the arm's, and in the last it is none of the others. Assumes nothing.
-use Rattle.std.proofs.Common.{◌≡◌, ℕ, ◌%◌, Bool, ◌∙◌, ne_eqb}
+use Rattle.std.proofs.Common.{◌≡◌, ℕ, ◌%◌, Bool, ◌∙◌, arith, ne_eqb}
 use Rattle.test_normal_table.specs.Parts.{part_met, wrong_met}
 use Rattle.test_normal_table.proofs.parts.met_at.Goals as goal
 
@@ -14,26 +14,25 @@ last n dual i negative h0 h1 h2 h3 h4 = rw (ne_eqb n 0 h0, ne_eqb n 1 h1, ne_eqb
 
 pub returns-in-0 : goal.returns-in-0
 unfolding part_met
-returns-in-0 c = let s = c.args in named _ 0 s.dual s.i s.negative _ c.in-0.is c.cumulative.ensures
+returns-in-0 g c = let s = c.args in named _ 0 s.dual s.i s.negative _ c.in-0.is c.cumulative.ensures
 
 pub returns-in-1 : goal.returns-in-1
 unfolding part_met
-returns-in-1 c = let s = c.args in named _ 1 s.dual s.i s.negative _ c.in-1.is c.point.ensures
+returns-in-1 g c = let s = c.args in named _ 1 s.dual s.i s.negative _ c.in-1.is c.point.ensures
 
 pub returns-in-2 : goal.returns-in-2
 unfolding part_met
-returns-in-2 c = let s = c.args in named _ 2 s.dual s.i s.negative _ c.in-2.is c.fine.ensures
+returns-in-2 g c = let s = c.args in named _ 2 s.dual s.i s.negative _ c.in-2.is c.fine.ensures
 
 pub returns-in-3 : goal.returns-in-3
 unfolding part_met
-returns-in-3 c = let s = c.args in named _ 3 s.dual s.i s.negative _ c.in-3.is c.coarse.ensures
+returns-in-3 g c = let s = c.args in named _ 3 s.dual s.i s.negative _ c.in-3.is c.coarse.ensures
 
 pub returns-in-4 : goal.returns-in-4
 unfolding part_met
-returns-in-4 c = let s = c.args in named _ 4 s.dual s.i s.negative _ c.in-4.is c.fine-in-4.ensures
+returns-in-4 g c = let s = c.args in named _ 4 s.dual s.i s.negative _ c.in-4.is c.fine-in-4.ensures
 
 pub returns-in_default : goal.returns-in_default
-returns-in_default c =
+returns-in_default g c =
     let s = c.args in
-    let x = c.match.rest in
-    c.wrong.ensures ∙ last _ s.dual s.i s.negative x.0.0.0.0.1 x.0.0.0.1 x.0.0.1 x.0.1 x.1
+    c.wrong.ensures ∙ last s.part s.dual s.i s.negative (λ e. omega arith) (λ e. omega arith) (λ e. omega arith) (λ e. omega arith) (λ e. omega arith)

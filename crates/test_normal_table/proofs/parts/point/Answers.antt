@@ -4,4 +4,4 @@ use Rattle.test_normal_table.proofs.parts.point.Goals as goal
 
 pub returns : goal.returns
 unfolding point_met
-returns c = c.met.ensures
+returns g c = c.met.ensures

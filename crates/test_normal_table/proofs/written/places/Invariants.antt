@@ -2,7 +2,7 @@
 use Rattle.test_normal_table.proofs.written.places.Given as goal
 
 abbrev pub invariant-loop-u : goal.invariant-loop-u
-invariant-loop-u l = Unit {0}
+invariant-loop-u g l = Unit {0}
 
 abbrev pub decreases-loop-u : goal.decreases-loop-u
-decreases-loop-u l = l.u
+decreases-loop-u g l = l.u

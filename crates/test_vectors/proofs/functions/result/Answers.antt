@@ -2,6 +2,7 @@
 use mathlib.Core.Path.{◌≡◌, ◌∙◌}
 use mathlib.Core.Bool.{cond}
 use Prim.Native.Nat.{ℕ}
+use native.Mathlib.Omega.{arith}
 use borrow.Author.Tests.{ne_eqb}
 use lib.Ieee.{Float}
 use lib.Ieee.Scale.{finite}
@@ -103,6 +104,4 @@ returns-in-13 c = let s = c.args in named _ 13 s.a s.b s.c _ c.in-13.is c.abs.en
 pub returns-in_default : goal.returns-in_default
 returns-in_default c =
     let s = c.args in
-    let x = c.match.rest in
-    c.finite.ensures
-    ∙ last _ s.a s.b s.c x.0.0.0.0.0.0.0.0.0.0.0.0.1 x.0.0.0.0.0.0.0.0.0.0.0.1 x.0.0.0.0.0.0.0.0.0.0.1 x.0.0.0.0.0.0.0.0.0.1 x.0.0.0.0.0.0.0.0.1 x.0.0.0.0.0.0.0.1 x.0.0.0.0.0.0.1 x.0.0.0.0.0.1 x.0.0.0.0.1 x.0.0.0.1 x.0.0.1 x.0.1 x.1
+    c.finite.ensures ∙ last s.function s.a s.b s.c (λ e. omega arith) (λ e. omega arith) (λ e. omega arith) (λ e. omega arith) (λ e. omega arith) (λ e. omega arith) (λ e. omega arith) (λ e. omega arith) (λ e. omega arith) (λ e. omega arith) (λ e. omega arith) (λ e. omega arith) (λ e. omega arith)

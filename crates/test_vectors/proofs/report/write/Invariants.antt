@@ -3,7 +3,7 @@ use Prim.Native.Nat.{◌≤◌, ◌-◌}
 use Rattle.test_vectors.proofs.report.write.Given as goal
 
 abbrev pub invariant-loop-function : goal.invariant-loop-function
-invariant-loop-function l = l.function ≤ 15
+invariant-loop-function g l = l.function ≤ 15
 
 abbrev pub decreases-loop-function : goal.decreases-loop-function
-decreases-loop-function l = 15 - l.function
+decreases-loop-function g l = 15 - l.function

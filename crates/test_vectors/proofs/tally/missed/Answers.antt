@@ -5,4 +5,4 @@ use lib.ListN.{set}
 use Rattle.test_vectors.proofs.tally.missed.Goals as goal
 
 pub returns : goal.returns
-returns c = ((c.one_more-2.ensures, ap (λ (x : ℕ). set c.args.t.differ c.args.slot x) c.one_more.ensures), (refl, refl, refl))
+returns c = record { differing_value = (c.one_more-2.ensures, ap (λ (x : ℕ). set c.args.t.differ c.args.slot x) c.one_more.ensures); rest = (refl, refl, refl) }

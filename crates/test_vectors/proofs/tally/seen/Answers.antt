@@ -5,4 +5,4 @@ use lib.ListN.{set}
 use Rattle.test_vectors.proofs.tally.seen.Goals as goal
 
 pub returns : goal.returns
-returns c = (record { records_is = c.one_more-2.ensures; seen_is = ap (λ (x : ℕ). set c.args.t.seen c.args.slot x) c.one_more.ensures }, (refl, refl, refl))
+returns c = record { seen = record { records_is = c.one_more-2.ensures; seen_is = ap (λ (x : ℕ). set c.args.t.seen c.args.slot x) c.one_more.ensures }; rest = (refl, refl, refl) }

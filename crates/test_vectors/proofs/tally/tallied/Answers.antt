@@ -18,10 +18,13 @@ loop-at-preserved c =
     let p = c.parsed.ensures in
     let n = c.after-now.ensures in
     let s = c.args.s.now in
-    (search rules, records_turn (length s) l.at _ _ h n.one_seen.records_is ∙ l.invariant.1, differing_turn s (length s) l.at _ _ _ h (agrees_at _ _ _ _ _ s l.at p.0 p.1.0 p.1.1) n.differing_is ∙ l.invariant.2)
+    (search rules, records_turn (length s) l.at _ _ h n.one_seen.records_is ∙ l.invariant.1, differing_turn s (length s) l.at _ _ _ h (agrees_at _ _ _ _ _ s l.at p.function p.arguments p.expected) n.differing_is ∙ l.invariant.2)
 
 pub returns : goal.returns
 returns c =
     let l = c.loop-at in
     let s = c.args.s.now in
-    (records_end (length s) l.at _ _ c.loop-at-test.false l.invariant.1, differing_end s (length s) l.at _ _ c.loop-at-test.false l.invariant.2)
+    record {
+      records = records_end (length s) l.at _ _ c.loop-at-test.false l.invariant.1;
+      differing = differing_end s (length s) l.at _ _ c.loop-at-test.false l.invariant.2;
+    }
