@@ -16,7 +16,8 @@ pub extern "C" fn calstwid_piece(file: &[u8], k: usize, out: &mut [u8]) -> Count
     ensures answer { result ≡ count_report_of (piece_outcome file.now k (length out.old)) }
     ensures output { out.new ≡ stored_of (piece_outcome file.now k (length out.old)) out.old }
 {
-    if out.len() < 131072 {
+    let is_short = out.len() < 131072;
+    if is_short {
         return reports::count_report(Answer::Refused(Refusal::Size), 0);
     }
     let n = file_output::piece(file, k, out);

@@ -87,7 +87,8 @@ pub fn residual(
         return price;
     };
     let value = model - market;
-    if value != value {
+    let is_nan = value != value;
+    if is_nan {
         return Price::Refused(Refusal::NanReached);
     }
     Price::Served(value)
