@@ -14,17 +14,17 @@ PREFIX = "calstwid_"
 SCALARS = {"f64": "double", "u64": "uint64_t", "u32": "uint32_t", "u8": "uint8_t", "usize": "size_t", "bool": "bool"}
 # where each limit stands that the header repeats: the definition's file and its words
 LIMITS = {
-    "CALSTWID_MAX_PILLARS": ("crates/refusals/specs/Faults.antt", r"pillarFaults \w+ \w+ = record \{\s*size = ltb (\d+) "),
-    "CALSTWID_MAX_CURVE": ("crates/refusals/specs/Faults.antt", r"curveFaults \w+ \w+ = record \{\s*size = ltb (\d+) "),
-    "CALSTWID_MAX_COUPONS": ("crates/refusals/specs/Faults.antt", r"couponFaults \w+ \w+ = record \{\s*size = ltb (\d+) "),
-    "CALSTWID_MAX_GRID": ("crates/refusals/specs/Faults.antt", r"[gG]ridFaults [\w ]+ = record \{\s*size = ltb (\d+) "),
-    "CALSTWID_MAX_DRAWS": ("crates/draws/specs/Draws.antt", r"drawRules \w+ \w+ = rule R\.Size \(ltb (\d+) "),
+    "CALSTWID_MAX_PILLARS": ("crates/refusals/specs/Faults.antt", r"pillar_faults \w+ \w+ = record \{\s*size = ltb (\d+) "),
+    "CALSTWID_MAX_CURVE": ("crates/refusals/specs/Faults.antt", r"curve_faults \w+ \w+ = record \{\s*size = ltb (\d+) "),
+    "CALSTWID_MAX_COUPONS": ("crates/refusals/specs/Faults.antt", r"coupon_faults \w+ \w+ = record \{\s*size = ltb (\d+) "),
+    "CALSTWID_MAX_GRID": ("crates/refusals/specs/Faults.antt", r"grid_faults [\w ]+ = record \{\s*size = ltb (\d+) "),
+    "CALSTWID_MAX_DRAWS": ("crates/draws/specs/Draws.antt", r"draw_rules \w+ \w+ = rule R\.Size \(ltb (\d+) "),
     "CALSTWID_MAX_TERMS": ("crates/pricer_critical_rate/specs/Find.antt", r"rule R\.Size \(ltb (\d+) \(length cs\)"),
-    "CALSTWID_MAX_BASKET": ("crates/basket_entries/specs/Entries.antt", r"sizeWrong [\w ]+ = ltb (\d+) "),
+    "CALSTWID_MAX_BASKET": ("crates/basket_entries/specs/Entries.antt", r"size_wrong [\w ]+ = ltb (\d+) "),
     "CALSTWID_MAX_STEPS": ("crates/hullwhite_transitions/specs/Transition.antt", r"rule R\.Size \([^\n]*ltb (\d+) steps"),
     "CALSTWID_MAX_FILE_BYTES": ("crates/file_layout/specs/Layout.antt", r"bounded size = leb size (\d+) "),
-    "CALSTWID_MAX_JOBS": ("crates/file_layout/specs/Layout.antt", r"records 40 (\d+) \(l \.jobs\)"),
-    "CALSTWID_PIECE_BYTES": (EXPORTS + "/file.rt", r"if out\.len\(\) < (\d+) \{"),
+    "CALSTWID_MAX_JOBS": ("crates/file_layout/specs/Layout.antt", r"records 40 (\d+) l\.jobs"),
+    "CALSTWID_PIECE_BYTES": (EXPORTS + "/file.rt", r"out\.len\(\) < (\d+);"),
 }
 
 
@@ -117,7 +117,7 @@ def read_rattle(texts):
         uses = {name: crate for crate, name in re.findall(r"^use (\w+)::(\w+);", text, re.M) if crate not in ("super", "crate", "self")}
         for crate, names in re.findall(r"^use (\w+)::\{([^}]*)\};", text, re.M):
             uses.update((name.strip(), crate) for name in names.split(",") if crate not in ("super", "crate", "self"))
-        shape = r'#\[no_mangle\]\s*pub extern "C" fn (\w+)\s*\(([^()]*)\)\s*->\s*(\w+)\s*(.*?)^\}'
+        shape = r'#\[unsafe\(no_mangle\)\]\s*pub extern "C" fn (\w+)\s*\(([^()]*)\)\s*->\s*(\w+)\s*(.*?)^\}'
         found = list(re.finditer(shape, text, re.S | re.M))
         for words in ('extern "C"', "no_mangle"):
             if text.count(words) != len(found):
