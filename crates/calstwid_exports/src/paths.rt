@@ -132,16 +132,9 @@ pub extern "C" fn calstwid_generate_published_seeded(
     ensures answer { result ≡ draws_report_of (seeded_outcome Published alpha pillars.now sigmas.now times.now factors.now grid.now seed (length out.old)) (reached_by (length grid.now) seed) }
     ensures output { out.new ≡ stored_of (seeded_outcome Published alpha pillars.now sigmas.now times.now factors.now grid.now seed (length out.old)) out.old }
 {
+    let centre = Centre::Published;
     seeded(
-        Centre::Published,
-        alpha,
-        pillars,
-        sigmas,
-        times,
-        factors,
-        grid,
-        seed,
-        out,
+        centre, alpha, pillars, sigmas, times, factors, grid, seed, out,
     )
 }
 

@@ -157,11 +157,14 @@ pub fn draws_report(drawn: Drawn, count: u64) -> DrawsReport
             count,
             state,
         },
-        Drawn::Refused(refusal) => DrawsReport {
-            answer: refusals::number(refusal),
-            count: 0,
-            state: 0,
-        },
+        Drawn::Refused(refusal) => {
+            let told = count_report(Answer::Refused(refusal), count);
+            DrawsReport {
+                answer: told.answer,
+                count: told.count,
+                state: 0,
+            }
+        }
     }
 }
 

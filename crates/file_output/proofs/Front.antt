@@ -1,10 +1,10 @@
 -- What a buffer holds that a piece of the output is written to. Assumes nothing.
-use mathlib.Core.Path.{◌≡◌, refl, sym, ◌∙◌, ap}
+use mathlib.Core.Path.{◌≡◌, refl, sym}
 use mathlib.Core.Bool.{true, false, cond}
 use mathlib.Core.List.{List, [], ◌∷◌}
-use Prim.Native.Nat.{ℕ, zero, suc, ◌+◌, ◌-◌, ◌*◌, ◌/◌, ◌≤◌, ◌<◌}
+use Prim.Native.Nat.{ℕ, suc, ◌+◌, ◌*◌, ◌/◌, ◌≤◌, ◌<◌}
 use native.Mathlib.Omega.{arith}
-use lib.ListN.{length, take, drop, get_or-eq_default}
+use lib.ListN.{get_or-eq_default}
 use Rattle.file_layout.specs.declared.parts.Layout.{Layout}
 use Rattle.file_layout.specs.declared.parts.Laid.TheVariants.{Parts, Broken}
 use Rattle.file_layout.specs.Layout.{layout_of}

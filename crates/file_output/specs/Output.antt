@@ -1,5 +1,5 @@
 -- The bytes that the program must print, for every file. Document 01: "The program reads standard input and prints `job kind answer value note`, then a line a job".
-use Rattle.std.specs.Prelude.{ℕ, zero, suc, cond, List, [], ◌∷◌, ◌++◌, eqb, length, Float}
+use Rattle.std.specs.Prelude.{ℕ, suc, cond, List, [], ◌∷◌, ◌++◌, eqb, length, Float}
 use Rattle.ieee.specs.Numbers as Numbers
 use Rattle.refusals.specs.Refusals.{Outcome, served, refused, number_of}
 use Rattle.hullwhite_points.specs.declared.walk.Centre.{Centre}

@@ -1,7 +1,7 @@
 -- The output of every file as the pieces that the program sends one by one: the header or `refused 1`, and then the lines of each job.
 use Rattle.std.specs.Prelude.{◌≡◌, Bool, true, false, cond, List, [], ◌∷◌, ◌++◌, eqb, length, get_or, Float}
 use Rattle.std.proofs.Math.Path.{refl}
-use Rattle.std.proofs.Common.{sym, ap, subst, append-nil}
+use Rattle.std.proofs.Common.{ap, append-nil}
 use Prim.Native.Nat.{ℕ, zero, suc, ◌+◌, ◌*◌, ◌/◌, ◌<◌}
 use native.Mathlib.Omega.{arith}
 use Rattle.ieee.specs.Numbers as Numbers

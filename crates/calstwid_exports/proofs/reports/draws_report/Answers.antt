@@ -5,4 +5,4 @@ pub returns-in-Reached : goal.returns-in-Reached
 returns-in-Reached c = rw c.in-Reached.is
 
 pub returns-in-Refused : goal.returns-in-Refused
-returns-in-Refused c = rw (c.in-Refused.is, c.number.ensures)
+returns-in-Refused c = rw (c.in-Refused.is, c.count_report-told.ensures)

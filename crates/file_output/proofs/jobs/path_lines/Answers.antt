@@ -1,7 +1,6 @@
 -- `file_output::jobs::path_lines` meets its contract: a refusal's line, the line of an empty grid, or the lines of the points that the path's list then holds. Assumes nothing.
-use mathlib.Core.Path.{◌≡◌, sym, ◌∙◌}
+use mathlib.Core.Path.{sym, ◌∙◌}
 use mathlib.Core.List.{List}
-use Prim.Native.Nat.{ℕ}
 use native.Mathlib.Omega.{arith}
 use lib.ListN.{length, replicate}
 use lib.Ieee.{Float}
