@@ -53,13 +53,7 @@ fn serve_file<W: Write>(file: &[u8], sent: Sent, due: &mut usize, output: &mut W
 }
 
 // The jobs, on the lists that are read here, once. The layout is that of the file, whose header is sent.
-fn serve_jobs<W: Write>(
-    file: &[u8],
-    l: Layout,
-    sent: Sent,
-    due: &mut usize,
-    output: &mut W,
-) -> Sent
+fn serve_jobs<W: Write>(file: &[u8], l: Layout, sent: Sent, due: &mut usize, output: &mut W) -> Sent
     requires { (layout_of file.now ≡ Parts l) × Due file.now sent due.old × (due.old ≡ 1) }
     ensures done { Done file.now result }
     ensures handed { Handed (W.contents output.old) (W.contents output.new) (joined (drop 1 (pieces_of file.now))) result.failed }

@@ -5,7 +5,7 @@ use mathlib.Core.Logic.{inl, inr}
 use Prim.Native.Nat.{◌+◌}
 use native.Mathlib.Omega.{arith}
 use Rattle.file_layout.proofs.Kept.{kept}
-use Rattle.file_output.specs.Pieces.{pieces_of, piece_of, count_is}
+use Rattle.file_output.specs.Pieces.{pieces_of, count_is}
 use Rattle.file_serving.proofs.Handing.{begun, handed_next, handed_stopped, handed_all}
 use Rattle.file_serving.proofs.Sending.{job_due, all_sent, same_file, due_of, next_due}
 use Rattle.file_serving.proofs.serve.each_job.Goals as goal

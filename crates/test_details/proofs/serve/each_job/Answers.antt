@@ -1,5 +1,4 @@
 -- `test_details::serve::each_job` is safe: each job has all that its lines ask. Assumes nothing.
-use borrow.Author.Rules.{rules}
 use mathlib.Core.Path.{◌∙◌}
 use native.Mathlib.Omega.{arith}
 use Rattle.file_layout.proofs.Kept.{kept}
