@@ -15,7 +15,8 @@ pub fn float_at(s: &[u8], at: usize) -> f64
 pub fn float_of(b: u64) -> f64
     ensures { result ≡ float_of b }
 {
-    if b % 0x8000_0000_0000_0000 <= 0x7ff0_0000_0000_0000 {
+    let is_number = b % 0x8000_0000_0000_0000 <= 0x7ff0_0000_0000_0000;
+    if is_number {
         f64::from_bits(b)
     } else {
         0.0 / 0.0

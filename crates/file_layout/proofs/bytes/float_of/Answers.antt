@@ -21,8 +21,8 @@ above_is_nan b h = only_nan _ (sym (nan_bits_is binary64 b) ∙ nan_bits_above b
 pub float_from_bits-result : goal.float_from_bits-result
 float_from_bits-result c =
     let b = c.args.b in
-    subst (λ (t : Bool). T (not t)) (sym (nan_bits_above binary64 b ∙ le-ltb 0x7ff0_0000_0000_0000 (b % 2 ^ 63) c.if-b-le9218868437227405312.true)) tt
+    subst (λ (t : Bool). T (not t)) (sym (nan_bits_above binary64 b ∙ le-ltb 0x7ff0_0000_0000_0000 (b % 2 ^ 63) c.if-is_number.true)) tt
 
-pub returns-else-b-le9218868437227405312 : goal.returns-else-b-le9218868437227405312
+pub returns-else-is_number : goal.returns-else-is_number
 unfolding div of_bits
-returns-else-b-le9218868437227405312 c = above_is_nan c.args.b c.if-b-le9218868437227405312.false
+returns-else-is_number c = above_is_nan c.args.b c.if-is_number.false
