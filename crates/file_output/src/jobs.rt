@@ -118,7 +118,8 @@ fn path_lines(
             out,
         );
     }
-    if n == 0 {
+    let is_empty = n == 0;
+    if is_empty {
         return one_line(
             Line {
                 job: k,

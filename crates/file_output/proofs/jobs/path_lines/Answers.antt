@@ -27,15 +27,15 @@ returns-in-Refused c =
     let gave = same_room path work n c.requires.1 g.result g.ensures.answer in
     refused_line_lem a.k a.kind (path n) _ _ _ _ c.number.result (was_refused (path n) g.result _ c.in-Refused.is gave) c.number.ensures c.one_line.ensures
 
-pub returns-then-n-eq0 : goal.returns-then-n-eq0
-returns-then-n-eq0 c =
+pub returns-then-is_empty : goal.returns-then-is_empty
+returns-then-is_empty c =
     let a = c.args in
     let g = c.generate_on-answer in
     let n = length a.grid.now in
     let path = generate_outcome a.centre a.alpha a.pillars.now a.sigmas.now a.times.now a.factors.now a.grid.now a.draws.now in
     let v = was_served (path n) g.result c.in_default.is (same_room path work n c.requires.1 g.result g.ensures.answer) in
     let same = path_length a.centre a.alpha a.pillars.now a.sigmas.now a.times.now a.factors.now a.grid.now a.draws.now n v.0 v.1 in
-    empty_line a.k a.kind (path n) _ _ _ v.0 v.1 (same ∙ c.if-n-eq0.true) c.one_line-then-n-eq0.ensures
+    empty_line a.k a.kind (path n) _ _ _ v.0 v.1 (same ∙ c.if-is_empty.true) c.one_line-then-is_empty.ensures
 
 pub slice_bounds-values-end-2 : goal.slice_bounds-values-end-2
 slice_bounds-values-end-2 c = let g = c.generate_on-answer in back_fits work _ c.requires.1 g.new.out g.auto.out
@@ -56,4 +56,4 @@ returns c =
     let path = generate_outcome a.centre a.alpha a.pillars.now a.sigmas.now a.times.now a.factors.now a.grid.now a.draws.now in
     let v = was_served (path n) g.result c.in_default.is (same_room path work n c.requires.1 g.result g.ensures.answer) in
     let same = path_length a.centre a.alpha a.pillars.now a.sigmas.now a.times.now a.factors.now a.grid.now a.draws.now n v.0 v.1 in
-    point_by_point a.k a.kind (path n) _ _ _ v.0 _ v.1 (λ z. c.if-n-eq0.false (sym same ∙ z)) (values_are work n c.requires.1 g.new.out g.auto.out ∙ left_is path work n c.requires.1 v.0 g.new.out v.1 same g.ensures.output) c.point_lines.ensures
+    point_by_point a.k a.kind (path n) _ _ _ v.0 _ v.1 (λ z. c.if-is_empty.false (sym same ∙ z)) (values_are work n c.requires.1 g.new.out g.auto.out ∙ left_is path work n c.requires.1 v.0 g.new.out v.1 same g.ensures.output) c.point_lines.ensures

@@ -1,7 +1,8 @@
 -- `file_serving::serve::serve_input` meets its contract: the file that is served is the one that was read. Assumes nothing.
 use mathlib.Core.Path.{refl, sym}
+use Prim.Native.Nat.{ℕ}
 use native.Mathlib.Omega.{arith}
-use lib.Seq.{length-take-le}
+use lib.ListN.{length-take}
 use Rattle.file_serving.proofs.Sending.{read_is}
 use Rattle.file_serving.proofs.serve.serve_input.Goals as goal
 
@@ -9,7 +10,7 @@ pub slice_bounds-bytes-end : goal.slice_bounds-bytes-end
 slice_bounds-bytes-end g c = omega (arith, c.receive-sent.ensures.due.1, c.length-n.ensures)
 
 pub slice_bounds-serve_file-end : goal.slice_bounds-serve_file-end
-slice_bounds-serve_file-end g c = sym (length-take-le _ _ (omega (arith, c.receive-sent.ensures.due.1, c.length-n.ensures)))
+slice_bounds-serve_file-end g c = omega (arith, length-take {A = ℕ}, c.receive-sent.ensures.due.1, c.length-n.ensures)
 
 pub serve_file-requires : goal.serve_file-requires
 serve_file-requires g c =
