@@ -1,5 +1,5 @@
 -- `file_serving::serve::serve_input` meets its contract: the file that is served is the one that was read. Assumes nothing.
-use mathlib.Core.Path.{refl, sym}
+use mathlib.Core.Path.{refl}
 use Prim.Native.Nat.{ℕ}
 use native.Mathlib.Omega.{arith}
 use lib.ListN.{length-take}
