@@ -144,12 +144,12 @@ def read_rattle(texts):
             abi.functions[name] = (returned, arguments)
     refusals = texts.get(REFUSALS, "")
     variants = re.search(r"pub enum Refusal \{([^{}]*)\}", refusals)
-    arms = re.search(r"pub fn number\(refusal: Refusal\).*?match refusal \{([^{}]*)\}", refusals, re.S)
+    arms = re.search(r"impl From<Refusal> for u64 \{.*?match refusal \{([^{}]*)\}", refusals, re.S)
     if variants is None or arms is None:
-        raise Fault(f"{REFUSALS}: no `Refusal` or no `number`")
+        raise Fault(f"{REFUSALS}: no `Refusal` or no number of it")
     numbers = dict(re.findall(r"Refusal::(\w+) => (\d+),", arms[1]))
     if sorted(numbers) != sorted(pieces(variants[1], ",")):
-        raise Fault(f"{REFUSALS}: `number` and `Refusal` have other variants")
+        raise Fault(f"{REFUSALS}: the numbers and `Refusal` have other variants")
     abi.answers = {"CALSTWID_SERVED": 0}
     abi.answers.update(("CALSTWID_" + snake(name).upper(), int(number)) for name, number in numbers.items())
     for name, (path, shape) in LIMITS.items():

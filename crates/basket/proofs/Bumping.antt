@@ -1,4 +1,6 @@
 -- The bumped fits of a basket, one after another, as its fits are: one entry's, and what stands in the lent lists after i turns. Assumes nothing.
+use Rattle.std.specs.Prelude.{Ok, Err}
+use Rattle.std.specs.Result.{IsErrAnd}
 use mathlib.Core.Path.{◌≡◌, refl, ◌∙◌}
 use mathlib.Core.Bool.{Bool, true, false}
 use mathlib.Core.List.{List, [], ◌∷◌, ◌++◌, append-nil}
@@ -11,11 +13,8 @@ use lib.Ieee.Scale.{finite}
 use Rattle.ieee.specs.Rounded.{◌⊕◌}
 use Rattle.refusals.specs.declared.refusals.Refusal.{Refusal}
 use Rattle.refusals.specs.declared.refusals.Refusal.TheVariants as R
-use Rattle.refusals.specs.Refusals.{Outcome, served, refused, following}
+use Rattle.refusals.specs.Refusals.{Outcome, following}
 use Rattle.math_bisection.specs.declared.result.Fit.{Fit}
-use Rattle.math_bisection.specs.declared.result.Fitted.{Fitted}
-use Rattle.math_bisection.specs.declared.result.Fitted.TheVariants as F
-use Rattle.math_bisection.specs.Result.{fitted_outcome}
 use Rattle.hullwhite_formulas.specs.declared.instruments.Optionlet.{Optionlet}
 use Rattle.fit_objective.specs.declared.market.Quote.{Quote}
 use Rattle.fit.specs.Fits.{caplet_fitted}
@@ -24,46 +23,48 @@ use Rattle.basket_entries.proofs.Walks.{from, entry_at, next_entry, no_entries}
 use Rattle.basket.specs.Lent.{entry_of}
 use Rattle.basket.specs.Basket.{diagonal_of, status_of, Bumps, bump_of, with_bump, bumps_of}
 use Rattle.basket.proofs.Literals.{bump_is}
+use Rattle.refusals.proofs.Outcomes.{handed_on}
 use Rattle.refusals.proofs.Walks.{next, longer}
 
 -- ---- one entry's bumped fit
-module _ (alpha : Float) (xs fs : List Float) (quote : Quote) (caplet : Optionlet) (sigma : Float) (fitted : Fitted) (h : fitted_outcome fitted ≡ caplet_fitted quote.vol_type alpha xs fs caplet.strike caplet.start caplet.end (quote.volatility ⊕ of_bits binary64 0x3eb0_c6f7_a0b5_ed8d)) where
-  pub bump_refused : {r : Refusal} → fitted ≡ F.Refused r → fitted_outcome fitted ≡ bump_of alpha xs fs (entry_of quote caplet) sigma
-  unfolding bump_of
-  bump_refused e = rw (← bump_is, ← h, e)
+module _ (alpha : Float) (xs fs : List Float) (quote : Quote) (caplet : Optionlet) (sigma : Float) where
+  abbrev bumped_fit : Outcome Fit
+  bumped_fit = caplet_fitted quote.vol_type alpha xs fs caplet.strike caplet.start caplet.end (quote.volatility ⊕ of_bits binary64 0x3eb0_c6f7_a0b5_ed8d)
 
-  pub bump_kept : {fit : Fit} {d : Float} {b : Bool} → fitted ≡ F.Served fit → d ≡ diagonal_of fit.sigma sigma → b ≡ finite d → b ≡ true → served fit ≡ bump_of alpha xs fs (entry_of quote caplet) sigma
+  pub bump_refused : {r : Refusal} {gave : Outcome Fit} → Err r ≡ bumped_fit → IsErrAnd gave (λ q. q ≡ r) → gave ≡ bump_of alpha xs fs (entry_of quote caplet) sigma
   unfolding bump_of
-  bump_kept e p z w = rw (← bump_is, ← h, e, ← p, ← z, w)
+  bump_refused h i = handed_on i ∙ rw (← bump_is, ← h)
 
-  pub bump_lost : {fit : Fit} {d : Float} {b : Bool} → fitted ≡ F.Served fit → d ≡ diagonal_of fit.sigma sigma → b ≡ finite d → b ≡ false → refused R.Overflow ≡ bump_of alpha xs fs (entry_of quote caplet) sigma
-  unfolding bump_of
-  bump_lost e p z w = rw (← bump_is, ← h, e, ← p, ← z, w)
+  module _ {fit : Fit} (h : Ok fit ≡ bumped_fit) {d : Float} {b : Bool} (p : d ≡ diagonal_of fit.sigma sigma) (z : b ≡ finite d) where
+    pub bump_kept : b ≡ true → Ok fit ≡ bump_of alpha xs fs (entry_of quote caplet) sigma
+    unfolding bump_of
+    bump_kept w = rw (← bump_is, ← h, ← p, ← z, w)
+
+    pub bump_lost : b ≡ false → Err R.Overflow ≡ bump_of alpha xs fs (entry_of quote caplet) sigma
+    unfolding bump_of
+    bump_lost w = rw (← bump_is, ← h, ← p, ← z, w)
 
 -- ---- as the walk takes it apart
-module _ (alpha : Float) (xs fs : List Float) (sigma : Float) {quote asked : Quote} {caplet named : Optionlet} (q : quote ≡ asked) (k : caplet ≡ named) (fitted : Fitted) (h : fitted_outcome fitted ≡ bump_of alpha xs fs (entry_of quote caplet) sigma) where
-  pub bump_gave : {fit : Fit} → fitted ≡ F.Served fit → bump_of alpha xs fs (entry_of asked named) sigma ≡ served fit
-  bump_gave e = rw (← q, ← k, ← h, e)
-
-  pub bump_gave_none : {r : Refusal} → fitted ≡ F.Refused r → bump_of alpha xs fs (entry_of asked named) sigma ≡ refused r
-  bump_gave_none e = rw (← q, ← k, ← h, e)
+pub bump_is_of : (alpha : Float) (xs fs : List Float) (sigma : Float) {quote asked : Quote} {caplet named : Optionlet} → quote ≡ asked → caplet ≡ named → {o : Outcome Fit} → o ≡ bump_of alpha xs fs (entry_of quote caplet) sigma
+    → bump_of alpha xs fs (entry_of asked named) sigma ≡ o
+bump_is_of alpha xs fs sigma q k h = rw (← q, ← k, ← h)
 
 -- ---- an outcome with some bumps before its own
 abbrev pub behind : List Float → List Float → Outcome Bumps → Outcome Bumps
-behind ds cs (served o) = served (record { diagonal = ds ++ o.diagonal; statuses = cs ++ o.statuses })
-behind ds cs (refused r) = refused r
+behind ds cs (Ok o) = Ok (record { diagonal = ds ++ o.diagonal; statuses = cs ++ o.statuses })
+behind ds cs (Err r) = Err r
 
 behind_none : (o : Outcome Bumps) → o ≡ behind [] [] o
-behind_none (served o) = refl
-behind_none (refused r) = refl
+behind_none (Ok o) = refl
+behind_none (Err r) = refl
 
-same : {a a' b b' : List Float} → a ≡ a' → b ≡ b' → ◌≡◌ {A = Outcome Bumps} (served (record { diagonal = a; statuses = b })) (served (record { diagonal = a'; statuses = b' }))
+same : {a a' b b' : List Float} → a ≡ a' → b ≡ b' → ◌≡◌ {A = Outcome Bumps} (Ok (record { diagonal = a; statuses = b })) (Ok (record { diagonal = a'; statuses = b' }))
 same p q = rw (p, q)
 
 behind_bump : (ds cs : List Float) (i : ℕ) (sigma : Float) (v : Fit) (d status : Float) (o : Outcome Bumps) → d ≡ diagonal_of v.sigma sigma → status ≡ status_of v.converged → i < length ds → i < length cs
-    → behind (take i ds) (take i cs) (following o (λ rest. served (with_bump sigma v rest))) ≡ behind (take (i + 1) (set ds i d)) (take (i + 1) (set cs i status)) o
-behind_bump ds cs i sigma v d status (served o) p q a b = rw (p, q) (same (longer ds i (diagonal_of v.sigma sigma) o.diagonal a) (longer cs i (status_of v.converged) o.statuses b))
-behind_bump ds cs i sigma v d status (refused r) p q a b = refl
+    → behind (take i ds) (take i cs) (following o (λ rest. Ok (with_bump sigma v rest))) ≡ behind (take (i + 1) (set ds i d)) (take (i + 1) (set cs i status)) o
+behind_bump ds cs i sigma v d status (Ok o) p q a b = rw (p, q) (same (longer ds i (diagonal_of v.sigma sigma) o.diagonal a) (longer cs i (status_of v.converged) o.statuses b))
+behind_bump ds cs i sigma v d status (Err r) p q a b = refl
 
 -- ---- i of the bumps are in the lent lists
 pub record Bumping (alpha : Float) (xs fs : List Float) (ns : List Bool) (ks ts ends vs ss : List Float) (i : ℕ) (ds cs : List Float) : Type 0 where
@@ -89,7 +90,7 @@ module _ {alpha : Float} {xs fs : List Float} {ns : List Bool} {ks ts ends vs ss
     sigma_here : drop i ss ≡ get_or ss i nan ∷ drop (i + 1) ss
     sigma_here = let l : i < length ss = omega arith in next ss i l
 
-    pub turn : {fit : Fit} {x status : Float} → x ≡ diagonal_of fit.sigma (get_or ss i nan) → status ≡ status_of fit.converged → bump_of alpha xs fs (entry_at ns ks ts ends vs i) (get_or ss i nan) ≡ served fit
+    pub turn : {fit : Fit} {x status : Float} → x ≡ diagonal_of fit.sigma (get_or ss i nan) → status ≡ status_of fit.converged → bump_of alpha xs fs (entry_at ns ks ts ends vs i) (get_or ss i nan) ≡ Ok fit
         → Bumping alpha xs fs ns ks ts ends vs ss (i + 1) (set ds i x) (set cs i status)
     unfolding bumps_of
     turn {fit} {x} {status} p z q =
@@ -107,11 +108,11 @@ module _ {alpha : Float} {xs fs : List Float} {ns : List Bool} {ks ts ends vs ss
           bumped = f.bumped ∙ rw (here, sigma_here, q) (behind_bump ds cs i (get_or ss i nan) fit x status (bumps_of alpha xs fs (from ns ks ts ends vs (i + 1)) (drop (i + 1) ss)) p z a b);
         }
 
-    pub stop : {r : Refusal} → bump_of alpha xs fs (entry_at ns ks ts ends vs i) (get_or ss i nan) ≡ refused r → bumps_of alpha xs fs (entries_of ns ks ts ends vs) ss ≡ refused r
+    pub stop : {r : Refusal} → bump_of alpha xs fs (entry_at ns ks ts ends vs i) (get_or ss i nan) ≡ Err r → bumps_of alpha xs fs (entries_of ns ks ts ends vs) ss ≡ Err r
     unfolding bumps_of
     stop q = f.bumped ∙ rw (here, sigma_here, q)
 
-  pub end : {i : ℕ} → length ns ≤ i → Bumping alpha xs fs ns ks ts ends vs ss i ds cs → bumps_of alpha xs fs (entries_of ns ks ts ends vs) ss ≡ served (record { diagonal = ds; statuses = cs })
+  pub end : {i : ℕ} → length ns ≤ i → Bumping alpha xs fs ns ks ts ends vs ss i ds cs → bumps_of alpha xs fs (entries_of ns ks ts ends vs) ss ≡ Ok (record { diagonal = ds; statuses = cs })
   unfolding bumps_of
   end {i} h f =
       let a : length ds ≤ i = omega arith in

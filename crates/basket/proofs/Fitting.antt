@@ -1,4 +1,5 @@
 -- The fits of a basket, one after another: after i turns the records of the first i entries are in the lent lists, and what is left to say is what the other entries come to. Assumes nothing.
+use Rattle.std.specs.Prelude.{Ok, Err}
 use mathlib.Core.Path.{◌≡◌, refl, ◌∙◌}
 use mathlib.Core.Bool.{Bool, false}
 use mathlib.Core.List.{List, [], ◌∷◌, ◌++◌, append-nil}
@@ -8,11 +9,8 @@ use lib.ListN.{length, get_or, set, take, length-set}
 use lib.Seq.{take_all}
 use lib.Ieee.{Float, nan}
 use Rattle.refusals.specs.declared.refusals.Refusal.{Refusal}
-use Rattle.refusals.specs.Refusals.{Outcome, served, refused, following}
+use Rattle.refusals.specs.Refusals.{Outcome, following}
 use Rattle.math_bisection.specs.declared.result.Fit.{Fit}
-use Rattle.math_bisection.specs.declared.result.Fitted.{Fitted}
-use Rattle.math_bisection.specs.declared.result.Fitted.TheVariants as F
-use Rattle.math_bisection.specs.Result.{fitted_outcome}
 use Rattle.hullwhite_formulas.specs.declared.instruments.Optionlet.{Optionlet}
 use Rattle.fit_objective.specs.declared.market.Quote.{Quote}
 use Rattle.fit.specs.Fits.{caplet_fitted}
@@ -22,30 +20,27 @@ use Rattle.basket.specs.Basket.{status_of, count_of, Records, with_fit, fits_of}
 use Rattle.refusals.proofs.Walks.{longer}
 
 -- ---- one entry's fit, as the code takes it apart
-module _ (alpha : Float) (xs fs : List Float) {quote asked : Quote} {caplet named : Optionlet} (q : quote ≡ asked) (k : caplet ≡ named) (fitted : Fitted) (h : fitted_outcome fitted ≡ caplet_fitted quote.vol_type alpha xs fs caplet.strike caplet.start caplet.end quote.volatility) where
-  pub fit_served : {fit : Fit} → fitted ≡ F.Served fit → caplet_fitted asked.vol_type alpha xs fs named.strike named.start named.end asked.volatility ≡ served fit
-  fit_served e = rw (← q, ← k, ← h, e)
-
-  pub fit_refused : {r : Refusal} → fitted ≡ F.Refused r → caplet_fitted asked.vol_type alpha xs fs named.strike named.start named.end asked.volatility ≡ refused r
-  fit_refused e = rw (← q, ← k, ← h, e)
+pub fit_is : (alpha : Float) (xs fs : List Float) {quote asked : Quote} {caplet named : Optionlet} → quote ≡ asked → caplet ≡ named → {o : Outcome Fit} → o ≡ caplet_fitted quote.vol_type alpha xs fs caplet.strike caplet.start caplet.end quote.volatility
+    → caplet_fitted asked.vol_type alpha xs fs named.strike named.start named.end asked.volatility ≡ o
+fit_is alpha xs fs q k h = rw (← q, ← k, ← h)
 
 -- ---- an outcome with some records before its own
 abbrev pub behind : List Float → List Float → List Float → List Float → Outcome Records → Outcome Records
-behind ss cs hs rs (served o) = served (record { sigmas = ss ++ o.sigmas; statuses = cs ++ o.statuses; halvings = hs ++ o.halvings; residuals = rs ++ o.residuals })
-behind ss cs hs rs (refused r) = refused r
+behind ss cs hs rs (Ok o) = Ok (record { sigmas = ss ++ o.sigmas; statuses = cs ++ o.statuses; halvings = hs ++ o.halvings; residuals = rs ++ o.residuals })
+behind ss cs hs rs (Err r) = Err r
 
 behind_none : (o : Outcome Records) → o ≡ behind [] [] [] [] o
-behind_none (served o) = refl
-behind_none (refused r) = refl
+behind_none (Ok o) = refl
+behind_none (Err r) = refl
 
-same : {a a' b b' c c' d d' : List Float} → a ≡ a' → b ≡ b' → c ≡ c' → d ≡ d' → ◌≡◌ {A = Outcome Records} (served (record { sigmas = a; statuses = b; halvings = c; residuals = d })) (served (record { sigmas = a'; statuses = b'; halvings = c'; residuals = d' }))
+same : {a a' b b' c c' d d' : List Float} → a ≡ a' → b ≡ b' → c ≡ c' → d ≡ d' → ◌≡◌ {A = Outcome Records} (Ok (record { sigmas = a; statuses = b; halvings = c; residuals = d })) (Ok (record { sigmas = a'; statuses = b'; halvings = c'; residuals = d' }))
 same p q r s = rw (p, q, r, s)
 
 behind_fit : (ss cs hs rs : List Float) (i : ℕ) (v : Fit) (status : Float) (o : Outcome Records) → status ≡ status_of v.converged → i < length ss → i < length cs → i < length hs → i < length rs
-    → behind (take i ss) (take i cs) (take i hs) (take i rs) (following o (λ rest. served (with_fit v rest)))
+    → behind (take i ss) (take i cs) (take i hs) (take i rs) (following o (λ rest. Ok (with_fit v rest)))
     ≡ behind (take (i + 1) (set ss i v.sigma)) (take (i + 1) (set cs i status)) (take (i + 1) (set hs i (count_of v.halvings))) (take (i + 1) (set rs i v.residual)) o
-behind_fit ss cs hs rs i v status (served o) p a b c d = rw p (same (longer ss i v.sigma o.sigmas a) (longer cs i (status_of v.converged) o.statuses b) (longer hs i (count_of v.halvings) o.halvings c) (longer rs i v.residual o.residuals d))
-behind_fit ss cs hs rs i v status (refused r) p a b c d = refl
+behind_fit ss cs hs rs i v status (Ok o) p a b c d = rw p (same (longer ss i v.sigma o.sigmas a) (longer cs i (status_of v.converged) o.statuses b) (longer hs i (count_of v.halvings) o.halvings c) (longer rs i v.residual o.residuals d))
+behind_fit ss cs hs rs i v status (Err r) p a b c d = refl
 
 -- ---- i of the records are in the lent lists
 pub record Fitting (alpha : Float) (xs fs : List Float) (ns : List Bool) (ks ts ends vs : List Float) (i : ℕ) (ss cs hs rs : List Float) : Type 0 where
@@ -69,7 +64,7 @@ module _ {alpha : Float} {xs fs : List Float} {ns : List Bool} {ks ts ends vs : 
     here : from ns ks ts ends vs i ≡ entry_at ns ks ts ends vs i ∷ from ns ks ts ends vs (i + 1)
     here = next_entry ns ks ts ends vs i f.strikes f.starts f.ended f.quoted h
 
-    pub turn : {fit : Fit} {status : Float} → status ≡ status_of fit.converged → caplet_fitted (volatility_type_of (get_or ns i false)) alpha xs fs (get_or ks i nan) (get_or ts i nan) (get_or ends i nan) (get_or vs i nan) ≡ served fit
+    pub turn : {fit : Fit} {status : Float} → status ≡ status_of fit.converged → caplet_fitted (volatility_type_of (get_or ns i false)) alpha xs fs (get_or ks i nan) (get_or ts i nan) (get_or ends i nan) (get_or vs i nan) ≡ Ok fit
         → Fitting alpha xs fs ns ks ts ends vs (i + 1) (set ss i fit.sigma) (set cs i status) (set hs i (count_of fit.halvings)) (set rs i fit.residual)
     unfolding fits_of
     turn {fit} {status} p q =
@@ -90,11 +85,11 @@ module _ {alpha : Float} {xs fs : List Float} {ns : List Bool} {ks ts ends vs : 
           fitted = f.fitted ∙ rw (here, q) (behind_fit ss cs hs rs i fit status (fits_of alpha xs fs (from ns ks ts ends vs (i + 1))) p a b c e);
         }
 
-    pub stop : {r : Refusal} → caplet_fitted (volatility_type_of (get_or ns i false)) alpha xs fs (get_or ks i nan) (get_or ts i nan) (get_or ends i nan) (get_or vs i nan) ≡ refused r → fits_of alpha xs fs (entries_of ns ks ts ends vs) ≡ refused r
+    pub stop : {r : Refusal} → caplet_fitted (volatility_type_of (get_or ns i false)) alpha xs fs (get_or ks i nan) (get_or ts i nan) (get_or ends i nan) (get_or vs i nan) ≡ Err r → fits_of alpha xs fs (entries_of ns ks ts ends vs) ≡ Err r
     unfolding fits_of
     stop q = f.fitted ∙ rw (here, q)
 
-  pub end : {i : ℕ} → length ns ≤ i → Fitting alpha xs fs ns ks ts ends vs i ss cs hs rs → fits_of alpha xs fs (entries_of ns ks ts ends vs) ≡ served (record { sigmas = ss; statuses = cs; halvings = hs; residuals = rs })
+  pub end : {i : ℕ} → length ns ≤ i → Fitting alpha xs fs ns ks ts ends vs i ss cs hs rs → fits_of alpha xs fs (entries_of ns ks ts ends vs) ≡ Ok (record { sigmas = ss; statuses = cs; halvings = hs; residuals = rs })
   unfolding fits_of
   end {i} h f =
       let a : length ss ≤ i = omega arith in

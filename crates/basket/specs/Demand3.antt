@@ -1,27 +1,25 @@
 -- Demand 3 of a basket, entry by entry: what stands in each place is of a fit, and of a bumped fit, that is "held to the same facts as any other".
-use Rattle.std.specs.Prelude.{◌≡◌, Bool, List, ◌∷◌, ◌++◌, ℕ, length, get_or, Float}
+use Rattle.std.specs.Prelude.{◌≡◌, Bool, List, ◌∷◌, ◌++◌, ℕ, length, get_or, Float, Some, Ok, Err}
 use Rattle.ieee.specs.Rounded.{◌⊕◌}
 use Rattle.ieee.specs.Numbers.{zero}
-use Rattle.refusals.specs.declared.refusals.Answer.TheVariants as A
 use Rattle.refusals.specs.declared.refusals.Refusal.TheVariants as R
-use Rattle.refusals.specs.Refusals.{served}
-use Rattle.curve.specs.Lookups.{just, factor_at}
+use Rattle.refusals.specs.Refusals.{Outcome}
+use Rattle.curve.specs.Lookups.{factor_at}
 use Rattle.math_bisection.specs.declared.result.Fit.{Fit}
 use Rattle.math_bisection.specs.Demand3.{Assured}
 use Rattle.fit_objective.specs.Objective.{caplet_objective}
 use Rattle.basket_entries.specs.Entries.{Entry, entries_of}
 use Rattle.basket.specs.declared.call.Basket.{Basket}
-use Rattle.basket.specs.declared.call.BasketFit.{BasketFit}
 use Rattle.basket.specs.Basket.{fit_of, bump, status_of, count_of, diagonal_of}
 
 -- an entry's fit at a quoted volatility
 pub record EntryFitHolds (alpha : Float) (xs fs : List Float) (e : Entry) (vol : Float) : Type 0 where
   pub fit : Fit
-  pub is : fit_of alpha xs fs e vol ≡ served fit
+  pub is : fit_of alpha xs fs e vol ≡ Ok fit
   pub pt : Float
   pub p_s : Float
-  pub at_start : factor_at xs fs e.start ≡ just pt
-  pub at_end : factor_at xs fs e.end ≡ just p_s
+  pub at_start : factor_at xs fs e.start ≡ Some pt
+  pub at_end : factor_at xs fs e.end ≡ Some p_s
   pub assured : Assured (caplet_objective e.quote alpha e.strike e.start e.end vol pt p_s) fit
 
 -- place i of a served basket, which is of the entry e
@@ -36,10 +34,10 @@ pub record PlaceHolds (alpha : Float) (xs fs : List Float) (b : Basket) (i : ℕ
   pub bumped_status_is : get_or b.bumped_statuses i zero ≡ status_of bumped.fit.converged
 
 -- every place of a served basket
-abbrev pub BasketHolds : Float → List Float → List Float → List Bool → List Float → List Float → List Float → List Float → BasketFit → Type 0
+abbrev pub BasketHolds : Float → List Float → List Float → List Bool → List Float → List Float → List Float → List Float → Outcome Basket → Type 0
 BasketHolds alpha xs fs ns ks ts ends vs r =
-    r.answer ≡ A.Served → (before : List Entry) (e : Entry) (behind : List Entry) → entries_of ns ks ts ends vs ≡ before ++ (e ∷ behind) → PlaceHolds alpha xs fs r.basket (length before) e
+    (basket : Basket) → r ≡ Ok basket → (before : List Entry) (e : Entry) (behind : List Entry) → entries_of ns ks ts ends vs ≡ before ++ (e ∷ behind) → PlaceHolds alpha xs fs basket (length before) e
 
 -- a basket of caplets has no search, so it is never refused for want of a bracket
-abbrev pub BasketNeverNoBracket : BasketFit → Type 0
-BasketNeverNoBracket r = r.answer ≡ A.Refused R.NoBracket → ⊥
+abbrev pub BasketNeverNoBracket : Outcome Basket → Type 0
+BasketNeverNoBracket r = r ≡ Err R.NoBracket → ⊥

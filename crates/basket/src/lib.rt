@@ -2,6 +2,7 @@
 #![tactic(auto)]
 
 mod call;
+mod entries;
 mod walk;
 
-pub use call::{Basket, BasketFit, calibrate_to_instruments};
+pub use call::{Basket, calibrate_to_instruments};

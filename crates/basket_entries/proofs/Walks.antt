@@ -1,5 +1,6 @@
--- One turn and the end of a walk along a basket's lists: what the rules say of the entries from place i on, and the entry at place i. Assumes nothing.
-use mathlib.Core.Path.{◌≡◌}
+-- One turn and the end of a walk along a basket's lists: what the rules say of the entries that are left, and the entry at place i. Assumes nothing.
+use mathlib.Core.Path.{◌≡◌, refl}
+use mathlib.Core.Logic.{◌⊎◌, inl, inr}
 use mathlib.Core.Bool.{Bool, true, false, ◌||◌}
 use mathlib.Core.List.{List, [], ◌∷◌}
 use Prim.Native.Nat.{ℕ, ◌+◌, ◌≤◌, ◌<◌}
@@ -9,7 +10,7 @@ use lib.ListN.{length, get_or, drop, drop_of_length-le}
 use lib.Seq.{drop-cons}
 use lib.Ieee.{Float, nan, le}
 use Rattle.ieee.specs.Numbers as Numbers
-use Rattle.refusals.proofs.Walks.{next, done}
+use Rattle.refusals.proofs.Walks.{next}
 use Rattle.fit_objective.specs.declared.market.VolatilityType.{VolatilityType}
 use Rattle.fit.specs.Fits.{strike_wrong}
 use Rattle.basket_entries.specs.Entries.{Entry, volatility_type_of, entries_of, times_wrong, domain_wrong}
@@ -21,46 +22,53 @@ next_quote ns i h = rw (add-one, drop-cons ns i false)
 no_quotes : (ns : List Bool) (i : ℕ) → length ns ≤ i → drop i ns ≡ []
 no_quotes ns i h = drop_of_length-le ns h
 
--- ---- rule 5
-module _ (ts ends : List Float) (i : ℕ) where
-  pub times_turn : i < length ts → i < length ends → (le (get_or ts i nan) Numbers.zero || le (get_or ends i nan) (get_or ts i nan)) ≡ false → times_wrong (drop i ts) (drop i ends) ≡ times_wrong (drop (i + 1) ts) (drop (i + 1) ends)
+-- ---- rule 5: of the entries that are left, the first breaks it or those behind it are asked
+module _ {t e : Float} {ts ts' ends ends' : List Float} (p : ts ≡ t ∷ ts') (q : ends ≡ e ∷ ends') where
+  pub times_turn : (le t Numbers.zero || le e t) ≡ false → times_wrong ts' ends' ≡ times_wrong ts ends
   unfolding times_wrong
-  times_turn h k q = rw (next ts i h, next ends i k, q)
+  times_turn h = rw (p, q, h)
 
-  pub times_stop : i < length ts → i < length ends → (le (get_or ts i nan) Numbers.zero || le (get_or ends i nan) (get_or ts i nan)) ≡ true → times_wrong (drop i ts) (drop i ends) ≡ true
+  pub times_stop : (le t Numbers.zero || le e t) ≡ true → true ≡ times_wrong ts ends
   unfolding times_wrong
-  times_stop h k q = rw (next ts i h, next ends i k, q)
+  times_stop h = rw (p, q, h)
 
-  pub times_short : i < length ts → length ends ≤ i → times_wrong (drop i ts) (drop i ends) ≡ false
-  unfolding times_wrong
-  times_short h k = rw (next ts i h, done ends i k)
+times_short : (ts : List Float) → false ≡ times_wrong ts []
+unfolding times_wrong
+times_short [] = refl
+times_short (t ∷ ts) = refl
 
-  pub times_end : length ts ≤ i → times_wrong (drop i ts) (drop i ends) ≡ false
-  unfolding times_wrong
-  times_end h = rw (done ts i h)
+pub times_end : (ts ends : List Float) → (ts ≡ []) ⊎ (ends ≡ []) → false ≡ times_wrong ts ends
+unfolding times_wrong
+times_end ts ends (inl h) = rw h
+times_end ts ends (inr h) = rw h (times_short ts)
 
--- ---- rule 6
-module _ (ns : List Bool) (ks vs : List Float) (i : ℕ) where
-  module _ {wrong : Bool} {quote : VolatilityType} (q : quote ≡ volatility_type_of (get_or ns i false)) (w : wrong ≡ strike_wrong quote (get_or ks i nan)) where
-    pub domain_turn : i < length ns → i < length ks → i < length vs → (le (get_or vs i nan) Numbers.zero || wrong) ≡ false → domain_wrong (drop i ns) (drop i ks) (drop i vs) ≡ domain_wrong (drop (i + 1) ns) (drop (i + 1) ks) (drop (i + 1) vs)
-    unfolding domain_wrong
-    domain_turn h k l e = rw (next_quote ns i h, next ks i k, next vs i l, ← q, ← w, e)
-
-    pub domain_stop : i < length ns → i < length ks → i < length vs → (le (get_or vs i nan) Numbers.zero || wrong) ≡ true → domain_wrong (drop i ns) (drop i ks) (drop i vs) ≡ true
-    unfolding domain_wrong
-    domain_stop h k l e = rw (next_quote ns i h, next ks i k, next vs i l, ← q, ← w, e)
-
-  pub domain_short : i < length ns → length ks ≤ i → domain_wrong (drop i ns) (drop i ks) (drop i vs) ≡ false
+-- ---- rule 6, likewise
+module _ {n : Bool} {k v : Float} {ns ns' : List Bool} {ks ks' vs vs' : List Float} (p : ns ≡ n ∷ ns') (q : ks ≡ k ∷ ks') (r : vs ≡ v ∷ vs')
+    {quote : VolatilityType} {wrong : Bool} (m : quote ≡ volatility_type_of n) (w : wrong ≡ strike_wrong quote k) where
+  pub domain_turn : (le v Numbers.zero || wrong) ≡ false → domain_wrong ns' ks' vs' ≡ domain_wrong ns ks vs
   unfolding domain_wrong
-  domain_short h k = rw (next_quote ns i h, done ks i k)
+  domain_turn h = rw (p, q, r, ← m, ← w, h)
 
-  pub domain_shorter : i < length ns → i < length ks → length vs ≤ i → domain_wrong (drop i ns) (drop i ks) (drop i vs) ≡ false
+  pub domain_stop : (le v Numbers.zero || wrong) ≡ true → true ≡ domain_wrong ns ks vs
   unfolding domain_wrong
-  domain_shorter h k l = rw (next_quote ns i h, next ks i k, done vs i l)
+  domain_stop h = rw (p, q, r, ← m, ← w, h)
 
-  pub domain_end : length ns ≤ i → domain_wrong (drop i ns) (drop i ks) (drop i vs) ≡ false
-  unfolding domain_wrong
-  domain_end h = rw (no_quotes ns i h)
+domain_short : (ns : List Bool) (vs : List Float) → false ≡ domain_wrong ns [] vs
+unfolding domain_wrong
+domain_short [] vs = refl
+domain_short (n ∷ ns) vs = refl
+
+domain_shorter : (ns : List Bool) (ks : List Float) → false ≡ domain_wrong ns ks []
+unfolding domain_wrong
+domain_shorter [] ks = refl
+domain_shorter (n ∷ ns) [] = refl
+domain_shorter (n ∷ ns) (k ∷ ks) = refl
+
+pub domain_end : (ns : List Bool) (ks vs : List Float) → ((ns ≡ []) ⊎ (ks ≡ [])) ⊎ (vs ≡ []) → false ≡ domain_wrong ns ks vs
+unfolding domain_wrong
+domain_end ns ks vs (inl (inl h)) = rw h
+domain_end ns ks vs (inl (inr h)) = rw h (domain_short ns vs)
+domain_end ns ks vs (inr h) = rw h (domain_shorter ns ks)
 
 -- ---- the entries from place i on
 module _ (ns : List Bool) (ks ts ends vs : List Float) where

@@ -6,7 +6,8 @@ use Rattle.ieee.specs.Numbers.{zero}
 use Rattle.refusals.specs.declared.curves.Faults.{Faults}
 use Rattle.refusals.specs.declared.checks.Test.TheVariants.{Finite}
 use Rattle.refusals.specs.declared.refusals.Refusal.TheVariants as R
-use Rattle.refusals.specs.Refusals.{Rule, rule}
+use Rattle.refusals.specs.declared.refusals.Rule.{Rule}
+use Rattle.refusals.specs.Refusals.{rule}
 use Rattle.refusals.specs.Checks.{all_of}
 use Rattle.refusals.specs.Faults.{curve_faults}
 use Rattle.fit_objective.specs.declared.market.VolatilityType.{VolatilityType}

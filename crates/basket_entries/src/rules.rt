@@ -4,7 +4,7 @@ ghost use Rattle.refusals.specs.Refusals.{first_of};
 ghost use Rattle.basket_entries.specs.Entries.{volatility_type_of, size_wrong, numbers_wrong, times_wrong, domain_wrong, basket_rules};
 
 use fit::VolatilityType;
-use refusals::{Answer, Faults, Refusal, Test};
+use refusals::{Faults, Refusal, Test};
 
 // How the type of a quote is lent: true is a normal one.
 pub fn volatility_type_of(normal: bool) -> VolatilityType
@@ -44,15 +44,10 @@ pub fn numbers_wrong(strikes: &[f64], starts: &[f64], ends: &[f64], vols: &[f64]
 pub fn times_wrong(starts: &[f64], ends: &[f64]) -> bool
     ensures { result ≡ times_wrong starts.now ends.now }
 {
-    let mut i = 0;
-    while i < starts.len() {
-        if ends.len() <= i {
-            return false;
-        }
-        if (starts[i] <= 0.0) | (ends[i] <= starts[i]) {
+    for (start, end) in starts.iter().zip(ends) {
+        if (*start <= 0.0) | (*end <= *start) {
             return true;
         }
-        i += 1;
     }
     false
 }
@@ -61,19 +56,11 @@ pub fn times_wrong(starts: &[f64], ends: &[f64]) -> bool
 pub fn domain_wrong(normals: &[bool], strikes: &[f64], vols: &[f64]) -> bool
     ensures { result ≡ domain_wrong normals.now strikes.now vols.now }
 {
-    let mut i = 0;
-    while i < normals.len() {
-        if strikes.len() <= i {
-            return false;
-        }
-        if vols.len() <= i {
-            return false;
-        }
-        let vol_type = volatility_type_of(normals[i]);
-        if (vols[i] <= 0.0) | fit::strike_wrong(vol_type, strikes[i]) {
+    for ((normal, strike), vol) in normals.iter().zip(strikes).zip(vols) {
+        let vol_type = volatility_type_of(*normal);
+        if (*vol <= 0.0) | fit::strike_wrong(vol_type, *strike) {
             return true;
         }
-        i += 1;
     }
     false
 }
@@ -85,18 +72,16 @@ pub fn basket_rules(
     numbers: bool,
     times: bool,
     domain: bool,
-) -> Answer
+) -> Result<(), Refusal>
     ensures { result ≡ first_of (basket_rules curve alpha size numbers times domain) }
 {
     let finite = math_elementary::is_finite(alpha);
-    let mut answer = refusals::and_rule(Answer::Served, Refusal::Size, curve.size | size);
-    answer = refusals::and_rule(
-        answer,
-        Refusal::NotFinite,
-        curve.not_finite | !finite | numbers,
-    );
-    answer = refusals::and_rule(answer, Refusal::MeanReversion, alpha <= 0.0);
-    answer = refusals::and_rule(answer, Refusal::Order, curve.order);
-    answer = refusals::and_rule(answer, Refusal::Times, times);
-    refusals::and_rule(answer, Refusal::Domain, curve.domain | domain)
+    refusals::first_of(&[
+        Refusal::Size.when(curve.size | size),
+        Refusal::NotFinite.when(curve.not_finite | !finite | numbers),
+        Refusal::MeanReversion.when(alpha <= 0.0),
+        Refusal::Order.when(curve.order),
+        Refusal::Times.when(times),
+        Refusal::Domain.when(curve.domain | domain),
+    ])
 }

@@ -1,3 +1,4 @@
 -- What the functions' proofs cite.
 pub mod Counted
 pub mod Stored
+pub mod Zeros

@@ -1,11 +1,11 @@
 -- What a lent list of bytes holds that a piece was asked for. Assumes nothing.
+use Rattle.std.specs.Prelude.{Ok, Err}
 use mathlib.Core.Path.{◌≡◌, refl, sym, ◌∙◌, ap}
 use mathlib.Core.List.{List, ◌++◌}
 use Prim.Native.Nat.{ℕ, ◌≤◌, ◌<◌}
 use borrow.Author.Tests.{lt-ltb, le-ltb}
 use lib.ListN.{length, drop, take-append-drop}
 use Rattle.refusals.specs.declared.refusals.Refusal.TheVariants as R
-use Rattle.refusals.specs.declared.refusals.Answer.TheVariants as A
 use Rattle.hullwhite_transitions.specs.Written.{stored_of}
 use Rattle.file_fields.specs.Text.{Begins}
 use Rattle.file_output.specs.Pieces.{piece_of}
@@ -20,8 +20,8 @@ begun n text d out b =
 
 module _ (file : List ℕ) (k : ℕ) (d : List ℕ) (r : CountReport) where
   -- no room: nothing is written
-  pub short : length d < 131072 → r ≡ count_told (A.Refused R.Size) 0 → (r ≡ count_report_of (piece_outcome file k (length d))) × (d ≡ stored_of (piece_outcome file k (length d)) d)
+  pub short : length d < 131072 → r ≡ count_told (Err R.Size) 0 → (r ≡ count_report_of (piece_outcome file k (length d))) × (d ≡ stored_of (piece_outcome file k (length d)) d)
   short h e = rw (lt-ltb _ _ h) (e, refl)
 
-  pub stored : (n : ℕ) (out : List ℕ) → 131072 ≤ length d → Begins n (piece_of file k) d out → r ≡ count_told A.Served n → (r ≡ count_report_of (piece_outcome file k (length d))) × (out ≡ stored_of (piece_outcome file k (length d)) d)
-  stored n out h b e = rw (le-ltb _ _ h) (e ∙ ap (count_told A.Served) b.counted, begun n (piece_of file k) d out b)
+  pub stored : (n : ℕ) (out : List ℕ) → 131072 ≤ length d → Begins n (piece_of file k) d out → r ≡ count_told (Ok tt) n → (r ≡ count_report_of (piece_outcome file k (length d))) × (out ≡ stored_of (piece_outcome file k (length d)) d)
+  stored n out h b e = rw (le-ltb _ _ h) (e ∙ ap (count_told (Ok tt)) b.counted, begun n (piece_of file k) d out b)

@@ -2,9 +2,8 @@
 ghost use Rattle.std.specs.Prelude.{◌≡◌};
 ghost use Rattle.basket.specs.Basket.{basket_of};
 ghost use Rattle.basket.specs.Demand3.{BasketHolds, BasketNeverNoBracket};
-ghost use Rattle.calstwid_exports.specs.Reports.{Told, basket_report_of, basket_told};
+ghost use Rattle.calstwid_exports.specs.Reports.{Told, basket_report_of};
 
-use super::reports;
 use super::reports::BasketReport;
 
 #[unsafe(no_mangle)]
@@ -19,10 +18,10 @@ pub extern "C" fn calstwid_calibrate_to_instruments(
     vols: &[f64],
 ) -> BasketReport
     ensures answer { result ≡ basket_report_of (basket_of alpha times.now factors.now normals.now strikes.now starts.now ends.now vols.now) }
-    ensures held { Told basket_told result (BasketHolds alpha times.now factors.now normals.now strikes.now starts.now ends.now vols.now) }
-    ensures bracket { Told basket_told result BasketNeverNoBracket }
+    ensures held { Told basket_report_of result (BasketHolds alpha times.now factors.now normals.now strikes.now starts.now ends.now vols.now) }
+    ensures bracket { Told basket_report_of result BasketNeverNoBracket }
 {
-    reports::basket_report(basket::calibrate_to_instruments(
+    BasketReport::from(basket::calibrate_to_instruments(
         alpha, times, factors, normals, strikes, starts, ends, vols,
     ))
 }

@@ -6,7 +6,7 @@ ghost use Rattle.calstwid_exports.specs.Piece.{piece_outcome};
 
 use super::reports;
 use super::reports::CountReport;
-use refusals::{Answer, Refusal};
+use refusals::Refusal;
 
 // Piece k of what the program prints for the file, written over the front of `out`: 0 is the header, or `refused 1`, and k +
 // 1 the lines of job k; behind the last there are no bytes. An output that is too short for the longest piece is left as it
@@ -18,8 +18,8 @@ pub extern "C" fn calstwid_piece(file: &[u8], k: usize, out: &mut [u8]) -> Count
 {
     let is_short = out.len() < 131072;
     if is_short {
-        return reports::count_report(Answer::Refused(Refusal::Size), 0);
+        return reports::count_report(Err(Refusal::Size), 0);
     }
     let n = file_output::piece(file, k, out);
-    reports::count_report(Answer::Served, n as u64)
+    reports::count_report(Ok(()), n as u64)
 }

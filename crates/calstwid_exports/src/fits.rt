@@ -3,9 +3,8 @@ ghost use Rattle.std.specs.Prelude.{◌≡◌};
 ghost use Rattle.fit_objective.specs.declared.market.VolatilityType.TheVariants as VolatilityType;
 ghost use Rattle.fit.specs.Fits.{caplet_fit_outcome, swaption_fit_outcome};
 ghost use Rattle.fit.specs.Demand3.{CapletFitHolds, CapletFitNeverNoBracket, SwaptionFitHolds, SwaptionFitNoBracketExactly};
-ghost use Rattle.calstwid_exports.specs.Reports.{Told, fit_report_of, fit_told};
+ghost use Rattle.calstwid_exports.specs.Reports.{Told, fit_report_of};
 
-use super::reports;
 use super::reports::FitReport;
 use fit::{Quote, VolatilityType};
 use hullwhite_formulas::Optionlet;
@@ -22,15 +21,15 @@ pub extern "C" fn calstwid_fit_caplet_black(
     vol: f64,
 ) -> FitReport
     ensures answer { result ≡ fit_report_of (caplet_fit_outcome VolatilityType.Black alpha times.now factors.now strike start end vol) }
-    ensures held { Told fit_told result (CapletFitHolds VolatilityType.Black alpha times.now factors.now strike start end vol) }
-    ensures bracket { Told fit_told result (CapletFitNeverNoBracket VolatilityType.Black alpha times.now factors.now strike start end vol) }
+    ensures held { Told fit_report_of result (CapletFitHolds VolatilityType.Black alpha times.now factors.now strike start end vol) }
+    ensures bracket { Told fit_report_of result (CapletFitNeverNoBracket VolatilityType.Black alpha times.now factors.now strike start end vol) }
 {
     let quote = Quote {
         vol_type: VolatilityType::Black,
         volatility: vol,
     };
     let caplet = Optionlet { strike, start, end };
-    reports::fit_report(fit::fit_caplet(quote, alpha, times, factors, caplet))
+    FitReport::from(fit::fit_caplet(quote, alpha, times, factors, caplet))
 }
 
 // Kind 9.
@@ -45,15 +44,15 @@ pub extern "C" fn calstwid_fit_caplet_normal(
     vol: f64,
 ) -> FitReport
     ensures answer { result ≡ fit_report_of (caplet_fit_outcome VolatilityType.Normal alpha times.now factors.now strike start end vol) }
-    ensures held { Told fit_told result (CapletFitHolds VolatilityType.Normal alpha times.now factors.now strike start end vol) }
-    ensures bracket { Told fit_told result (CapletFitNeverNoBracket VolatilityType.Normal alpha times.now factors.now strike start end vol) }
+    ensures held { Told fit_report_of result (CapletFitHolds VolatilityType.Normal alpha times.now factors.now strike start end vol) }
+    ensures bracket { Told fit_report_of result (CapletFitNeverNoBracket VolatilityType.Normal alpha times.now factors.now strike start end vol) }
 {
     let quote = Quote {
         vol_type: VolatilityType::Normal,
         volatility: vol,
     };
     let caplet = Optionlet { strike, start, end };
-    reports::fit_report(fit::fit_caplet(quote, alpha, times, factors, caplet))
+    FitReport::from(fit::fit_caplet(quote, alpha, times, factors, caplet))
 }
 
 // Kind 10.
@@ -69,16 +68,14 @@ pub extern "C" fn calstwid_fit_swaption_black(
     vol: f64,
 ) -> FitReport
     ensures answer { result ≡ fit_report_of (swaption_fit_outcome VolatilityType.Black alpha times.now factors.now payments.now accruals.now strike t vol) }
-    ensures held { Told fit_told result (SwaptionFitHolds VolatilityType.Black alpha times.now factors.now payments.now accruals.now strike t vol) }
-    ensures bracket { Told fit_told result (SwaptionFitNoBracketExactly VolatilityType.Black alpha times.now factors.now payments.now accruals.now strike t vol) }
+    ensures held { Told fit_report_of result (SwaptionFitHolds VolatilityType.Black alpha times.now factors.now payments.now accruals.now strike t vol) }
+    ensures bracket { Told fit_report_of result (SwaptionFitNoBracketExactly VolatilityType.Black alpha times.now factors.now payments.now accruals.now strike t vol) }
 {
     let quote = Quote {
         vol_type: VolatilityType::Black,
         volatility: vol,
     };
-    reports::fit_report(fit::fit_swaption(
-        quote, alpha, times, factors, payments, accruals, strike, t,
-    ))
+    FitReport::from(fit::fit_swaption(quote, alpha, times, factors, payments, accruals, strike, t))
 }
 
 // Kind 11.
@@ -94,14 +91,12 @@ pub extern "C" fn calstwid_fit_swaption_normal(
     vol: f64,
 ) -> FitReport
     ensures answer { result ≡ fit_report_of (swaption_fit_outcome VolatilityType.Normal alpha times.now factors.now payments.now accruals.now strike t vol) }
-    ensures held { Told fit_told result (SwaptionFitHolds VolatilityType.Normal alpha times.now factors.now payments.now accruals.now strike t vol) }
-    ensures bracket { Told fit_told result (SwaptionFitNoBracketExactly VolatilityType.Normal alpha times.now factors.now payments.now accruals.now strike t vol) }
+    ensures held { Told fit_report_of result (SwaptionFitHolds VolatilityType.Normal alpha times.now factors.now payments.now accruals.now strike t vol) }
+    ensures bracket { Told fit_report_of result (SwaptionFitNoBracketExactly VolatilityType.Normal alpha times.now factors.now payments.now accruals.now strike t vol) }
 {
     let quote = Quote {
         vol_type: VolatilityType::Normal,
         volatility: vol,
     };
-    reports::fit_report(fit::fit_swaption(
-        quote, alpha, times, factors, payments, accruals, strike, t,
-    ))
+    FitReport::from(fit::fit_swaption(quote, alpha, times, factors, payments, accruals, strike, t))
 }

@@ -9,7 +9,7 @@ use refusals::PriceReport;
 pub extern "C" fn calstwid_B(alpha: f64, t: f64, bond: f64) -> PriceReport
     ensures { result ≡ reported_price (b_outcome alpha t bond) }
 {
-    refusals::report_price(hullwhite_model::B(alpha, t, bond))
+    PriceReport::from(hullwhite_model::B(alpha, t, bond))
 }
 
 #[unsafe(no_mangle)]
@@ -21,7 +21,7 @@ pub extern "C" fn calstwid_zcb_price_volatility(
 ) -> PriceReport
     ensures { result ≡ reported_price (zcb_price_volatility_outcome alpha sigma t bond) }
 {
-    refusals::report_price(hullwhite_model::zcb_price_volatility(alpha, sigma, t, bond))
+    PriceReport::from(hullwhite_model::zcb_price_volatility(alpha, sigma, t, bond))
 }
 
 #[unsafe(no_mangle)]
@@ -33,7 +33,7 @@ pub extern "C" fn calstwid_short_rate_variance(
 ) -> PriceReport
     ensures { result ≡ reported_price (short_rate_variance_outcome alpha t bond sigma) }
 {
-    refusals::report_price(hullwhite_model::short_rate_variance(alpha, t, bond, sigma))
+    PriceReport::from(hullwhite_model::short_rate_variance(alpha, t, bond, sigma))
 }
 
 #[unsafe(no_mangle)]
@@ -47,7 +47,7 @@ pub extern "C" fn calstwid_A(
 ) -> PriceReport
     ensures { result ≡ reported_price (a_outcome alpha times.now factors.now t bond sigma) }
 {
-    refusals::report_price(hullwhite_model::A(alpha, times, factors, t, bond, sigma))
+    PriceReport::from(hullwhite_model::A(alpha, times, factors, t, bond, sigma))
 }
 
 #[unsafe(no_mangle)]
@@ -62,7 +62,7 @@ pub extern "C" fn calstwid_zcb_price(
 ) -> PriceReport
     ensures { result ≡ reported_price (zcb_outcome alpha times.now factors.now rate t bond sigma) }
 {
-    refusals::report_price(hullwhite_model::zcb_price(alpha, times, factors, rate, t, bond, sigma))
+    PriceReport::from(hullwhite_model::zcb_price(alpha, times, factors, rate, t, bond, sigma))
 }
 
 #[unsafe(no_mangle)]
@@ -75,7 +75,7 @@ pub extern "C" fn calstwid_theta(
 ) -> PriceReport
     ensures { result ≡ reported_price (theta_outcome alpha times.now factors.now t sigma) }
 {
-    refusals::report_price(hullwhite_model::theta(alpha, times, factors, t, sigma))
+    PriceReport::from(hullwhite_model::theta(alpha, times, factors, t, sigma))
 }
 
 #[unsafe(no_mangle)]
@@ -86,5 +86,5 @@ pub extern "C" fn calstwid_forward_rate_from_curve(
 ) -> PriceReport
     ensures { result ≡ reported_price (forward_outcome times.now factors.now t) }
 {
-    refusals::report_price(hullwhite_model::forward_rate_from_curve(times, factors, t))
+    PriceReport::from(hullwhite_model::forward_rate_from_curve(times, factors, t))
 }

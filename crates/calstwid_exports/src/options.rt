@@ -22,7 +22,7 @@ pub extern "C" fn calstwid_caplet_price(
     ensures { result ≡ reported_price (optionlet_outcome Option.Put alpha times.now factors.now strike start end sigma) }
 {
     let caplet = Optionlet { strike, start, end };
-    refusals::report_price(hullwhite_options::caplet_price(alpha, times, factors, caplet, sigma))
+    PriceReport::from(hullwhite_options::caplet_price(alpha, times, factors, caplet, sigma))
 }
 
 // Kind 2.
@@ -39,9 +39,7 @@ pub extern "C" fn calstwid_floorlet_price(
     ensures { result ≡ reported_price (optionlet_outcome Option.Call alpha times.now factors.now strike start end sigma) }
 {
     let floorlet = Optionlet { strike, start, end };
-    refusals::report_price(hullwhite_options::floorlet_price(
-        alpha, times, factors, floorlet, sigma,
-    ))
+    PriceReport::from(hullwhite_options::floorlet_price(alpha, times, factors, floorlet, sigma))
 }
 
 // Kind 3.
@@ -58,7 +56,7 @@ pub extern "C" fn calstwid_bond_put_price(
     ensures { result ≡ reported_price (bond_option_outcome Option.Put alpha times.now factors.now t bond strike sigma) }
 {
     let put = BondOption { t, bond, strike };
-    refusals::report_price(hullwhite_options::bond_put_price(alpha, times, factors, put, sigma))
+    PriceReport::from(hullwhite_options::bond_put_price(alpha, times, factors, put, sigma))
 }
 
 // Kind 4.
@@ -75,5 +73,5 @@ pub extern "C" fn calstwid_bond_call_price(
     ensures { result ≡ reported_price (bond_option_outcome Option.Call alpha times.now factors.now t bond strike sigma) }
 {
     let call = BondOption { t, bond, strike };
-    refusals::report_price(hullwhite_options::bond_call_price(alpha, times, factors, call, sigma))
+    PriceReport::from(hullwhite_options::bond_call_price(alpha, times, factors, call, sigma))
 }

@@ -12,7 +12,7 @@ use refusals::PriceReport;
 pub extern "C" fn calstwid_volatility(times: &[f64], sigmas: &[f64], t: f64) -> PriceReport
     ensures { result ≡ reported_price (volatility_outcome times.now sigmas.now t) }
 {
-    refusals::report_price(hullwhite_parameters::volatility(times, sigmas, t))
+    PriceReport::from(hullwhite_parameters::volatility(times, sigmas, t))
 }
 
 #[unsafe(no_mangle)]
@@ -25,7 +25,7 @@ pub extern "C" fn calstwid_hull_white_piecewise_variance(
 ) -> PriceReport
     ensures { result ≡ reported_price (piecewise_variance_outcome alpha times.now sigmas.now start end) }
 {
-    refusals::report_price(hullwhite_parameters::hull_white_piecewise_variance(
+    PriceReport::from(hullwhite_parameters::hull_white_piecewise_variance(
         alpha, times, sigmas, start, end,
     ))
 }

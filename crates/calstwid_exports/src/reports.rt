@@ -1,17 +1,17 @@
 // What a call hands back to a program in another language: the answer's number first, 0 where the call is served, and the
 // values, all 0 beside a refusal.
 ghost use Rattle.std.specs.Prelude.{◌≡◌};
-ghost use Rattle.refusals.specs.Refusals.{answer_number};
-ghost use Rattle.calstwid_exports.specs.Reports.{d1_d2_told, count_told, draws_told, critical_rate_told, implicit_rate_told, swaption_told, valuation_told, fit_told, basket_told};
+ghost use Rattle.refusals.specs.Refusals.{answer_number, answer_of, value_or};
+ghost use Rattle.calstwid_exports.specs.Reports.{d1_d2_report_of, count_told, draws_told, critical_rate_report_of, implicit_rate_report_of, swaption_report_of, valuation_report_of, fit_report_of, basket_report_of};
 
-use basket::BasketFit;
-use draws::Drawn;
+use basket::Basket;
 use hullwhite_swaptions::Swaption;
-use math_bisection::Fitted;
+use math_bisection::Fit;
 use pricer::Valuation;
-use pricer_critical_rate::{CriticalRate, ImplicitRate};
+use pricer_critical_rate::ImplicitRate;
 use quotes::D1D2;
-use refusals::Answer;
+use refusals::Refusal;
+use search::Root;
 
 #[repr(C)]
 #[derive(Clone, Copy)]
@@ -123,250 +123,182 @@ pub struct BasketReport {
     pub bumped_statuses: [f64; 64],
 }
 
-pub fn d1_d2_report(worked: D1D2) -> D1D2Report
-    ensures { result ≡ d1_d2_told worked }
+// The number that an outcome is told by, and its values, or those that it is to have beside a refusal: zeros.
+fn told<T: Copy>(outcome: Result<T, Refusal>, zeros: T) -> (u64, T)
+    ensures number { result.0 ≡ answer_number (answer_of outcome) }
+    ensures values { result.1 ≡ value_or zeros outcome }
 {
-    match worked {
-        D1D2::Served(d1, d2) => D1D2Report { answer: 0, d1, d2 },
-        D1D2::Refused(refusal) => D1D2Report {
-            answer: refusals::number(refusal),
-            d1: 0.0,
-            d2: 0.0,
-        },
+    match outcome {
+        Ok(values) => (0, values),
+        Err(refusal) => (refusal.into(), zeros),
     }
 }
 
-pub fn count_report(answer: Answer, count: u64) -> CountReport
+impl From<Result<D1D2, Refusal>> for D1D2Report {
+    ghost from_gives = { λ worked report. report ≡ d1_d2_report_of worked };
+
+    fn from(worked: Result<D1D2, Refusal>) -> D1D2Report {
+        let (answer, values) = told(worked, D1D2::default());
+        D1D2Report {
+            answer,
+            d1: values.d1,
+            d2: values.d2,
+        }
+    }
+}
+
+pub fn count_report(answer: Result<(), Refusal>, count: u64) -> CountReport
     ensures { result ≡ count_told answer count }
 {
     match answer {
-        Answer::Served => CountReport { answer: 0, count },
-        Answer::Refused(refusal) => CountReport {
-            answer: refusals::number(refusal),
+        Ok(()) => CountReport { answer: 0, count },
+        Err(refusal) => CountReport {
+            answer: refusal.into(),
             count: 0,
         },
     }
 }
 
-pub fn draws_report(drawn: Drawn, count: u64) -> DrawsReport
+pub fn draws_report(drawn: Result<u64, Refusal>, count: u64) -> DrawsReport
     ensures { result ≡ draws_told drawn count }
 {
     match drawn {
-        Drawn::Reached(state) => DrawsReport {
+        Ok(state) => DrawsReport {
             answer: 0,
             count,
             state,
         },
-        Drawn::Refused(refusal) => {
-            let told = count_report(Answer::Refused(refusal), count);
-            DrawsReport {
-                answer: told.answer,
-                count: told.count,
-                state: 0,
-            }
-        }
+        Err(refusal) => DrawsReport {
+            answer: refusal.into(),
+            count: 0,
+            state: 0,
+        },
     }
 }
 
-pub fn critical_rate_report(found: CriticalRate) -> CriticalRateReport
-    ensures { result ≡ critical_rate_told found }
-{
-    match found {
-        CriticalRate::Served {
-            rate,
-            bracket,
-            below,
-            above,
-        } => CriticalRateReport {
-            answer: 0,
-            rate,
+impl From<Result<Root, Refusal>> for CriticalRateReport {
+    ghost from_gives = { λ found report. report ≡ critical_rate_report_of found };
+
+    fn from(found: Result<Root, Refusal>) -> CriticalRateReport {
+        let (answer, root) = told(found, Root::default());
+        let bracket = root.bracket;
+        CriticalRateReport {
+            answer,
+            rate: root.rate,
             lower: bracket.lower,
             upper: bracket.upper,
             lower_sum: bracket.lower_sum,
             upper_sum: bracket.upper_sum,
-            lower_rung: below,
-            upper_rung: above,
-        },
-        CriticalRate::Refused(refusal) => CriticalRateReport {
-            answer: refusals::number(refusal),
-            rate: 0.0,
-            lower: 0.0,
-            upper: 0.0,
-            lower_sum: 0.0,
-            upper_sum: 0.0,
-            lower_rung: 0,
-            upper_rung: 0,
-        },
+            lower_rung: root.low_rung,
+            upper_rung: root.high_rung,
+        }
     }
 }
 
-pub fn implicit_rate_report(found: ImplicitRate) -> ImplicitRateReport
-    ensures { result ≡ implicit_rate_told found }
-{
-    match found {
-        ImplicitRate::Served {
-            stepped,
-            rate,
-            bracket,
-            below,
-            above,
-        } => ImplicitRateReport {
-            answer: 0,
-            stepped,
-            rate,
+impl From<Result<ImplicitRate, Refusal>> for ImplicitRateReport {
+    ghost from_gives = { λ found report. report ≡ implicit_rate_report_of found };
+
+    fn from(found: Result<ImplicitRate, Refusal>) -> ImplicitRateReport {
+        let (answer, implicit) = told(found, ImplicitRate::default());
+        let root = implicit.root;
+        let bracket = root.bracket;
+        ImplicitRateReport {
+            answer,
+            stepped: implicit.after_step,
+            rate: root.rate,
             lower: bracket.lower,
             upper: bracket.upper,
             lower_sum: bracket.lower_sum,
             upper_sum: bracket.upper_sum,
-            lower_rung: below,
-            upper_rung: above,
-        },
-        ImplicitRate::Refused(refusal) => ImplicitRateReport {
-            answer: refusals::number(refusal),
-            stepped: 0.0,
-            rate: 0.0,
-            lower: 0.0,
-            upper: 0.0,
-            lower_sum: 0.0,
-            upper_sum: 0.0,
-            lower_rung: 0,
-            upper_rung: 0,
-        },
-    }
-}
-
-pub fn swaption_report(priced: Swaption) -> SwaptionReport
-    ensures { result ≡ swaption_told priced }
-{
-    match priced {
-        Swaption::Served(value, root) => {
-            let bracket = root.bracket;
-            SwaptionReport {
-                answer: 0,
-                value,
-                rate: root.rate,
-                lower: bracket.lower,
-                upper: bracket.upper,
-                lower_sum: bracket.lower_sum,
-                upper_sum: bracket.upper_sum,
-                lower_rung: root.below,
-                upper_rung: root.above,
-            }
+            lower_rung: root.low_rung,
+            upper_rung: root.high_rung,
         }
-        Swaption::Refused(refusal) => SwaptionReport {
-            answer: refusals::number(refusal),
-            value: 0.0,
-            rate: 0.0,
-            lower: 0.0,
-            upper: 0.0,
-            lower_sum: 0.0,
-            upper_sum: 0.0,
-            lower_rung: 0,
-            upper_rung: 0,
-        },
     }
 }
 
-pub fn valuation_report(valued: Valuation) -> ValuationReport
-    ensures { result ≡ valuation_told valued }
-{
-    match valued {
-        Valuation::Served {
-            value,
-            stepped,
-            rate,
-            bracket,
-            below,
-            above,
-        } => ValuationReport {
-            answer: 0,
-            value,
-            stepped,
-            rate,
+impl From<Result<Swaption, Refusal>> for SwaptionReport {
+    ghost from_gives = { λ priced report. report ≡ swaption_report_of priced };
+
+    fn from(priced: Result<Swaption, Refusal>) -> SwaptionReport {
+        let (answer, swaption) = told(priced, Swaption::default());
+        let root = swaption.root;
+        let bracket = root.bracket;
+        SwaptionReport {
+            answer,
+            value: swaption.value,
+            rate: root.rate,
             lower: bracket.lower,
             upper: bracket.upper,
             lower_sum: bracket.lower_sum,
             upper_sum: bracket.upper_sum,
-            lower_rung: below,
-            upper_rung: above,
-        },
-        Valuation::Refused(refusal) => ValuationReport {
-            answer: refusals::number(refusal),
-            value: 0.0,
-            stepped: 0.0,
-            rate: 0.0,
-            lower: 0.0,
-            upper: 0.0,
-            lower_sum: 0.0,
-            upper_sum: 0.0,
-            lower_rung: 0,
-            upper_rung: 0,
-        },
-    }
-}
-
-pub fn fit_report(fitted: Fitted) -> FitReport
-    ensures { result ≡ fit_told fitted }
-{
-    match fitted {
-        Fitted::Served(fit) => {
-            let ends = fit.ends;
-            FitReport {
-                answer: 0,
-                sigma: fit.sigma,
-                residual: fit.residual,
-                low: ends.low,
-                high: ends.high,
-                low_residual: ends.low_residual,
-                high_residual: ends.high_residual,
-                halvings: fit.halvings,
-                converged: fit.converged,
-            }
+            lower_rung: root.low_rung,
+            upper_rung: root.high_rung,
         }
-        Fitted::Refused(refusal) => FitReport {
-            answer: refusals::number(refusal),
-            sigma: 0.0,
-            residual: 0.0,
-            low: 0.0,
-            high: 0.0,
-            low_residual: 0.0,
-            high_residual: 0.0,
-            halvings: 0,
-            converged: false,
-        },
     }
 }
 
-// A basket's values are 0 beside a refusal as they come.
-pub fn basket_report(fitted: BasketFit) -> BasketReport
-    ensures { result ≡ basket_told fitted }
-{
-    let answer = fitted.answer;
-    let number = answer_number(answer);
-    let basket = fitted.basket;
-    let sigmas = basket.sigmas;
-    let statuses = basket.statuses;
-    let halvings = basket.halvings;
-    let residuals = basket.residuals;
-    let diagonal = basket.diagonal;
-    let bumped_statuses = basket.bumped_statuses;
-    BasketReport {
-        answer: number,
-        count: basket.count,
-        sigmas,
-        statuses,
-        halvings,
-        residuals,
-        diagonal,
-        bumped_statuses,
+impl From<Result<Valuation, Refusal>> for ValuationReport {
+    ghost from_gives = { λ valued report. report ≡ valuation_report_of valued };
+
+    fn from(valued: Result<Valuation, Refusal>) -> ValuationReport {
+        let (answer, valuation) = told(valued, Valuation::default());
+        let root = valuation.root;
+        let bracket = root.bracket;
+        ValuationReport {
+            answer,
+            value: valuation.value,
+            stepped: valuation.after_step,
+            rate: root.rate,
+            lower: bracket.lower,
+            upper: bracket.upper,
+            lower_sum: bracket.lower_sum,
+            upper_sum: bracket.upper_sum,
+            lower_rung: root.low_rung,
+            upper_rung: root.high_rung,
+        }
     }
 }
 
-fn answer_number(answer: Answer) -> u64
-    ensures { result ≡ answer_number answer }
-{
-    match answer {
-        Answer::Served => 0,
-        Answer::Refused(refusal) => refusals::number(refusal),
+impl From<Result<Fit, Refusal>> for FitReport {
+    ghost from_gives = { λ fitted report. report ≡ fit_report_of fitted };
+
+    fn from(fitted: Result<Fit, Refusal>) -> FitReport {
+        let (answer, fit) = told(fitted, Fit::default());
+        let ends = fit.ends;
+        FitReport {
+            answer,
+            sigma: fit.sigma,
+            residual: fit.residual,
+            low: ends.low,
+            high: ends.high,
+            low_residual: ends.low_residual,
+            high_residual: ends.high_residual,
+            halvings: fit.halvings,
+            converged: fit.converged,
+        }
+    }
+}
+
+impl From<Result<Basket, Refusal>> for BasketReport {
+    ghost from_gives = { λ fitted report. report ≡ basket_report_of fitted };
+
+    fn from(fitted: Result<Basket, Refusal>) -> BasketReport {
+        let (answer, basket) = told(fitted, Basket::default());
+        let sigmas = basket.sigmas;
+        let statuses = basket.statuses;
+        let halvings = basket.halvings;
+        let residuals = basket.residuals;
+        let diagonal = basket.diagonal;
+        let bumped_statuses = basket.bumped_statuses;
+        BasketReport {
+            answer,
+            count: basket.count,
+            sigmas,
+            statuses,
+            halvings,
+            residuals,
+            diagonal,
+            bumped_statuses,
+        }
     }
 }

@@ -5,9 +5,8 @@ ghost use Rattle.hullwhite_swaptions.specs.Demand3.{ModelRootLocated, ModelNoBra
 ghost use Rattle.pricer_formulas.specs.declared.bond_option.SwaptionType.TheVariants.{Payer, Receiver};
 ghost use Rattle.pricer.specs.Pricer.{pricer_outcome};
 ghost use Rattle.pricer.specs.Demand3.{PricerRootLocated, PricerNoBracketExactly};
-ghost use Rattle.calstwid_exports.specs.Reports.{Told, swaption_report_of, swaption_told, valuation_report_of, valuation_told};
+ghost use Rattle.calstwid_exports.specs.Reports.{Told, swaption_report_of, valuation_report_of};
 
-use super::reports;
 use super::reports::{SwaptionReport, ValuationReport};
 use pricer::{SwaptionType, Trade};
 
@@ -24,10 +23,10 @@ pub extern "C" fn calstwid_swaption_price(
     sigma: f64,
 ) -> SwaptionReport
     ensures answer { result ≡ swaption_report_of (model_outcome alpha times.now factors.now payments.now accruals.now strike t sigma) }
-    ensures rooted { Told swaption_told result (ModelRootLocated alpha times.now factors.now payments.now accruals.now strike t sigma) }
-    ensures bracket { Told swaption_told result (ModelNoBracketExactly alpha times.now factors.now payments.now accruals.now strike t sigma) }
+    ensures rooted { Told swaption_report_of result (ModelRootLocated alpha times.now factors.now payments.now accruals.now strike t sigma) }
+    ensures bracket { Told swaption_report_of result (ModelNoBracketExactly alpha times.now factors.now payments.now accruals.now strike t sigma) }
 {
-    reports::swaption_report(hullwhite_swaptions::swaption_price(
+    SwaptionReport::from(hullwhite_swaptions::swaption_price(
         alpha, times, factors, payments, accruals, strike, t, sigma,
     ))
 }
@@ -49,8 +48,8 @@ pub extern "C" fn calstwid_payer_swaption_value(
     side: f64,
 ) -> ValuationReport
     ensures answer { result ≡ valuation_report_of (pricer_outcome Payer alpha pillars.now sigmas.now times.now factors.now payments.now accruals.now own_dfs.now strike t notional side) }
-    ensures rooted { Told valuation_told result (PricerRootLocated alpha pillars.now sigmas.now times.now factors.now payments.now accruals.now own_dfs.now strike t notional side) }
-    ensures bracket { Told valuation_told result (PricerNoBracketExactly alpha pillars.now sigmas.now times.now factors.now payments.now accruals.now own_dfs.now strike t notional side) }
+    ensures rooted { Told valuation_report_of result (PricerRootLocated alpha pillars.now sigmas.now times.now factors.now payments.now accruals.now own_dfs.now strike t notional side) }
+    ensures bracket { Told valuation_report_of result (PricerNoBracketExactly alpha pillars.now sigmas.now times.now factors.now payments.now accruals.now own_dfs.now strike t notional side) }
 {
     let trade = Trade {
         option: SwaptionType::Payer,
@@ -59,7 +58,7 @@ pub extern "C" fn calstwid_payer_swaption_value(
         notional,
         side,
     };
-    reports::valuation_report(pricer::swaption_value(
+    ValuationReport::from(pricer::swaption_value(
         trade, alpha, pillars, sigmas, times, factors, payments, accruals, own_dfs,
     ))
 }
@@ -81,8 +80,8 @@ pub extern "C" fn calstwid_receiver_swaption_value(
     side: f64,
 ) -> ValuationReport
     ensures answer { result ≡ valuation_report_of (pricer_outcome Receiver alpha pillars.now sigmas.now times.now factors.now payments.now accruals.now own_dfs.now strike t notional side) }
-    ensures rooted { Told valuation_told result (PricerRootLocated alpha pillars.now sigmas.now times.now factors.now payments.now accruals.now own_dfs.now strike t notional side) }
-    ensures bracket { Told valuation_told result (PricerNoBracketExactly alpha pillars.now sigmas.now times.now factors.now payments.now accruals.now own_dfs.now strike t notional side) }
+    ensures rooted { Told valuation_report_of result (PricerRootLocated alpha pillars.now sigmas.now times.now factors.now payments.now accruals.now own_dfs.now strike t notional side) }
+    ensures bracket { Told valuation_report_of result (PricerNoBracketExactly alpha pillars.now sigmas.now times.now factors.now payments.now accruals.now own_dfs.now strike t notional side) }
 {
     let trade = Trade {
         option: SwaptionType::Receiver,
@@ -91,7 +90,7 @@ pub extern "C" fn calstwid_receiver_swaption_value(
         notional,
         side,
     };
-    reports::valuation_report(pricer::swaption_value(
+    ValuationReport::from(pricer::swaption_value(
         trade, alpha, pillars, sigmas, times, factors, payments, accruals, own_dfs,
     ))
 }

@@ -4,7 +4,6 @@ ghost use Rattle.refusals.specs.Refusals.{reported_price};
 ghost use Rattle.quotes.specs.Utils.{d1d2_outcome, black_call_outcome, black_put_outcome, bachelier_call_outcome, annuity_outcome};
 ghost use Rattle.calstwid_exports.specs.Reports.{d1_d2_report_of};
 
-use super::reports;
 use super::reports::D1D2Report;
 use refusals::PriceReport;
 
@@ -12,28 +11,28 @@ use refusals::PriceReport;
 pub extern "C" fn calstwid_d1_d2(fwd: f64, strike: f64, vol: f64, tau: f64) -> D1D2Report
     ensures { result ≡ d1_d2_report_of (d1d2_outcome fwd strike vol tau) }
 {
-    reports::d1_d2_report(quotes::d1_d2(fwd, strike, vol, tau))
+    D1D2Report::from(quotes::d1_d2(fwd, strike, vol, tau))
 }
 
 #[unsafe(no_mangle)]
 pub extern "C" fn calstwid_black_call(fwd: f64, strike: f64, vol: f64, tau: f64) -> PriceReport
     ensures { result ≡ reported_price (black_call_outcome fwd strike vol tau) }
 {
-    refusals::report_price(quotes::black_call(fwd, strike, vol, tau))
+    PriceReport::from(quotes::black_call(fwd, strike, vol, tau))
 }
 
 #[unsafe(no_mangle)]
 pub extern "C" fn calstwid_black_put(fwd: f64, strike: f64, vol: f64, tau: f64) -> PriceReport
     ensures { result ≡ reported_price (black_put_outcome fwd strike vol tau) }
 {
-    refusals::report_price(quotes::black_put(fwd, strike, vol, tau))
+    PriceReport::from(quotes::black_put(fwd, strike, vol, tau))
 }
 
 #[unsafe(no_mangle)]
 pub extern "C" fn calstwid_bachelier_call(fwd: f64, strike: f64, vol: f64, tau: f64) -> PriceReport
     ensures { result ≡ reported_price (bachelier_call_outcome fwd strike vol tau) }
 {
-    refusals::report_price(quotes::bachelier_call(fwd, strike, vol, tau))
+    PriceReport::from(quotes::bachelier_call(fwd, strike, vol, tau))
 }
 
 #[unsafe(no_mangle)]
@@ -45,5 +44,5 @@ pub extern "C" fn calstwid_swap_annuity_from_curve(
 ) -> PriceReport
     ensures { result ≡ reported_price (annuity_outcome times.now factors.now payments.now accruals.now) }
 {
-    refusals::report_price(quotes::swap_annuity_from_curve(times, factors, payments, accruals))
+    PriceReport::from(quotes::swap_annuity_from_curve(times, factors, payments, accruals))
 }

@@ -1,4 +1,5 @@
 -- The factor at t, by the place at which the times part in those below t and the others: the scan of the definition is at that place or at the one before it.
+use Rattle.std.specs.Prelude.{Option, Some, None}
 use mathlib.Core.Path.{◌≡◌, refl, sym, ap, ◌∙◌}
 use mathlib.Core.Bool.{Bool, true, false, cond, ◌&&◌}
 use mathlib.Core.List.{List, [], ◌∷◌}
@@ -12,16 +13,16 @@ use lib.Ieee.{Float, nan, lt, eq}
 use Rattle.refusals.specs.Checks.{in_order_from, in_order}
 use Rattle.refusals.proofs.Order.{both, holds, held, refuted, lt_le, le_of_eq, lt_unequal, lt_not_above, equal_not_above, lt_otherwise}
 use Rattle.refusals.proofs.Walks.{next, done}
-use Rattle.curve.specs.Lookups.{Front, Back, PartsAt, Maybe, just, nothing, if_finite, between_of, between_or, factor_at}
+use Rattle.curve.specs.Lookups.{Front, Back, PartsAt, if_finite, between_of, between_or, factor_at}
 use Rattle.curve.proofs.Halves.{rest, rises, before_or_not}
 
-no_factors : (ts : List Float) (t : Float) → factor_at ts [] t ≡ nothing
+no_factors : (ts : List Float) (t : Float) → factor_at ts [] t ≡ None
 unfolding factor_at
 no_factors [] t = refl
 no_factors (x ∷ ts) t = refl
 
 -- ---- a point is passed over whose neighbour is not above t
-pub neighbour_not_above : (otherwise : Maybe) (t0 f0 : Float) (ts fs : List Float) (t : Float) → (0 < length ts → lt t (get_or ts 0 nan) ≡ false) → between_or otherwise t0 f0 ts fs t ≡ otherwise
+pub neighbour_not_above : (otherwise : Option Float) (t0 f0 : Float) (ts fs : List Float) (t : Float) → (0 < length ts → lt t (get_or ts 0 nan) ≡ false) → between_or otherwise t0 f0 ts fs t ≡ otherwise
 unfolding between_or
 neighbour_not_above otherwise t0 f0 [] fs t h = refl
 neighbour_not_above otherwise t0 f0 (t1 ∷ ts) [] t h = refl
@@ -54,12 +55,12 @@ module _ (ts fs : List Float) (t : Float) (i : ℕ) (f : Front true ts t (suc i)
   unfolding factor_at
   last_below k = sym (skipped ts fs t i f) ∙ rw (next ts i h, next fs i k, lt_unequal (get_or ts i nan) t below)
 
-  short : length fs ≤ i → factor_at ts fs t ≡ nothing
+  short : length fs ≤ i → factor_at ts fs t ≡ None
   unfolding factor_at
   short k = sym (skipped ts fs t i f) ∙ rw (next ts i h, done fs i k)
 
 -- ---- at the place where the times part
-pub after_last : (ts fs : List Float) (t : Float) (n : ℕ) → PartsAt true ts t n → length ts ≤ n → factor_at ts fs t ≡ nothing
+pub after_last : (ts fs : List Float) (t : Float) (n : ℕ) → PartsAt true ts t n → length ts ≤ n → factor_at ts fs t ≡ None
 unfolding factor_at between_or
 after_last [] fs t n p h = refl
 after_last (x ∷ ts) fs t zero p h = absurd (not-suc-le-zero h)
@@ -69,7 +70,7 @@ after_last (x ∷ ts) fs t (suc i) p h =
     (λ m. short (x ∷ ts) fs t i p.1 p.0 m)
     (before_or_not i (length fs))
 
-pub no_factor : (ts fs : List Float) (t : Float) (n : ℕ) → PartsAt true ts t n → n < length ts → length fs ≤ n → factor_at ts fs t ≡ nothing
+pub no_factor : (ts fs : List Float) (t : Float) (n : ℕ) → PartsAt true ts t n → n < length ts → length fs ≤ n → factor_at ts fs t ≡ None
 unfolding factor_at between_or
 no_factor ts [] t n p h k = no_factors ts t
 no_factor ts (y ∷ fs) t zero p h k = absurd (not-suc-le-zero k)
@@ -79,7 +80,7 @@ no_factor ts (y ∷ fs) t (suc i) p h k =
     (λ m. short ts (y ∷ fs) t i p.1 p.0 m)
     (before_or_not i (length (y ∷ fs)))
 
-pub on_list : (ts fs : List Float) (t : Float) (n : ℕ) → PartsAt true ts t n → n < length ts → n < length fs → eq (get_or ts n nan) t ≡ true → factor_at ts fs t ≡ just (get_or fs n nan)
+pub on_list : (ts fs : List Float) (t : Float) (n : ℕ) → PartsAt true ts t n → n < length ts → n < length fs → eq (get_or ts n nan) t ≡ true → factor_at ts fs t ≡ Some (get_or fs n nan)
 unfolding factor_at
 on_list [] fs t n p h k e = absurd (not-suc-le-zero h)
 on_list (x ∷ ts) [] t n p h k e = absurd (not-suc-le-zero k)
@@ -93,7 +94,7 @@ on_list (x ∷ ts) (y ∷ fs) t (suc i) p h k e =
     ∙ neighbour_not_above (factor_at (drop (i + 1) (x ∷ ts)) (drop (i + 1) (y ∷ fs)) t) (get_or (x ∷ ts) i nan) (get_or (y ∷ fs) i nan) (drop (i + 1) (x ∷ ts)) (drop (i + 1) (y ∷ fs)) t (λ _. first)
     ∙ rw (next (x ∷ ts) (i + 1) a, next (y ∷ fs) (i + 1) b, ← q, e)
 
-point_not_below : (otherwise : Maybe) (t0 f0 : Float) (ts fs : List Float) (t : Float) → lt t0 t ≡ false → between_or otherwise t0 f0 ts fs t ≡ otherwise
+point_not_below : (otherwise : Option Float) (t0 f0 : Float) (ts fs : List Float) (t : Float) → lt t0 t ≡ false → between_or otherwise t0 f0 ts fs t ≡ otherwise
 unfolding between_or
 point_not_below otherwise t0 f0 [] fs t h = refl
 point_not_below otherwise t0 f0 (t1 ∷ ts) [] t h = refl
@@ -104,7 +105,7 @@ unfolding eq in_order_from
 later_unequal x [] t h l = refl
 later_unequal x (y ∷ ts) t h l = refuted (eq y t) (λ e. let z = lt_le x y t (holds (lt x y) (both (lt x y) (in_order_from true y ts) h).0) (le_of_eq y t e) in rw l at z)
 
-pub before_first : (ts fs : List Float) (t : Float) → in_order true ts ≡ true → Back true ts t 0 → eq (get_or ts 0 nan) t ≡ false → factor_at ts fs t ≡ nothing
+pub before_first : (ts fs : List Float) (t : Float) → in_order true ts ≡ true → Back true ts t 0 → eq (get_or ts 0 nan) t ≡ false → factor_at ts fs t ≡ None
 unfolding factor_at in_order
 before_first [] fs t h b e = refl
 before_first (x ∷ ts) [] t h b e = refl

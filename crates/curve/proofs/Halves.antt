@@ -1,4 +1,5 @@
 -- The search by halves of a strictly rising list: what a test at one place says of the places before it or after it, and where the scan finds what the search finds.
+use Rattle.std.specs.Prelude.{Some}
 use mathlib.Core.Path.{◌≡◌, refl, sym, ap, subst, ◌∙◌}
 use mathlib.Core.Bool.{Bool, true, false}
 use mathlib.Core.List.{List, [], ◌∷◌}
@@ -10,7 +11,7 @@ use lib.Dec.{T}
 use lib.ListN.{length, get_or}
 use lib.Ieee.{Float, nan, lt, le}
 use Rattle.refusals.specs.Checks.{follows_of, in_order_from, in_order}
-use Rattle.curve.specs.Lookups.{Front, Back, PartsAt, just, last_at, volatility_at}
+use Rattle.curve.specs.Lookups.{Front, Back, PartsAt, last_at, volatility_at}
 use Rattle.curve.proofs.Walks.{volatility_first}
 use Rattle.refusals.proofs.Order.{both, holds, held, refuted, lt_le, le_of_lt}
 
@@ -100,9 +101,9 @@ last_parted best (x ∷ xs) (s ∷ ss) t zero p h =
 last_parted best (x ∷ xs) (s ∷ ss) t (suc n) p h =
     rw (p.1 0 (zero-lt-suc n)) (last_parted s xs ss t n (le_of_suc-le-suc p.0, λ k l. p.1 (suc k) (suc-le-suc l), λ k l b. p.2 (suc k) (suc-le-suc l) (suc-le-suc b)) (le_of_suc-le-suc h) ∙ last_of_longer s best ss n)
 
-pub volatility_parted : (xs ss : List Float) (t : Float) (n : ℕ) → PartsAt false xs t n → (length xs ≡ 0 → ⊥) → n - 1 < length ss → volatility_at xs ss t ≡ just (get_or ss (n - 1) nan)
-volatility_parted xs ss t zero p h b = volatility_first xs ss t h (λ e. omega arith) ∙ ap just (last_parted (get_or ss 0 nan) xs ss t zero p zero-le)
+pub volatility_parted : (xs ss : List Float) (t : Float) (n : ℕ) → PartsAt false xs t n → (length xs ≡ 0 → ⊥) → n - 1 < length ss → volatility_at xs ss t ≡ Some (get_or ss (n - 1) nan)
+volatility_parted xs ss t zero p h b = volatility_first xs ss t h (λ e. omega arith) ∙ ap Some (last_parted (get_or ss 0 nan) xs ss t zero p zero-le)
 volatility_parted xs ss t (suc n) p h b =
     let e : suc n - 1 ≡ n = omega arith in
     let l : suc n ≤ length ss = omega arith in
-    rw e (volatility_first xs ss t h (λ e. omega arith) ∙ ap just (last_parted (get_or ss 0 nan) xs ss t (suc n) p l))
+    rw e (volatility_first xs ss t h (λ e. omega arith) ∙ ap Some (last_parted (get_or ss 0 nan) xs ss t (suc n) p l))

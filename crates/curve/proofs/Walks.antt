@@ -1,4 +1,5 @@
 -- One turn and the end of a walk along a list: what each definition of specs/ says of the list from place i on.
+use Rattle.std.specs.Prelude.{Some, None}
 use mathlib.Core.Path.{◌≡◌, refl}
 use mathlib.Core.Bool.{true, false, cond}
 use mathlib.Core.List.{List, [], ◌∷◌, ◌++◌, append-nil, append_assoc}
@@ -9,7 +10,7 @@ use lib.ListN.{length, get_or, drop, take}
 use lib.Seq.{take-suc}
 use lib.Ieee.{Float, nan, le}
 use Rattle.refusals.proofs.Walks.{next, done}
-use Rattle.curve.specs.Lookups.{just, nothing, last_at, volatility_at, up_to}
+use Rattle.curve.specs.Lookups.{last_at, volatility_at, up_to}
 
 -- ---- the front part up to t
 module _ (t : Float) (xs : List Float) (i : ℕ) where
@@ -39,18 +40,18 @@ module _ (best : Float) (xs ss : List Float) (t : Float) (i : ℕ) where
   unfolding last_at
   last_end h = rw (done xs i h)
 
-pub volatility_first : (xs ss : List Float) (t : Float) → (length xs ≡ 0 → ⊥) → (length ss ≡ 0 → ⊥) → volatility_at xs ss t ≡ just (last_at (get_or ss 0 nan) xs ss t)
+pub volatility_first : (xs ss : List Float) (t : Float) → (length xs ≡ 0 → ⊥) → (length ss ≡ 0 → ⊥) → volatility_at xs ss t ≡ Some (last_at (get_or ss 0 nan) xs ss t)
 unfolding volatility_at
 volatility_first [] ss t h k = absurd (h refl)
 volatility_first (x ∷ xs) [] t h k = absurd (k refl)
 volatility_first (x ∷ xs) (s ∷ ss) t h k = refl
 
-pub volatility_none : (xs ss : List Float) (t : Float) → length xs ≡ 0 → volatility_at xs ss t ≡ nothing
+pub volatility_none : (xs ss : List Float) (t : Float) → length xs ≡ 0 → volatility_at xs ss t ≡ None
 unfolding volatility_at
 volatility_none [] ss t h = refl
 volatility_none (x ∷ xs) ss t h = absurd (let z : ⊥ = omega arith in z)
 
-pub volatility_short : (xs ss : List Float) (t : Float) → length ss ≡ 0 → volatility_at xs ss t ≡ nothing
+pub volatility_short : (xs ss : List Float) (t : Float) → length ss ≡ 0 → volatility_at xs ss t ≡ None
 unfolding volatility_at
 volatility_short [] ss t h = refl
 volatility_short (x ∷ xs) [] t h = refl

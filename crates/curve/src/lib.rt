@@ -3,4 +3,4 @@
 
 mod lookups;
 
-pub use lookups::{Found, FoundNear, factor, factor_near, reached, volatility_at, volatility_near};
+pub use lookups::{factor, factor_near, reached, volatility_at, volatility_near};

@@ -1,43 +1,27 @@
 // The factor at a time, the volatility at a time, and the times up to a time.
 ghost use Rattle.std.specs.Prelude.{◌≡◌, true, ◌+◌, ◌-◌, ◌≤◌, length, take};
 ghost use Rattle.refusals.specs.Checks.{in_order};
-ghost use Rattle.curve.specs.Lookups.{Front, Back, PartsAt, found_of, if_finite, between_of, factor_at, volatility_at, up_to};
-
-#[derive(Clone, Copy)]
-pub enum Found {
-    At(f64),
-    Missing,
-}
-
-// What a list has for a time, and the hint with which a walk along rising times asks for the next one.
-#[derive(Clone, Copy)]
-pub struct FoundNear {
-    pub found: Found,
-    pub next: usize,
-}
+ghost use Rattle.curve.specs.Lookups.{Front, Back, PartsAt, if_finite, between_of, factor_at, volatility_at, up_to};
 
 // The factor at a time on the curve or strictly between two of its points. It is looked for by halves, for the
 // times strictly rise: a caller that prices or fits shows it, behind rule 4.
-pub fn factor(times: &[f64], factors: &[f64], t: f64) -> Found
+pub fn factor(times: &[f64], factors: &[f64], t: f64) -> Option<f64>
     requires { in_order true times.now ≡ true }
-    ensures { found_of result ≡ factor_at times.now factors.now t }
+    ensures { result ≡ factor_at times.now factors.now t }
 {
     let place = part(times, t, true);
     factor_at(times, factors, place, t)
 }
 
-// The same, looked for at the place `hint` first. A caller that walks along a grid shows that the times rise,
-// behind rule 4.
-pub fn factor_near(times: &[f64], factors: &[f64], hint: usize, t: f64) -> FoundNear
+// The same, looked for at the place `hint` first, which is left where a walk along rising times looks for the next
+// one. A caller that walks along a grid shows that the times rise, behind rule 4.
+pub fn factor_near(times: &[f64], factors: &[f64], hint: &mut usize, t: f64) -> Option<f64>
     requires { in_order true times.now ≡ true }
-    ensures { found_of result.found ≡ factor_at times.now factors.now t }
+    ensures { result ≡ factor_at times.now factors.now t }
 {
-    let place = part_near(times, hint, t, true);
-    let found = factor_at(times, factors, place, t);
-    FoundNear {
-        found,
-        next: behind(times, place, t),
-    }
+    let place = part_near(times, *hint, t, true);
+    *hint = behind(times, place, t);
+    factor_at(times, factors, place, t)
 }
 
 // Where a walk looks for the next time, t being at this place or between it and the one before: behind a point
@@ -54,38 +38,38 @@ fn behind(times: &[f64], place: usize, t: f64) -> usize
 
 // The factor at t, where the times before this place are those below t: a caller has the place from `part` or
 // `part_near`, in times that strictly rise.
-fn factor_at(times: &[f64], factors: &[f64], place: usize, t: f64) -> Found
+fn factor_at(times: &[f64], factors: &[f64], place: usize, t: f64) -> Option<f64>
     requires { (in_order true times.now ≡ true) × PartsAt true times.now t place }
-    ensures { found_of result ≡ factor_at times.now factors.now t }
+    ensures { result ≡ factor_at times.now factors.now t }
 {
     if times.len() <= place {
-        return Found::Missing;
+        return None;
     }
     if factors.len() <= place {
-        return Found::Missing;
+        return None;
     }
     let t1 = times[place];
     let f1 = factors[place];
     if t1 == t {
-        return Found::At(f1);
+        return Some(f1);
     }
     if place == 0 {
-        return Found::Missing;
+        return None;
     }
     between(times[place - 1], factors[place - 1], t1, f1, t)
 }
 
 // The factor at a time strictly between two neighbours, where it is finite.
-fn between(t0: f64, f0: f64, t1: f64, f1: f64, t: f64) -> Found
-    ensures { found_of result ≡ if_finite (between_of t0 f0 t1 f1 t) }
+fn between(t0: f64, f0: f64, t1: f64, f1: f64, t: f64) -> Option<f64>
+    ensures { result ≡ if_finite (between_of t0 f0 t1 f1 t) }
 {
     let w = (t - t0) / (t1 - t0);
     let ln_f0 = math_elementary::ln(f0);
     let factor = math_exponential::exp(ln_f0 + w * (math_elementary::ln(f1) - ln_f0));
     if math_elementary::is_finite(factor) {
-        Found::At(factor)
+        Some(factor)
     } else {
-        Found::Missing
+        None
     }
 }
 
@@ -148,54 +132,43 @@ fn stops(times: &[f64], n: usize, t: f64, strictly: bool) -> bool
 }
 
 // The volatility of the last pillar at or before t, else of the first.
-pub fn volatility_at(times: &[f64], sigmas: &[f64], t: f64) -> Found
-    ensures { found_of result ≡ volatility_at times.now sigmas.now t }
+pub fn volatility_at(times: &[f64], sigmas: &[f64], t: f64) -> Option<f64>
+    ensures { result ≡ volatility_at times.now sigmas.now t }
 {
     if times.len() == 0 {
-        return Found::Missing;
+        return None;
     }
     if sigmas.len() == 0 {
-        return Found::Missing;
+        return None;
     }
     let mut best = sigmas[0];
-    let mut i = 0;
-    while i < times.len() {
+    for (i, time) in times.iter().enumerate() {
         if sigmas.len() <= i {
-            return Found::At(best);
+            return Some(best);
         }
-        if times[i] <= t {
+        if *time <= t {
             best = sigmas[i];
         }
-        i += 1;
     }
-    Found::At(best)
+    Some(best)
 }
 
-// The same on rising times, of which `hint` are likely to be at or before t. A caller that walks along a grid
-// shows that they rise, behind rule 4.
-pub fn volatility_near(times: &[f64], sigmas: &[f64], hint: usize, t: f64) -> FoundNear
+// The same on rising times, of which `hint` are likely to be at or before t, and then as many as are. A caller that
+// walks along a grid shows that they rise, behind rule 4.
+pub fn volatility_near(times: &[f64], sigmas: &[f64], hint: &mut usize, t: f64) -> Option<f64>
     requires { in_order true times.now ≡ true }
-    ensures { found_of result.found ≡ volatility_at times.now sigmas.now t }
+    ensures { result ≡ volatility_at times.now sigmas.now t }
 {
-    let n = part_near(times, hint, t, false);
+    let n = part_near(times, *hint, t, false);
+    *hint = n;
     if times.len() == 0 {
-        return FoundNear {
-            found: Found::Missing,
-            next: n,
-        };
+        return None;
     }
     let last = last_of(n);
     if sigmas.len() <= last {
-        return FoundNear {
-            found: volatility_at(times, sigmas, t),
-            next: n,
-        };
+        return volatility_at(times, sigmas, t);
     }
-    let sigma = sigmas[last];
-    FoundNear {
-        found: Found::At(sigma),
-        next: n,
-    }
+    Some(sigmas[last])
 }
 
 // The place of the last of n, and 0 where there is none.
@@ -209,15 +182,12 @@ fn last_of(n: usize) -> usize
 fn count_reached(times: &[f64], t: f64) -> usize
     ensures { (result ≤ length times.now) × (take result times.now ≡ up_to t times.now) }
 {
-    let mut n = 0;
-    while n < times.len() {
-        if times[n] <= t {
-            n += 1;
-        } else {
+    for (n, time) in times.iter().enumerate() {
+        if !(*time <= t) {
             return n;
         }
     }
-    n
+    times.len()
 }
 
 // The times at or before t, as a part of the caller's own list.

@@ -1,5 +1,5 @@
 -- The evaluations of a search, of a valuation, of a fit and of a basket, listed in order (specs/Evaluations.antt): the first of their answers that is a refusal is what the whole answers.
-use Rattle.std.specs.Prelude.{◌≡◌, ◌⊎◌, Bool, not, ◌&&◌, ◌||◌, ℕ, suc, length, drop, Float}
+use Rattle.std.specs.Prelude.{◌≡◌, ◌⊎◌, Bool, not, ◌&&◌, ◌||◌, ℕ, suc, length, drop, Float, Ok, Err}
 use Rattle.std.proofs.Math.Path.{refl, sym, ap, subst}
 use Rattle.std.proofs.Common.{◌∙◌, inl, inr}
 use Rattle.std.proofs.Math.Bool.{true, false, cond}
@@ -12,14 +12,13 @@ use Rattle.math_elementary.specs.Simple.{abs_of}
 use Rattle.refusals.specs.declared.checks.Test.TheVariants.{Zero}
 use Rattle.refusals.specs.declared.refusals.Refusal.{Refusal}
 use Rattle.refusals.specs.declared.refusals.Refusal.TheVariants as R
-use Rattle.refusals.specs.declared.refusals.Answer.{Answer}
-use Rattle.refusals.specs.declared.refusals.Answer.TheVariants as A
-use Rattle.refusals.specs.Refusals.{Outcome, served, refused, answer_of, first_of, after, following}
+use Rattle.refusals.specs.Refusals.{Outcome, answer_of, first_of, after, following, Answer}
 use Rattle.refusals.specs.Checks.{all_of}
 use Rattle.refusals.proofs.Outcomes.{not_both, served_is}
 use Rattle.search_sum.specs.Sum.{coupon_sum}
 use Rattle.search.specs.Rate.{good, critical_of}
-use Rattle.search.specs.Values.{Values, critical_outcome}
+use Rattle.search.specs.declared.Root.{Root}
+use Rattle.search.specs.Values.{critical_outcome}
 use Rattle.search.specs.Reached.{ladder_rates, from_good, once_both, reached, some_nan, some_good, has_good}
 use Rattle.search.proofs.Reaching.{exactly}
 use Rattle.math_bisection.specs.declared.halving.Ends.{Ends}
@@ -27,7 +26,6 @@ use Rattle.math_bisection.specs.declared.result.Fit.{Fit}
 use Rattle.math_bisection.specs.Solve.{lowest, highest, same_sign, residual_at, ends_moved_to, halvings_from, ends_of, solve_of}
 use Rattle.math_bisection.specs.Tried.{tried_from, tried_of}
 use Rattle.math_bisection.proofs.Steps.{mid, Met, stopped, close, away, met, last_stopped, last_served, halving_stopped, halving_close, halving_away, tried_last, tried_stopped, tried_close, tried_away, Begun, low_stopped, high_stopped, alike, apart, begun, solve_low, solve_high, solve_alike, solve_apart, tried_apart}
-use Rattle.hullwhite_jamshidian.specs.Price as Model
 use Rattle.hullwhite_jamshidian.specs.Price.{price_at}
 use Rattle.pricer_formulas.specs.declared.bond_option.SwaptionType.{SwaptionType}
 use Rattle.pricer_formulas.specs.Newton.{flat_limit, sums_of, stepped}
@@ -39,27 +37,28 @@ use Rattle.basket_entries.specs.Entries.{Entry, entries_of, basket_rules_on}
 use Rattle.basket.specs.Basket.{fit_of, Records, with_fit, fits_of, Bumps, bump_of, with_bump, bumps_of, basket_from, fitted_basket, basket_of}
 use Rattle.demand_order.specs.Searches.{search_and_step, rate_and_step}
 use Rattle.demand_order.specs.Evaluations.{first_refused, onto, refused_where, sum_at, bracket_of, lows, highs, mids, search_answers, residual_answer, signs_answer, fit_answers, priced_sum, step_answer, step_answers, fit_answer, bump_answer, basket_answers}
+use Rattle.hullwhite_jamshidian.specs.declared.price.Swaption.{Swaption}
 
 -- one answer, and another where it is served
 unfoldable then : Answer → Answer → Answer
-then A.Served b = b
-then (A.Refused r) b = A.Refused r
+then (Ok tt) b = b
+then (Err r) b = Err r
 
 first_then : (a : Answer) (xs : List Answer) → first_refused (a ∷ xs) ≡ then a (first_refused xs)
 unfolding first_refused then
-first_then A.Served xs = refl
-first_then (A.Refused r) xs = refl
+first_then (Ok tt) xs = refl
+first_then (Err r) xs = refl
 
 joined : (xs bs : List Answer) → first_refused (xs ++ bs) ≡ then (first_refused xs) (first_refused bs)
 unfolding first_refused then
 joined [] bs = refl
-joined (A.Served ∷ xs) bs = joined xs bs
-joined (A.Refused r ∷ xs) bs = refl
+joined ((Ok tt) ∷ xs) bs = joined xs bs
+joined (Err r ∷ xs) bs = refl
 
-then_served : (a : Answer) → then a A.Served ≡ a
+then_served : (a : Answer) → then a (Ok tt) ≡ a
 unfolding then
-then_served A.Served = refl
-then_served (A.Refused r) = refl
+then_served (Ok tt) = refl
+then_served (Err r) = refl
 
 -- ---- a search
 module _ (sum : Float → Float) where
@@ -115,7 +114,7 @@ module _ (sum : Float → Float) where
       go false h = h
 
   -- by which of the tests the first refusal is decided
-  decided : (nl nh nm g k : Bool) (a : Answer) → (T (nl || (nh || nm)) → a ≡ A.Refused R.NanReached) → (T (not (nl || (nh || nm))) → T (not g) ⊎ T (not k) → a ≡ A.Refused R.NoBracket) → (T (not (nl || (nh || nm))) → T g → T k → a ≡ A.Served)
+  decided : (nl nh nm g k : Bool) (a : Answer) → (T (nl || (nh || nm)) → a ≡ Err R.NanReached) → (T (not (nl || (nh || nm))) → T (not g) ⊎ T (not k) → a ≡ Err R.NoBracket) → (T (not (nl || (nh || nm))) → T g → T k → a ≡ Ok tt)
       → (T (not (g && k)) → T (not nm)) → a ≡ then (refused_where R.NanReached nl) (then (refused_where R.NanReached nh) (then (refused_where R.NoBracket (not (g && k))) (refused_where R.NanReached nm)))
   unfolding then
   decided true nh nm g k a n b s m = n tt
@@ -154,19 +153,19 @@ module _ (f : Float → Outcome Float) where
   unfolding residual_at first_refused
   residual_is sigma = go (f sigma)
     where
-      test : (v : Float) (b : Bool) → first_refused (refused_where R.NanReached b ∷ []) ≡ answer_of (cond b (refused R.NanReached) (served v))
+      test : (v : Float) (b : Bool) → first_refused (refused_where R.NanReached b ∷ []) ≡ answer_of (cond b (Err R.NanReached) (Ok v))
       test v true = refl
       test v false = refl
 
-      go : (o : Outcome Float) → first_refused (answer_of o ∷ onto o (λ v. refused_where R.NanReached (is_nan v)) ∷ []) ≡ answer_of (following o (λ v. cond (is_nan v) (refused R.NanReached) (served v)))
-      go (served v) = test v (is_nan v)
-      go (refused r) = refl
+      go : (o : Outcome Float) → first_refused (answer_of o ∷ onto o (λ v. refused_where R.NanReached (is_nan v)) ∷ []) ≡ answer_of (following o (λ v. cond (is_nan v) (Err R.NanReached) (Ok v)))
+      go (Ok v) = test v (is_nan v)
+      go (Err r) = refl
 
-  refuses : (sigma : Float) {r : Refusal} (xs : List Answer) → residual_at f sigma ≡ refused r → A.Refused r ≡ first_refused (residual_answer f sigma ∷ xs)
+  refuses : (sigma : Float) {r : Refusal} (xs : List Answer) → residual_at f sigma ≡ Err r → Err r ≡ first_refused (residual_answer f sigma ∷ xs)
   unfolding first_refused
   refuses sigma xs p = sym (ap (λ (a : Answer). first_refused (a ∷ xs)) (residual_is sigma ∙ ap answer_of p))
 
-  passes : (sigma : Float) {v : Float} (xs : List Answer) → residual_at f sigma ≡ served v → first_refused xs ≡ first_refused (residual_answer f sigma ∷ xs)
+  passes : (sigma : Float) {v : Float} (xs : List Answer) → residual_at f sigma ≡ Ok v → first_refused xs ≡ first_refused (residual_answer f sigma ∷ xs)
   unfolding first_refused
   passes sigma xs p = sym (ap (λ (a : Answer). first_refused (a ∷ xs)) (residual_is sigma ∙ ap answer_of p))
 
@@ -217,9 +216,9 @@ module _ (f : Float → Outcome Float) where
 
 -- ---- kinds 5, 10 and 11: the price at a sigma is refused as its search is
 module _ (alpha : Float) (payments accruals : List Float) (strike t pt p_plus : Float) (ps : List Float) (sigma : Float) where
-  as_its_search : {B : Type 0} (o : Outcome Values) (made : Values → B) → answer_of (following o (λ root. served (made root))) ≡ answer_of o
-  as_its_search (served root) made = refl
-  as_its_search (refused r) made = refl
+  as_its_search : {B : Type 0} (o : Outcome Root) (made : Root → B) → answer_of (following o (λ root. Ok (made root))) ≡ answer_of o
+  as_its_search (Ok root) made = refl
+  as_its_search (Err r) made = refl
 
   pub price_in_order : answer_of (price_at alpha payments accruals strike t pt p_plus ps sigma) ≡ first_refused (search_answers (priced_sum alpha payments accruals strike t pt p_plus ps sigma))
   unfolding price_at
@@ -229,25 +228,25 @@ module _ (alpha : Float) (payments accruals : List Float) (strike t pt p_plus : 
   unfolding swaption_objective
   objective_in_order quote vol = go (price_at alpha payments accruals strike t pt p_plus ps sigma) ∙ price_in_order
     where
-      go : (o : Outcome Model.ModelValued) → answer_of (following (value_alone o) (λ model. served (model ⊖ swaption_market_price_of quote strike t vol accruals pt ps))) ≡ answer_of o
-      go (served v) = refl
-      go (refused r) = refl
+      go : (o : Outcome Swaption) → answer_of (following (value_alone o) (λ model. Ok (model ⊖ swaption_market_price_of quote strike t vol accruals pt ps))) ≡ answer_of o
+      go (Ok v) = refl
+      go (Err r) = refl
 
 -- ---- kinds 6 and 7: the search, then the Newton step
 module _ (cs affs bs : List Float) where
   -- whatever is made of the root and the rate after the step
-  module _ {C : Type 0} (made : Values → Float → C) where
-    stepping : (o : Outcome Values) → answer_of (following o (λ root. following (stepped root.rate (sums_of root.rate cs affs bs)) (λ s. served (made root s))))
+  module _ {C : Type 0} (made : Root → Float → C) where
+    stepping : (o : Outcome Root) → answer_of (following o (λ root. following (stepped root.rate (sums_of root.rate cs affs bs)) (λ s. Ok (made root s))))
         ≡ then (answer_of o) (first_refused (onto o (λ root. refused_where R.FlatDerivative (lt (abs_of (sums_of root.rate cs affs bs).derivative) flat_limit)) ∷ []))
     unfolding stepped then first_refused
-    stepping (refused r) = refl
-    stepping (served root) = go (lt (abs_of (sums_of root.rate cs affs bs).derivative) flat_limit) _
+    stepping (Err r) = refl
+    stepping (Ok root) = go (lt (abs_of (sums_of root.rate cs affs bs).derivative) flat_limit) _
       where
-        go : (b : Bool) (next : Float) → answer_of (following (cond b (refused R.FlatDerivative) (served next)) (λ s. served (made root s))) ≡ first_refused (refused_where R.FlatDerivative b ∷ [])
+        go : (b : Bool) (next : Float) → answer_of (following (cond b (Err R.FlatDerivative) (Ok next)) (λ s. Ok (made root s))) ≡ first_refused (refused_where R.FlatDerivative b ∷ [])
         go true next = refl
         go false next = refl
 
-    pub steps_in_order : answer_of (following (critical_outcome (critical_of (coupon_sum cs affs bs))) (λ root. following (stepped root.rate (sums_of root.rate cs affs bs)) (λ s. served (made root s)))) ≡ first_refused (step_answers cs affs bs)
+    pub steps_in_order : answer_of (following (critical_outcome (critical_of (coupon_sum cs affs bs))) (λ root. following (stepped root.rate (sums_of root.rate cs affs bs)) (λ s. Ok (made root s)))) ≡ first_refused (step_answers cs affs bs)
     steps_in_order =
         stepping (critical_outcome (critical_of (coupon_sum cs affs bs)))
         ∙ ap (λ (a : Answer). then a (first_refused (step_answer cs affs bs ∷ []))) (search_in_order (coupon_sum cs affs bs))
@@ -263,27 +262,27 @@ implicit_in_order cs affs bs = steps_in_order cs affs bs (λ root s. record { af
 
 -- ---- a basket: "All fits run, then all bumped fits, 13 being met at each one's end; the first refusal refuses the basket."
 module _ (alpha : Float) (xs fs : List Float) where
-  one_more : {B C : Type 0} (o : Outcome B) (p : Outcome C) {D : Type 0} (made : B → C → D) → answer_of (following o (λ v. following p (λ w. served (made v w)))) ≡ then (answer_of o) (answer_of p)
+  one_more : {B C : Type 0} (o : Outcome B) (p : Outcome C) {D : Type 0} (made : B → C → D) → answer_of (following o (λ v. following p (λ w. Ok (made v w)))) ≡ then (answer_of o) (answer_of p)
   unfolding then
-  one_more (served v) (served w) made = refl
-  one_more (served v) (refused r) made = refl
-  one_more (refused r) p made = refl
+  one_more (Ok v) (Ok w) made = refl
+  one_more (Ok v) (Err r) made = refl
+  one_more (Err r) p made = refl
 
   fits_in_order : (es : List Entry) → answer_of (fits_of alpha xs fs es) ≡ first_refused (map (fit_answer alpha xs fs) es)
   unfolding fits_of
   fits_in_order [] = unfold first_refused in refl
   fits_in_order (e ∷ es) = one_more (fit_of alpha xs fs e e.vol) (fits_of alpha xs fs es) with_fit ∙ ap (then (fit_answer alpha xs fs e)) (fits_in_order es) ∙ sym (first_then (fit_answer alpha xs fs e) (map (fit_answer alpha xs fs) es))
 
-  bumps_in_order : (es : List Entry) (rs : Records) → fits_of alpha xs fs es ≡ served rs → answer_of (bumps_of alpha xs fs es rs.sigmas) ≡ first_refused (map (bump_answer alpha xs fs) es)
+  bumps_in_order : (es : List Entry) (rs : Records) → fits_of alpha xs fs es ≡ Ok rs → answer_of (bumps_of alpha xs fs es rs.sigmas) ≡ first_refused (map (bump_answer alpha xs fs) es)
   unfolding fits_of bumps_of
   bumps_in_order [] rs k = unfold first_refused in refl
   bumps_in_order (e ∷ es) rs k = go (fit_of alpha xs fs e e.vol) (fits_of alpha xs fs es) refl refl k (bumps_in_order es)
     where
-      go : (o : Outcome Fit) (p : Outcome Records) → fit_of alpha xs fs e e.vol ≡ o → fits_of alpha xs fs es ≡ p → following o (λ v. following p (λ qs. served (with_fit v qs))) ≡ served rs
-          → ((qs : Records) → fits_of alpha xs fs es ≡ served qs → answer_of (bumps_of alpha xs fs es qs.sigmas) ≡ first_refused (map (bump_answer alpha xs fs) es)) → answer_of (bumps_of alpha xs fs (e ∷ es) rs.sigmas) ≡ first_refused (bump_answer alpha xs fs e ∷ map (bump_answer alpha xs fs) es)
-      go (refused r) p a b z on = absurd (not_both z)
-      go (served v) (refused r) a b z on = absurd (not_both z)
-      go (served v) (served qs) a b z on =
+      go : (o : Outcome Fit) (p : Outcome Records) → fit_of alpha xs fs e e.vol ≡ o → fits_of alpha xs fs es ≡ p → following o (λ v. following p (λ qs. Ok (with_fit v qs))) ≡ Ok rs
+          → ((qs : Records) → fits_of alpha xs fs es ≡ Ok qs → answer_of (bumps_of alpha xs fs es qs.sigmas) ≡ first_refused (map (bump_answer alpha xs fs) es)) → answer_of (bumps_of alpha xs fs (e ∷ es) rs.sigmas) ≡ first_refused (bump_answer alpha xs fs e ∷ map (bump_answer alpha xs fs) es)
+      go (Err r) p a b z on = absurd (not_both z)
+      go (Ok v) (Err r) a b z on = absurd (not_both z)
+      go (Ok v) (Ok qs) a b z on =
           ap (λ (ws : Records). answer_of (bumps_of alpha xs fs (e ∷ es) ws.sigmas)) (sym (served_is z))
           ∙ one_more (bump_of alpha xs fs e v.sigma) (bumps_of alpha xs fs es qs.sigmas) (with_bump v.sigma)
           ∙ ap (then (answer_of (bump_of alpha xs fs e v.sigma))) (on qs b)
@@ -294,14 +293,14 @@ module _ (alpha : Float) (xs fs : List Float) where
   unfolding fitted_basket then
   fitted_in_order es = go (fits_of alpha xs fs es) refl (fits_in_order es) ∙ sym (joined (map (fit_answer alpha xs fs) es) (map (bump_answer alpha xs fs) es))
     where
-      bumped : (rs : Records) (o : Outcome Bumps) → answer_of (following o (λ bs. served (basket_from (length es) rs bs))) ≡ answer_of o
-      bumped rs (served bs) = refl
-      bumped rs (refused r) = refl
+      bumped : (rs : Records) (o : Outcome Bumps) → answer_of (following o (λ bs. Ok (basket_from (length es) rs bs))) ≡ answer_of o
+      bumped rs (Ok bs) = refl
+      bumped rs (Err r) = refl
 
       go : (o : Outcome Records) → fits_of alpha xs fs es ≡ o → answer_of o ≡ first_refused (map (fit_answer alpha xs fs) es)
-          → answer_of (following o (λ rs. following (bumps_of alpha xs fs es rs.sigmas) (λ bs. served (basket_from (length es) rs bs)))) ≡ then (first_refused (map (fit_answer alpha xs fs) es)) (first_refused (map (bump_answer alpha xs fs) es))
-      go (served rs) a k = bumped rs (bumps_of alpha xs fs es rs.sigmas) ∙ bumps_in_order es rs a ∙ ap (λ (x : Answer). then x (first_refused (map (bump_answer alpha xs fs) es))) k
-      go (refused r) a k = ap (λ (x : Answer). then x (first_refused (map (bump_answer alpha xs fs) es))) k
+          → answer_of (following o (λ rs. following (bumps_of alpha xs fs es rs.sigmas) (λ bs. Ok (basket_from (length es) rs bs)))) ≡ then (first_refused (map (fit_answer alpha xs fs) es)) (first_refused (map (bump_answer alpha xs fs) es))
+      go (Ok rs) a k = bumped rs (bumps_of alpha xs fs es rs.sigmas) ∙ bumps_in_order es rs a ∙ ap (λ (x : Answer). then x (first_refused (map (bump_answer alpha xs fs) es))) k
+      go (Err r) a k = ap (λ (x : Answer). then x (first_refused (map (bump_answer alpha xs fs) es))) k
 
   -- the rules over all entries first
   pub basket_in_order : (ns : List Bool) (ks ts ends vs : List Float)
@@ -313,5 +312,5 @@ module _ (alpha : Float) (xs fs : List Float) where
       es = entries_of ns ks ts ends vs
 
       go : {B : Type 0} (a : Answer) (o : Outcome B) → answer_of (after a o) ≡ then a (answer_of o)
-      go A.Served o = unfold then in refl
-      go (A.Refused r) o = unfold then in refl
+      go (Ok tt) o = unfold then in refl
+      go (Err r) o = unfold then in refl

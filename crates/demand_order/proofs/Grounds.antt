@@ -1,9 +1,10 @@
 -- Demand 3, of refusal 10: "no call is refused so on any other ground". The calls of quotes, schedules, options, models, transitions, paths and draws begin no search, and none of them is refused so, whatever it is given. (The other calls say it in their own contracts, the clause `bracket`: of a search, when it is refused so; of a caplet's fit and a basket, which begin none, that they never are.)
-use Rattle.std.specs.Prelude.{◌≡◌, refl, List, ℕ, Float}
+use Rattle.std.specs.Prelude.{◌≡◌, refl, List, ℕ, Float, Ok, Err}
 use Rattle.std.proofs.Common.{sym}
 use Rattle.refusals.specs.declared.refusals.Refusal.{Refusal}
 use Rattle.refusals.specs.declared.refusals.Refusal.TheVariants as R
-use Rattle.refusals.specs.Refusals.{Outcome, served, refused, Rule}
+use Rattle.refusals.specs.declared.refusals.Rule.{Rule}
+use Rattle.refusals.specs.Refusals.{Outcome}
 use Rattle.refusals.proofs.Outcomes.{not_both}
 use Rattle.hullwhite_options.specs.declared.options.OptionType.{OptionType}
 use Rattle.quotes.specs.Utils.{d1d2_outcome, black_call_outcome, black_put_outcome, bachelier_call_outcome, annuity_outcome}
@@ -21,10 +22,10 @@ use Rattle.demand_order.proofs.Calls.{optionlet_met, bond_option_met, b_met, zcb
 
 -- the law: what evaluates nothing is refused by nothing that is met in an evaluation, 9 to 12
 pub nothing_evaluated : {W B : Type 0} {rules : List Rule} {found : Outcome (List Float)} {value : List Float → W} {answered : W → Outcome B} {o : Outcome B}
-    → Met rules found (λ ps. served (value ps)) answered o → (r : Refusal) → stage_of r ≡ evaluated → o ≡ refused r → ⊥
+    → Met rules found (λ ps. Ok (value ps)) answered o → (r : Refusal) → stage_of r ≡ evaluated → o ≡ Err r → ⊥
 nothing_evaluated m r s e = let at = rw s at ((m.refused_at r).0 e) in not_both (sym at.1.2)
 
-unsought : {W B : Type 0} {rules : List Rule} {found : Outcome (List Float)} {value : List Float → W} {answered : W → Outcome B} {o : Outcome B} → Met rules found (λ ps. served (value ps)) answered o → NeverNoBracket o
+unsought : {W B : Type 0} {rules : List Rule} {found : Outcome (List Float)} {value : List Float → W} {answered : W → Outcome B} {o : Outcome B} → Met rules found (λ ps. Ok (value ps)) answered o → NeverNoBracket o
 unsought m = nothing_evaluated m R.NoBracket refl
 
 -- ---- kinds 1 to 4

@@ -1,14 +1,13 @@
 -- Demand 1, "the FIRST refusal in document 01's order": of rules in order (specs/Order.antt) the first that applies has the smallest place of all that apply; and the rules of every call stand in that order.
-use Rattle.std.specs.Prelude.{◌≡◌, refl, Bool, true, ℕ, ◌≤◌, ◌<◌, T, ltb, Float}
+use Rattle.std.specs.Prelude.{◌≡◌, refl, Bool, true, ℕ, ◌≤◌, ◌<◌, T, ltb, Float, Ok, Err}
 use Rattle.std.proofs.Common.{◌∙◌, ap, sym, subst, inl, inr, true≢false, arith, ltb→lt}
 use mathlib.Core.List.Memᴰ
 use mathlib.Core.List.{List, [], ◌∷◌, Memᴰ}
 use Rattle.std.specs.Float.Ieee.Fits.{and_l, and_r}
 use Rattle.refusals.specs.declared.refusals.Refusal.{Refusal}
-use Rattle.refusals.specs.declared.refusals.Answer.{Answer}
-use Rattle.refusals.specs.declared.refusals.Answer.TheVariants as A
 use Rattle.refusals.specs.declared.curves.Faults.{Faults}
-use Rattle.refusals.specs.Refusals.{Outcome, refused, place_of, Rule, first_of, after, unless}
+use Rattle.refusals.specs.declared.refusals.Rule.{Rule}
+use Rattle.refusals.specs.Refusals.{Outcome, place_of, first_of, after, unless, Answer}
 use Rattle.refusals.specs.Order.{First, NoneApplies, first_applies, none_applies}
 use Rattle.quotes.specs.Rules.{quote_rules, annuity_rules}
 use Rattle.hullwhite_parameters.specs.Rules.{variance_rules, volatility_rules}
@@ -47,7 +46,7 @@ least r n (y ∷ ys) k (inr h) x m a = elim (Memᴰ.cases_cons m) [
   | inr t ↦ least r (place_of y.refusal) ys (and_r (ltb n (place_of y.refusal)) (rising (place_of y.refusal) ys) k) h.1 x t a
 ]
 
-pub smallest : (rules : List Rule) → InOrder rules → (r : Refusal) → first_of rules ≡ A.Refused r → (x : Rule) → Memᴰ x rules → x.applies ≡ true → place_of r ≤ place_of x.refusal
+pub smallest : (rules : List Rule) → InOrder rules → (r : Refusal) → first_of rules ≡ Err r → (x : Rule) → Memᴰ x rules → x.applies ≡ true → place_of r ≤ place_of x.refusal
 smallest rules k r e x m a = least r 0 rules k ((first_applies r rules).0 e) x m a
 
 -- ---- the same of a call: whether a rule refuses it or what comes behind the rules, where none of them applies
@@ -58,16 +57,16 @@ none_of (y ∷ ys) k x m a = elim (Memᴰ.cases_cons m) [
   | inr t ↦ none_of ys k.1 x t a
 ]
 
-by_answer : {B : Type 0} (answer : Answer) (rules : List Rule) → InOrder rules → first_of rules ≡ answer → (rest : Outcome B) (r : Refusal) → after answer rest ≡ refused r
+by_answer : {B : Type 0} (answer : Answer) (rules : List Rule) → InOrder rules → first_of rules ≡ answer → (rest : Outcome B) (r : Refusal) → after answer rest ≡ Err r
     → (x : Rule) → Memᴰ x rules → x.applies ≡ true → place_of r ≤ place_of x.refusal
-by_answer A.Served rules k e rest r h x m a = absurd (none_of rules ((none_applies rules).0 e) x m a)
-by_answer {B = B} (A.Refused q) rules k e rest r h x m a =
+by_answer (Ok tt) rules k e rest r h x m a = absurd (none_of rules ((none_applies rules).0 e) x m a)
+by_answer {B = B} (Err q) rules k e rest r h x m a =
     let n : q ≡ r = cc in
     let p = ap place_of n in
     let l = smallest rules k q e x m a in
     omega arith
 
-pub call_smallest : {B : Type 0} (rules : List Rule) → InOrder rules → (rest : Outcome B) (r : Refusal) → unless rules rest ≡ refused r
+pub call_smallest : {B : Type 0} (rules : List Rule) → InOrder rules → (rest : Outcome B) (r : Refusal) → unless rules rest ≡ Err r
     → (x : Rule) → Memᴰ x rules → x.applies ≡ true → place_of r ≤ place_of x.refusal
 call_smallest rules k rest r h = by_answer (first_of rules) rules k refl rest r h
 

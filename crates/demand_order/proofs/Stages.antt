@@ -1,13 +1,12 @@
 -- The laws of specs/Stages.antt: what is met in an earlier stage has a smaller place; and a call whose stages refuse by their own refusals alone is refused by r exactly where the stage of r refuses so and none before it does.
-use Rattle.std.specs.Prelude.{◌≡◌, refl, Bool, true, false, cond, List, [], ◌∷◌, ℕ, ◌≤◌, ◌<◌, T, ltb, eqb, Float}
+use Rattle.std.specs.Prelude.{◌≡◌, refl, Bool, true, false, cond, List, [], ◌∷◌, ℕ, ◌≤◌, ◌<◌, T, ltb, eqb, Float, Ok, Err}
 use Rattle.std.proofs.Common.{sym, ◌∙◌, ap, subst, inl, inr, arith, ltb-true, ltb-false, eqb-true}
 use Rattle.std.proofs.lemmas.Bool.{eqb-false}
 use Rattle.std.specs.Float.Ieee.Fits.{and_l, and_r}
 use Rattle.refusals.specs.declared.refusals.Refusal.{Refusal}
 use Rattle.refusals.specs.declared.refusals.Refusal.TheVariants as R
-use Rattle.refusals.specs.declared.refusals.Answer.{Answer}
-use Rattle.refusals.specs.declared.refusals.Answer.TheVariants as A
-use Rattle.refusals.specs.Refusals.{Outcome, served, refused, place_of, Rule, first_of, after, following}
+use Rattle.refusals.specs.declared.refusals.Rule.{Rule}
+use Rattle.refusals.specs.Refusals.{Outcome, place_of, first_of, after, following, Answer}
 use Rattle.refusals.specs.Order.{First, first_applies}
 use Rattle.demand_order.specs.Stages.{Stage, by_rule, off_curve, evaluated, finished, stage_at, stage_of, order_of, Only, staged, RefusedAt, Met, all_rules}
 
@@ -68,36 +67,36 @@ ruled r (x ∷ xs) k (inr e) = ruled r xs (and_r (ltb (place_of x.refusal) (plac
 
 module _ {W B : Type 0} (rules : List Rule) (found : Outcome (List Float)) (worked : List Float → Outcome W) (answered : W → Outcome B) where
   -- a stage that refuses, all before it being served, refuses the call
-  back : (s : Stage) (r : Refusal) → RefusedAt rules found worked answered s r → staged rules found worked answered ≡ refused r
+  back : (s : Stage) (r : Refusal) → RefusedAt rules found worked answered s r → staged rules found worked answered ≡ Err r
   back by_rule r e = rw e
   back off_curve r e = rw (e.0, e.1)
   back evaluated r e = rw (e.0, e.1.1, e.1.2)
   back finished r e = rw (e.0, e.1.2, e.1.3, e.1.4)
 
   -- and where it is refused, one of them does, which is r's own
-  module _ (k : T (all_rules rules)) (lookups : first_of rules ≡ A.Served → Only off_curve found) (evaluations : (ps : List Float) → Only evaluated (worked ps)) (answers : (v : W) → Only finished (answered v)) (r : Refusal) where
+  module _ (k : T (all_rules rules)) (lookups : first_of rules ≡ Ok tt → Only off_curve found) (evaluations : (ps : List Float) → Only evaluated (worked ps)) (answers : (v : W) → Only finished (answered v)) (r : Refusal) where
     abbrev Here : Type 0
     Here = RefusedAt rules found worked answered (stage_of r) r
 
     own : {s : Stage} → stage_of r ≡ s → RefusedAt rules found worked answered s r → Here
     own e h = subst (λ (s : Stage). RefusedAt rules found worked answered s r) (sym e) h
 
-    answering : (ps : List Float) (v : W) → first_of rules ≡ A.Served → found ≡ served ps → worked ps ≡ served v → answered v ≡ refused r → Here
+    answering : (ps : List Float) (v : W) → first_of rules ≡ Ok tt → found ≡ Ok ps → worked ps ≡ Ok v → answered v ≡ Err r → Here
     answering ps v a b c e = own (answers v r e) (a, (ps, v, b, c, e))
 
-    evaluating : (ps : List Float) → first_of rules ≡ A.Served → found ≡ served ps → (o : Outcome W) → worked ps ≡ o → following o answered ≡ refused r → Here
-    evaluating ps a b (served v) c e = answering ps v a b c e
-    evaluating ps a b (refused q) c e = let p : worked ps ≡ refused r = cc in own (evaluations ps r p) (a, (ps, b, p))
+    evaluating : (ps : List Float) → first_of rules ≡ Ok tt → found ≡ Ok ps → (o : Outcome W) → worked ps ≡ o → following o answered ≡ Err r → Here
+    evaluating ps a b (Ok v) c e = answering ps v a b c e
+    evaluating ps a b (Err q) c e = let p : worked ps ≡ Err r = cc in own (evaluations ps r p) (a, (ps, b, p))
 
-    looking : first_of rules ≡ A.Served → (o : Outcome (List Float)) → found ≡ o → following o (λ ps. following (worked ps) answered) ≡ refused r → Here
-    looking a (served ps) b e = evaluating ps a b (worked ps) refl e
-    looking a (refused q) b e = let p : found ≡ refused r = cc in own (lookups a r p) (a, p)
+    looking : first_of rules ≡ Ok tt → (o : Outcome (List Float)) → found ≡ o → following o (λ ps. following (worked ps) answered) ≡ Err r → Here
+    looking a (Ok ps) b e = evaluating ps a b (worked ps) refl e
+    looking a (Err q) b e = let p : found ≡ Err r = cc in own (lookups a r p) (a, p)
 
-    ruling : (a : Answer) → first_of rules ≡ a → after a (following found (λ ps. following (worked ps) answered)) ≡ refused r → Here
-    ruling A.Served a e = looking a found refl e
-    ruling (A.Refused q) a e = let p : first_of rules ≡ A.Refused r = cc in own (ruled r rules k ((first_applies r rules).0 p)) p
+    ruling : (a : Answer) → first_of rules ≡ a → after a (following found (λ ps. following (worked ps) answered)) ≡ Err r → Here
+    ruling (Ok tt) a e = looking a found refl e
+    ruling (Err q) a e = let p : first_of rules ≡ Err r = cc in own (ruled r rules k ((first_applies r rules).0 p)) p
 
-  pub met : T (all_rules rules) → (first_of rules ≡ A.Served → Only off_curve found) → ((ps : List Float) → Only evaluated (worked ps)) → ((v : W) → Only finished (answered v))
+  pub met : T (all_rules rules) → (first_of rules ≡ Ok tt → Only off_curve found) → ((ps : List Float) → Only evaluated (worked ps)) → ((v : W) → Only finished (answered v))
       → (o : Outcome B) → o ≡ staged rules found worked answered → Met rules found worked answered o
   met k lookups evaluations answers o e = record {
     is = e;

@@ -1,16 +1,18 @@
 -- The steps that calls are made of: by which refusals each may refuse, and how the lookups of a call are one list of times that it needs.
-use Rattle.std.specs.Prelude.{◌≡◌, refl, Bool, true, false, cond, List, [], ◌∷◌, T, drop, Float}
+use Rattle.std.specs.Prelude.{◌≡◌, refl, Bool, true, false, cond, List, [], ◌∷◌, T, drop, Float, Option, Some, None, Ok, Err, Result}
 use Rattle.std.proofs.Common.{sym, ◌∙◌, ap, arith}
 use Prim.Native.Nat.{ℕ, zero, suc}
 use Rattle.std.specs.Float.Ieee.{is_nan}
 use Rattle.math_elementary.specs.Simple.{midpoint_of}
 use Rattle.refusals.specs.declared.refusals.Refusal.{Refusal}
 use Rattle.refusals.specs.declared.refusals.Refusal.TheVariants as R
-use Rattle.refusals.specs.declared.refusals.Answer.TheVariants as A
-use Rattle.refusals.specs.Refusals.{Outcome, served, refused, Rule, first_of, unless, following, prepend}
+use Rattle.refusals.specs.declared.refusals.Rule.{Rule}
+use Rattle.refusals.specs.Refusals.{Outcome, first_of, unless, following, prepend}
 use Rattle.refusals.proofs.Outcomes.{not_both}
-use Rattle.curve.specs.Lookups.{Maybe, just, nothing, factor_at, required, needing}
-use Rattle.search.specs.declared.Critical.{Critical}
+use Rattle.curve.specs.Lookups.{factor_at, required, needing}
+use Rattle.search.specs.declared.Root.{Root}
+use Rattle.search.specs.declared.Unfound.{Unfound}
+use Rattle.search.specs.declared.Unfound.TheVariants as U
 use Rattle.search.specs.Values.{critical_outcome}
 use Rattle.hullwhite_terms.specs.Terms.{factors_at}
 use Rattle.math_bisection.specs.declared.halving.Ends.{Ends}
@@ -21,10 +23,10 @@ use Rattle.demand_order.proofs.Stages.{met}
 
 -- ---- what refuses by a stage's refusals alone
 module _ {B : Type 0} {s : Stage} where
-  pub never : (v : B) → Only s (served v)
+  pub never : (v : B) → Only s (Ok v)
   never v r e = absurd (not_both (sym e))
 
-  pub by : (q : Refusal) → stage_of q ≡ s → Only {B = B} s (refused q)
+  pub by : (q : Refusal) → stage_of q ≡ s → Only {B = B} s (Err q)
   by q k r e = let p : r ≡ q = cc in ap stage_of p ∙ k
 
   pub either : (b : Bool) {o p : Outcome B} → Only s o → Only s p → Only s (cond b o p)
@@ -32,26 +34,26 @@ module _ {B : Type 0} {s : Stage} where
   either false k l = l
 
 pub following_only : {B C : Type 0} {s : Stage} (o : Outcome B) (rest : B → Outcome C) → Only s o → ((v : B) → Only s (rest v)) → Only s (following o rest)
-following_only (served v) rest k l = l v
-following_only (refused q) rest k l = by q (k q refl)
+following_only (Ok v) rest k l = l v
+following_only (Err q) rest k l = by q (k q refl)
 
 pub prepend_only : {s : Stage} (x : Float) (o : Outcome (List Float)) → Only s o → Only s (prepend x o)
-prepend_only x (served xs) k = never (x ∷ xs)
-prepend_only x (refused q) k = by q (k q refl)
+prepend_only x (Ok xs) k = never (x ∷ xs)
+prepend_only x (Err q) k = by q (k q refl)
 
 -- rule 13 refuses by 13, whatever it looks at
-pub finishing_only : {B : Type 0} (b : Bool) (v : B) → Only finished (cond b (served v) (refused R.Overflow))
+pub finishing_only : {B : Type 0} (b : Bool) (v : B) → Only finished (cond b (Ok v) (Err R.Overflow))
 finishing_only b v = either b (never v) (by R.Overflow refl)
 
 -- a lookup refuses by 8, and so do several
-pub needing_only : {B : Type 0} (m : Maybe) {rest : Float → Outcome B} → ((p : Float) → Only off_curve (rest p)) → Only off_curve (needing m rest)
-needing_only (just p) k = k p
-needing_only nothing k = by R.OffCurve refl
+pub needing_only : {B : Type 0} (m : Option Float) {rest : Float → Outcome B} → ((p : Float) → Only off_curve (rest p)) → Only off_curve (needing m rest)
+needing_only (Some p) k = k p
+needing_only None k = by R.OffCurve refl
 
 -- one that finds refuses nothing
-pub required_only : {B : Type 0} {s : Stage} (q : Refusal) (m : Maybe) → (p : Float) × (m ≡ just p) → {rest : Float → Outcome B} → ((p : Float) → Only s (rest p)) → Only s (required q m rest)
-required_only q (just p) e k = k p
-required_only q nothing e k = absurd (let z : ◌≡◌ {A = ℕ} 0 1 = cc e.1 in let y : ⊥ = omega arith in y)
+pub required_only : {B : Type 0} {s : Stage} (q : Refusal) (m : Option Float) → (p : Float) × (m ≡ Some p) → {rest : Float → Outcome B} → ((p : Float) → Only s (rest p)) → Only s (required q m rest)
+required_only q (Some p) e k = k p
+required_only q None e k = absurd (let z : ◌≡◌ {A = ℕ} 0 1 = cc e.1 in let y : ⊥ = omega arith in y)
 
 pub factors_only : (ts fs times : List Float) → Only off_curve (factors_at ts fs times)
 unfolding factors_at
@@ -59,10 +61,10 @@ factors_only ts fs [] = never []
 factors_only ts fs (t ∷ times) = needing_only (factor_at ts fs t) (λ p. prepend_only p (factors_at ts fs times) (factors_only ts fs times))
 
 -- a search refuses by 9 and 10
-pub search_only : (c : Critical) → Only evaluated (critical_outcome c)
-search_only (Critical.Found b i j rate) = never _
-search_only Critical.NotANumber = by R.NanReached refl
-search_only Critical.NoBracket = by R.NoBracket refl
+pub search_only : (c : Result Root Unfound) → Only evaluated (critical_outcome c)
+search_only (Ok root) = never _
+search_only (Err U.NotANumber) = by R.NanReached refl
+search_only (Err U.NoBracket) = by R.NoBracket refl
 
 -- a fit refuses by 9 and 12, and as its objective does
 module _ (f : Float → Outcome Float) (k : (sigma : Float) → Only evaluated (f sigma)) where
@@ -86,22 +88,22 @@ module _ (f : Float → Outcome Float) (k : (sigma : Float) → Only evaluated (
 
 -- ---- lookups one by one are those of a list of times
 module _ {B : Type 0} where
-  pub two_and : (m n : Maybe) (o : Outcome (List Float)) (rest : Float → Float → List Float → Outcome B)
+  pub two_and : (m n : Option Float) (o : Outcome (List Float)) (rest : Float → Float → List Float → Outcome B)
       → needing m (λ x. needing n (λ y. following o (λ ps. rest x y ps))) ≡ following (needing m (λ x. prepend x (needing n (λ y. prepend y o)))) (λ ps. rest (nth 0 ps) (nth 1 ps) (drop 2 ps))
-  two_and (just x) (just y) (served ps) rest = refl
-  two_and (just x) (just y) (refused r) rest = refl
-  two_and (just x) nothing o rest = refl
-  two_and nothing n o rest = refl
+  two_and (Some x) (Some y) (Ok ps) rest = refl
+  two_and (Some x) (Some y) (Err r) rest = refl
+  two_and (Some x) None o rest = refl
+  two_and None n o rest = refl
 
-  pub three : (m n k : Maybe) (rest : Float → Float → Float → Outcome B)
-      → needing m (λ x. needing n (λ y. needing k (λ z. rest x y z))) ≡ following (needing m (λ x. prepend x (needing n (λ y. prepend y (needing k (λ z. prepend z (served []))))))) (λ ps. rest (nth 0 ps) (nth 1 ps) (nth 2 ps))
-  three (just x) (just y) (just z) rest = refl
-  three (just x) (just y) nothing rest = refl
-  three (just x) nothing k rest = refl
-  three nothing n k rest = refl
+  pub three : (m n k : Option Float) (rest : Float → Float → Float → Outcome B)
+      → needing m (λ x. needing n (λ y. needing k (λ z. rest x y z))) ≡ following (needing m (λ x. prepend x (needing n (λ y. prepend y (needing k (λ z. prepend z (Ok []))))))) (λ ps. rest (nth 0 ps) (nth 1 ps) (nth 2 ps))
+  three (Some x) (Some y) (Some z) rest = refl
+  three (Some x) (Some y) None rest = refl
+  three (Some x) None k rest = refl
+  three None n k rest = refl
 
 -- ---- a call that evaluates nothing: what it answers is `value` of the factors found
 pub plain : {W B : Type 0} (rules : List Rule) (found : Outcome (List Float)) (value : List Float → W) (answered : W → Outcome B) (o : Outcome B)
-    → T (all_rules rules) → (first_of rules ≡ A.Served → Only off_curve found) → ((v : W) → Only finished (answered v)) → o ≡ unless rules (following found (λ ps. answered (value ps)))
-    → Met rules found (λ ps. served (value ps)) answered o
-plain rules found value answered o k lookups answers e = met rules found (λ ps. served (value ps)) answered k lookups (λ ps. never (value ps)) answers o e
+    → T (all_rules rules) → (first_of rules ≡ Ok tt → Only off_curve found) → ((v : W) → Only finished (answered v)) → o ≡ unless rules (following found (λ ps. answered (value ps)))
+    → Met rules found (λ ps. Ok (value ps)) answered o
+plain rules found value answered o k lookups answers e = met rules found (λ ps. Ok (value ps)) answered k lookups (λ ps. never (value ps)) answers o e

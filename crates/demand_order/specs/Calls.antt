@@ -4,7 +4,7 @@ use mathlib.Core.List.{List, [], ◌∷◌}
 use Rattle.ieee.specs.Rounded.{◌⊕◌, ◌⊖◌}
 use Rattle.ieee.specs.Numbers.{two}
 use Rattle.ieee.specs.Fused.{fused_of}
-use Rattle.refusals.specs.Refusals.{Rule}
+use Rattle.refusals.specs.declared.refusals.Rule.{Rule}
 use Rattle.refusals.specs.Faults.{curve_faults, pillar_faults, grid_faults}
 use Rattle.hullwhite_formulas.specs.HullWhite.{h, forward_of, slope_of, theta_of}
 use Rattle.hullwhite_points.specs.declared.walk.Centre.{Centre}

@@ -1,14 +1,12 @@
 -- "A search or fit meets 8 to 12 in the order of its evaluations." Every time that a call needs is looked up before the first of them (proofs/Searches.antt), so that 8 stands before 9 to 12; among themselves 9 to 12 do not come by their places: a fit that meets 10 at 1e-8 is refused so, though 9 may wait at 2.0. Here the evaluations of a search, of a valuation, of a fit and of a basket are listed in order, each with what it answers: the first of these answers that is a refusal is what the whole answers.
-use Rattle.std.specs.Prelude.{Bool, not, ◌&&◌, drop, Float}
+use Rattle.std.specs.Prelude.{Bool, not, ◌&&◌, drop, Float, Ok, Err}
 use Rattle.std.proofs.Math.Bool.{true, false, cond}
 use mathlib.Core.List.{List, [], ◌∷◌, ◌++◌, map}
 use Rattle.std.specs.Float.Ieee.{is_nan, lt}
 use Rattle.math_elementary.specs.Simple.{abs_of}
 use Rattle.refusals.specs.declared.refusals.Refusal.{Refusal}
 use Rattle.refusals.specs.declared.refusals.Refusal.TheVariants as R
-use Rattle.refusals.specs.declared.refusals.Answer.{Answer}
-use Rattle.refusals.specs.declared.refusals.Answer.TheVariants as A
-use Rattle.refusals.specs.Refusals.{Outcome, served, refused, answer_of}
+use Rattle.refusals.specs.Refusals.{Outcome, answer_of, Answer}
 use Rattle.search_sum.specs.Sum.{coupon_sum}
 use Rattle.search.specs.Rate.{critical_of}
 use Rattle.search.specs.Values.{critical_outcome}
@@ -22,18 +20,18 @@ use Rattle.basket.specs.Basket.{fit_of, bump_of}
 
 -- ---- the first answer that is a refusal
 unfoldable pub first_refused : List Answer → Answer
-first_refused [] = A.Served
-first_refused (A.Served ∷ xs) = first_refused xs
-first_refused (A.Refused r ∷ xs) = A.Refused r
+first_refused [] = Ok tt
+first_refused ((Ok tt) ∷ xs) = first_refused xs
+first_refused (Err r ∷ xs) = Err r
 
 -- what is asked of a value that an earlier evaluation gave; nothing where it gave none
 abbrev pub onto : {B : Type 0} → Outcome B → (B → Answer) → Answer
-onto (served v) ask = ask v
-onto (refused r) ask = A.Served
+onto (Ok v) ask = ask v
+onto (Err r) ask = Ok tt
 
 -- refused by r where the test says so
 abbrev pub refused_where : Refusal → Bool → Answer
-refused_where r b = cond b (A.Refused r) A.Served
+refused_where r b = cond b (Err r) (Ok tt)
 
 -- ---- a search: the lower ladder's rungs, the upper one's, the bracket, the midpoints
 module _ (sum : Float → Float) where

@@ -1,9 +1,9 @@
 -- What a call meets and in what order: its rules 1 to 7, with 14 before 7 and 15 behind it; then the times that it needs, rule 8; then what it evaluates, rules 9 to 12, among themselves "in the order of its evaluations"; and last the floats of its answer, rule 13.
-use Rattle.std.specs.Prelude.{◌≡◌, ◌↔◌, Bool, true, cond, ◌&&◌, List, [], ◌∷◌, ℕ, ltb, eqb, Float}
+use Rattle.std.specs.Prelude.{◌≡◌, ◌↔◌, Bool, true, cond, ◌&&◌, List, [], ◌∷◌, ℕ, ltb, eqb, Float, Ok, Err}
 use Rattle.refusals.specs.declared.refusals.Refusal.{Refusal}
 use Rattle.refusals.specs.declared.refusals.Refusal.TheVariants as R
-use Rattle.refusals.specs.declared.refusals.Answer.TheVariants as A
-use Rattle.refusals.specs.Refusals.{Outcome, served, refused, place_of, Rule, first_of, unless, following}
+use Rattle.refusals.specs.declared.refusals.Rule.{Rule}
+use Rattle.refusals.specs.Refusals.{Outcome, place_of, first_of, unless, following}
 
 -- ---- the stages of a call, and the stage of a refusal, which its place decides
 pub data Stage : Type 0 where
@@ -31,7 +31,7 @@ order_of finished = 4
 
 -- refused, if at all, by what belongs to the stage
 abbrev pub Only : {B : Type 0} → Stage → Outcome B → Type 0
-Only s o = (r : Refusal) → o ≡ refused r → stage_of r ≡ s
+Only s o = (r : Refusal) → o ≡ Err r → stage_of r ≡ s
 
 -- ---- a call in its stages: its rules, the factors found at the times that it needs, what it evaluates on them, and what it answers of that
 module _ {W B : Type 0} (rules : List Rule) (found : Outcome (List Float)) (worked : List Float → Outcome W) (answered : W → Outcome B) where
@@ -40,15 +40,15 @@ module _ {W B : Type 0} (rules : List Rule) (found : Outcome (List Float)) (work
 
   -- a stage refuses by r, all stages before it being served
   abbrev pub RefusedAt : Stage → Refusal → Type 0
-  RefusedAt by_rule r = first_of rules ≡ A.Refused r
-  RefusedAt off_curve r = (first_of rules ≡ A.Served) × (found ≡ refused r)
-  RefusedAt evaluated r = (first_of rules ≡ A.Served) × ((ps : List Float) × (found ≡ served ps) × (worked ps ≡ refused r))
-  RefusedAt finished r = (first_of rules ≡ A.Served) × ((ps : List Float) × (v : W) × (found ≡ served ps) × (worked ps ≡ served v) × (answered v ≡ refused r))
+  RefusedAt by_rule r = first_of rules ≡ Err r
+  RefusedAt off_curve r = (first_of rules ≡ Ok tt) × (found ≡ Err r)
+  RefusedAt evaluated r = (first_of rules ≡ Ok tt) × ((ps : List Float) × (found ≡ Ok ps) × (worked ps ≡ Err r))
+  RefusedAt finished r = (first_of rules ≡ Ok tt) × ((ps : List Float) × (v : W) × (found ≡ Ok ps) × (worked ps ≡ Ok v) × (answered v ≡ Err r))
 
   -- what a call meets: it is refused by r exactly where r's own stage refuses so and no stage before it refuses
   pub record Met (o : Outcome B) : Type 0 where
     pub is : o ≡ staged
-    pub refused_at : (r : Refusal) → (o ≡ refused r) ↔ RefusedAt (stage_of r) r
+    pub refused_at : (r : Refusal) → (o ≡ Err r) ↔ RefusedAt (stage_of r) r
 
 -- the rules are those that stand before rule 8
 abbrev pub all_rules : List Rule → Bool

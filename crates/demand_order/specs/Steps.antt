@@ -1,8 +1,8 @@
 -- The factors found of a call, and a call that needs no time.
-use Rattle.std.specs.Prelude.{List, [], get_or, Float}
+use Rattle.std.specs.Prelude.{List, [], get_or, Float, Ok}
 use Prim.Native.Nat.{ℕ}
 use Rattle.std.specs.Float.{nan}
-use Rattle.refusals.specs.Refusals.{Outcome, served}
+use Rattle.refusals.specs.Refusals.{Outcome}
 
 -- the i-th of the factors found, from 0
 abbrev pub nth : ℕ → List Float → Float
@@ -10,4 +10,4 @@ nth i ps = get_or ps i nan
 
 -- a call that needs no time
 abbrev pub no_times : Outcome (List Float)
-no_times = served []
+no_times = Ok []

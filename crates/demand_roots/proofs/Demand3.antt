@@ -1,12 +1,12 @@
 -- Demand 3 of every file: what specs/Demand3.antt says holds of each, from what is told of each job (proofs/Results.antt).
-use Rattle.std.specs.Prelude.{◌≡◌, refl, ◌⊎◌, Bool, true, false, ℕ, suc, ◌+◌, ◌*◌, ◌^◌, ◌≤◌, ◌<◌, eqb, length, Float}
+use Rattle.std.specs.Prelude.{◌≡◌, refl, ◌⊎◌, Bool, true, false, ℕ, suc, ◌+◌, ◌*◌, ◌^◌, ◌≤◌, ◌<◌, eqb, length, Float, Ok, Err}
 use Rattle.std.proofs.Common.{sym, ap, ◌∙◌, subst, inl, inr, arith, lit<}
 use mathlib.Core.List.Memᴰ
 use mathlib.Core.List.{List, [], ◌∷◌, ◌++◌, append-nil, Memᴰ}
 use borrow.Author.Tests.{eq-eqb, ne_eqb, eqb-true, eqb-false}
 use Rattle.ieee.specs.Numbers as Numbers
 use Rattle.refusals.specs.declared.refusals.Refusal.TheVariants as R
-use Rattle.refusals.specs.Refusals.{Outcome, served, refused, number_of}
+use Rattle.refusals.specs.Refusals.{Outcome, number_of}
 use Rattle.refusals.proofs.Numbered.{numbered, one_number}
 use Rattle.hullwhite_points.specs.declared.walk.Centre.{Centre}
 use Rattle.hullwhite_points.specs.declared.walk.Centre.TheVariants as C
@@ -78,9 +78,9 @@ points k kind i [] = no_lines k kind
 points k kind i (x ∷ xs) = more_lines k kind 0 (bits_of x) i (point_lines k kind (suc i) xs) (lit< tt) (λ e. omega arith) (points k kind (suc i) xs)
 
 path_held : (k kind : ℕ) (o : Outcome (List Float)) → NeverNoBracket o → PathHolds k kind (path_lines k kind o)
-path_held k kind (served []) h = one_line k kind 0 (bits_of Numbers.zero) 0 (lit< tt) (λ e. omega arith)
-path_held k kind (served (x ∷ xs)) h = points k kind 0 (x ∷ xs)
-path_held k kind (refused r) h = one_line k kind (number_of r) (bits_of Numbers.zero) 0 (numbered r).within (λ e. h (ap refused (one_number r R.NoBracket e)))
+path_held k kind (Ok []) h = one_line k kind 0 (bits_of Numbers.zero) 0 (lit< tt) (λ e. omega arith)
+path_held k kind (Ok (x ∷ xs)) h = points k kind 0 (x ∷ xs)
+path_held k kind (Err r) h = one_line k kind (number_of r) (bits_of Numbers.zero) 0 (numbered r).within (λ e. h (ap Err (one_number r R.NoBracket e)))
 
 -- ---- the job
 which : (kind : ℕ) → 12 ≤ kind → kind ≤ 13 → (kind ≡ 12) ⊎ (kind ≡ 13)

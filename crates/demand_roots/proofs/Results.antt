@@ -1,9 +1,9 @@
 -- Demand 3 of a job as it is told: one law over the calls, whatever the kind. Assumes nothing.
-use Rattle.std.specs.Prelude.{◌≡◌, refl, ◌↔◌, Bool, true, false, cond, ℕ, ◌^◌, ◌<◌, ltb, eqb, Float}
+use Rattle.std.specs.Prelude.{◌≡◌, refl, ◌↔◌, Bool, true, false, cond, ℕ, ◌^◌, ◌<◌, ltb, eqb, Float, Ok, Err}
 use Rattle.std.proofs.Common.{sym, ap, ◌∙◌, subst, arith, lit<}
 use Rattle.ieee.specs.Numbers.{zero}
 use Rattle.refusals.specs.declared.refusals.Refusal.TheVariants as R
-use Rattle.refusals.specs.Refusals.{Outcome, served, refused, number_of, answer_of, answer_number, following}
+use Rattle.refusals.specs.Refusals.{Outcome, number_of, answer_of, answer_number, following}
 use Rattle.refusals.proofs.Outcomes.{not_both}
 use Rattle.refusals.proofs.Numbered.{numbered, one_number}
 use Rattle.demand_order.specs.Grounds.{NeverNoBracket}
@@ -24,41 +24,41 @@ use Rattle.demand_roots.specs.Owed.{Owed, option_owed, model_owed, pricer_owed, 
 
 -- ---- the law: what is told of a call whose outcome has what is owed, holds
 abbrev result_by : {A : Type 0} → (A → Float) → (A → ℕ) → Outcome A → JobResult
-result_by value note (served v) = record { answer = 0; value = value v; note = note v }
-result_by value note (refused r) = record { answer = number_of r; value = zero; note = 0 }
+result_by value note (Ok v) = record { answer = 0; value = value v; note = note v }
+result_by value note (Err r) = record { answer = number_of r; value = zero; note = 0 }
 
 abbrev result_owed : Owed → JobResult
 result_owed owed = result_by owed.value owed.note owed.outcome
 
 record Kept (owed : Owed) : Type 0 where
-  facts : (v : owed.Given) → owed.outcome ≡ served v → owed.Facts v
-  so : (owed.outcome ≡ refused R.NoBracket) ↔ owed.Wants
+  facts : (v : owed.Given) → owed.outcome ≡ Ok v → owed.Facts v
+  so : (owed.outcome ≡ Err R.NoBracket) ↔ owed.Wants
 
 held : (owed : Owed) → Kept owed → ResultHolds owed (result_owed owed)
 held owed k = go owed.outcome refl
   where
     go : (o : Outcome owed.Given) → owed.outcome ≡ o → ResultHolds owed (result_by owed.value owed.note o)
-    go (served v) e = record {
+    go (Ok v) e = record {
       accepted = λ z. record { given = v; is = e; value_is = refl; note_is = refl; facts = k.facts v e };
       no_bracket = (λ z. absurd (omega arith), λ w. absurd (not_both (sym (k.so.1 w) ∙ e)));
     }
-    go (refused r) e = record {
+    go (Err r) e = record {
       accepted = λ z. absurd (let a = (numbered r).above in let y : ⊥ = omega arith in y);
-      no_bracket = (λ z. k.so.0 (e ∙ ap refused (one_number r R.NoBracket z)), λ w. ap (λ (o : Outcome owed.Given). answer_number (answer_of o)) (sym e ∙ k.so.1 w));
+      no_bracket = (λ z. k.so.0 (e ∙ ap Err (one_number r R.NoBracket z)), λ w. ap (λ (o : Outcome owed.Given). answer_number (answer_of o)) (sym e ∙ k.so.1 w));
     }
 
 -- ---- sort by sort
-priced : {A : Type 0} (value : A → Float) (o : Outcome A) → result_of_price (following o (λ v. served (value v))) ≡ result_by value (λ v. 0) o
-priced value (served v) = refl
-priced value (refused r) = refl
+priced : {A : Type 0} (value : A → Float) (o : Outcome A) → result_of_price (following o (λ v. Ok (value v))) ≡ result_by value (λ v. 0) o
+priced value (Ok v) = refl
+priced value (Err r) = refl
 
 plain : (o : Outcome Float) → result_of_price o ≡ result_owed (option_owed o)
-plain (served v) = refl
-plain (refused r) = refl
+plain (Ok v) = refl
+plain (Err r) = refl
 
 fitted : (o : Outcome Fit) → result_of_fit o ≡ result_by (λ (fit : Fit). fit.sigma) note_of o
-fitted (served fit) = refl
-fitted (refused r) = refl
+fitted (Ok fit) = refl
+fitted (Err r) = refl
 
 option_kept : (o : Outcome Float) → NeverNoBracket o → Kept (option_owed o)
 option_kept o never = record { facts = λ v e. tt; so = (never, λ w. absurd w) }
@@ -109,7 +109,7 @@ module _ (q : Request) (j : Job) where
       (either (eqb j.kind 3) (option_tells _ (bond_option_never _ _ _ _ _ _ _ _))
       (option_tells _ (bond_option_never _ _ _ _ _ _ _ _))))
 
-  pricer : (option : SwaptionType) → Tells (pricer_owed q j option) (result_of_price (following (pricer_owed q j option).outcome (λ v. served v.value)))
+  pricer : (option : SwaptionType) → Tells (pricer_owed q j option) (result_of_price (following (pricer_owed q j option).outcome (λ v. Ok v.value)))
   pricer option = record { is = priced (pricer_owed q j option).value (pricer_owed q j option).outcome; kept = pricer_kept q j option }
 
   swaptions : Tells (swaptions_owed q j) (swaption_result q j)
@@ -140,5 +140,5 @@ module _ (q : Request) (j : Job) where
   result_small = let t = tells in subst (λ (told : JobResult). told.answer < 10 ^ 20) (sym t.is) (go (owed_of q j).outcome)
     where
       go : (o : Outcome (owed_of q j).Given) → (result_by (owed_of q j).value (owed_of q j).note o).answer < 10 ^ 20
-      go (served v) = lit< tt
-      go (refused r) = (numbered r).within
+      go (Ok v) = lit< tt
+      go (Err r) = (numbered r).within

@@ -1,9 +1,7 @@
 -- Demand 3 of every file, to the bytes that are printed: what a line with answer 0 rests on, and where a line says 10. "Once kinds 5 to 11 and the basket run, demand 3 is owed, all of it."
-use Rattle.std.specs.Prelude.{◌≡◌, ◌↔◌, ℕ, suc, ◌+◌, ◌*◌, ◌/◌, ◌≤◌, ◌<◌, length}
+use Rattle.std.specs.Prelude.{◌≡◌, ◌↔◌, ℕ, suc, ◌+◌, ◌*◌, ◌/◌, ◌≤◌, ◌<◌, length, Ok, Some, None}
 use mathlib.Core.List.{List, Memᴰ}
-use Rattle.refusals.specs.Refusals.{served}
 use Rattle.file_layout.specs.declared.parts.Layout.{Layout}
-use Rattle.file_layout.specs.declared.parts.Laid.TheVariants.{Parts, Broken}
 use Rattle.file_layout.specs.declared.records.Job.{Job}
 use Rattle.file_layout.specs.Layout.{layout_of}
 use Rattle.file_layout.specs.Request.{Request, request_of, job_at}
@@ -17,7 +15,7 @@ use Rattle.file_output.specs.Pieces.{pieces_of, piece_of, joined}
 -- a line with answer 0: there is a valuation or a fit that the job's call gives, the line is that of its own value and note, and the whole of what its kind owes holds of it
 pub record AcceptedLine (owed : Owed) (k kind : ℕ) (line : List ℕ) : Type 0 where
   pub given : owed.Given
-  pub is : owed.outcome ≡ served given
+  pub is : owed.outcome ≡ Ok given
   pub own : line ≡ line_of k kind 0 (bits_of (owed.value given)) (owed.note given)
   pub facts : owed.Facts given
 
@@ -52,8 +50,8 @@ pub record JobHolds (q : Request) (k : ℕ) (j : Job) (text : List ℕ) : Type 0
 -- "prints `job kind answer value note`, then a line a job": the text of job k is piece k + 1 of what is printed
 pub record FileDemand3 (file : List ℕ) : Type 0 where
   pub whole : joined (pieces_of file) ≡ output_of file
-  pub broken : layout_of file ≡ Broken → output_of file ≡ refused_line
+  pub broken : layout_of file ≡ None → output_of file ≡ refused_line
   -- the header first, then a piece a job, and none behind them
-  pub first : (l : Layout) → layout_of file ≡ Parts l → piece_of file 0 ≡ header
-  pub count : (l : Layout) → layout_of file ≡ Parts l → length (pieces_of file) ≡ suc (l.jobs.length / 40)
-  pub jobs : (l : Layout) → layout_of file ≡ Parts l → (k : ℕ) → k < l.jobs.length / 40 → JobHolds (request_of file l) k (job_at file (l.jobs.offset + 40 * k)) (piece_of file (suc k))
+  pub first : (l : Layout) → layout_of file ≡ Some l → piece_of file 0 ≡ header
+  pub count : (l : Layout) → layout_of file ≡ Some l → length (pieces_of file) ≡ suc (l.jobs.length / 40)
+  pub jobs : (l : Layout) → layout_of file ≡ Some l → (k : ℕ) → k < l.jobs.length / 40 → JobHolds (request_of file l) k (job_at file (l.jobs.offset + 40 * k)) (piece_of file (suc k))

@@ -1,6 +1,6 @@
 -- Demand 3 of a job of kinds 1 to 11, as it is told: what an accepted call gives has the facts that its kind owes, its value and its note are the ones told, and 10 is told exactly where a search that was begun wants a bracket. "In demand 3, accepted means answer 0".
-use Rattle.std.specs.Prelude.{◌≡◌, ◌↔◌, cond, ℕ, ◌<◌, ltb, eqb, length, Float}
-use Rattle.refusals.specs.Refusals.{Outcome, served}
+use Rattle.std.specs.Prelude.{◌≡◌, ◌↔◌, cond, ℕ, ◌<◌, ltb, eqb, length, Float, Ok}
+use Rattle.refusals.specs.Refusals.{Outcome}
 use Rattle.hullwhite_terms.specs.Begun.{RootFound, WantsBracket}
 use Rattle.hullwhite_options.specs.declared.options.OptionType.TheVariants.{Put, Call}
 use Rattle.hullwhite_options.specs.Options.{optionlet_outcome, bond_option_outcome}
@@ -21,6 +21,8 @@ use Rattle.file_layout.specs.declared.records.Job.{Job}
 use Rattle.file_layout.specs.Request.{Request}
 use Rattle.file_jobs.specs.declared.results.JobResult.{JobResult}
 use Rattle.file_jobs.specs.Results.{note_of}
+use Rattle.hullwhite_jamshidian.specs.declared.price.Swaption.{Swaption}
+use Rattle.pricer_value.specs.declared.value.Valuation.{Valuation}
 
 -- a job's call: its outcome; what is told as value and as note of what it gives; the facts that demand 3 owes of that; and when a search that the call began wants a bracket
 pub record Owed : Type 1 where
@@ -44,7 +46,7 @@ module _ (q : Request) (j : Job) where
       let rules = Swaptions.model_rules_on q.alpha q.curve_times q.curve_factors q.payments q.accruals j.a j.b j.c in
       let sum = ModelSum.model_sum_of q.alpha j.b q.payments q.accruals j.a j.c in
       record {
-        Given = Model.ModelValued;
+        Given = Swaption;
         outcome = Swaptions.model_outcome q.alpha q.curve_times q.curve_factors q.payments q.accruals j.a j.b j.c;
         value = λ v. v.value;
         note = λ v. 0;
@@ -58,7 +60,7 @@ module _ (q : Request) (j : Job) where
       let rules = Pricers.pricer_rules_on q.alpha q.pillar_times q.pillar_sigmas q.curve_times q.curve_factors q.payments q.accruals q.owns j.a j.b j.c j.d in
       let sum = PricerSum.pricer_sum_of q.alpha q.pillar_times q.pillar_sigmas j.b q.payments q.accruals j.a in
       record {
-        Given = Pricer.PricerValued;
+        Given = Valuation;
         outcome = Pricers.pricer_outcome option q.alpha q.pillar_times q.pillar_sigmas q.curve_times q.curve_factors q.payments q.accruals q.owns j.a j.b j.c j.d;
         value = λ v. v.value;
         note = λ v. 0;
@@ -117,7 +119,7 @@ module _ (q : Request) (j : Job) where
 -- what an accepted call gives: the value and the note told are its own, and its facts hold
 pub record Accepted (owed : Owed) (told : JobResult) : Type 0 where
   pub given : owed.Given
-  pub is : owed.outcome ≡ served given
+  pub is : owed.outcome ≡ Ok given
   pub value_is : told.value ≡ owed.value given
   pub note_is : told.note ≡ owed.note given
   pub facts : owed.Facts given

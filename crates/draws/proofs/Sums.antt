@@ -1,8 +1,7 @@
 -- The sum of the top halves over n steps: one step of it, and that it is below n × 2^32. Assumes nothing.
-use mathlib.Core.Path.{◌≡◌, refl}
-use Prim.Native.Nat.{ℕ, zero, suc, ◌+◌, ◌-◌, ◌*◌, ◌/◌, ◌^◌, ◌≤◌, ◌<◌}
+use mathlib.Core.Path.{◌≡◌, refl, subst}
+use Prim.Native.Nat.{ℕ, zero, suc, ◌+◌, ◌*◌, ◌/◌, ◌^◌, ◌≤◌, ◌<◌}
 use native.Mathlib.Omega.{arith}
-use native.Mathlib.Numerals.{sub-one}
 use Rattle.draws.specs.Xorshift.{step_of, steps_of}
 use Rattle.draws.specs.Draws.{sum_of}
 use Rattle.draws.proofs.Steps.{step_fits}
@@ -23,7 +22,7 @@ sum_at_most (suc n) x b =
 pub sum_below : (x : ℕ) → x < 2 ^ 64 → sum_of 12 x < 12 * 2 ^ 32
 sum_below x b = omega (arith, sum_at_most 12 x b)
 
--- ---- of a loop that counts the steps down which are left: what is added and what is to be added come to the whole
+-- ---- of a loop over twelve steps, some of them left: what is added and what is to be added come to the whole
 pub record Summing (seed left sum state : ℕ) : Type 0 where
   pub within : left ≤ 12
   pub summed : sum + sum_of left state ≡ sum_of 12 seed
@@ -42,14 +41,16 @@ module _ (seed sum state : ℕ) where
       let parts = s.summed in
       rw e (omega (arith, whole, parts))
 
-  pub turn : (left next : ℕ) → Summing seed left sum state → 0 < left → next ≡ step_of state → Summing seed (left - 1) (sum + next / 2 ^ 32) next
+  pub turn : (left rest next : ℕ) → Summing seed left sum state → left ≡ suc rest → next ≡ step_of state → Summing seed rest (sum + next / 2 ^ 32) next
   unfolding sum_of steps_of
-  turn zero next s h e = absurd (let z : ⊥ = omega arith in z)
-  turn (suc left) next s h e = rw (e, sub-one) (record {
-    within = omega (arith, s.within);
-    summed = omega (arith, s.summed);
-    stepped = s.stepped;
-  })
+  turn left rest next s h e = go (subst (λ (n : ℕ). Summing seed n sum state) h s)
+    where
+      go : Summing seed (suc rest) sum state → Summing seed rest (sum + next / 2 ^ 32) next
+      go s = rw e (record {
+        within = omega (arith, s.within);
+        summed = omega (arith, s.summed);
+        stepped = s.stepped;
+      })
 
   pub end : seed < 2 ^ 64 → (left : ℕ) → Summing seed left sum state → left ≤ 0 → (sum ≡ sum_of 12 seed) × (state ≡ steps_of 12 seed) × (sum < 12 * 2 ^ 32)
   unfolding sum_of steps_of

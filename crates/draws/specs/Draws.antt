@@ -1,12 +1,11 @@
 -- Document 02, A.5: "A draw adds the top 32 bits of the state after each of twelve steps, takes away 6 × 2^32 and divides by 2^32, all exactly."
-use Rattle.std.specs.Prelude.{true, false, cond, List, [], ◌∷◌, ℕ, zero, suc, ◌+◌, ◌-◌, ◌*◌, ◌/◌, ◌^◌, ◌≤◌, ◌<◌, ltb, eqb, Float}
+use Rattle.std.specs.Prelude.{true, false, cond, List, [], ◌∷◌, ℕ, zero, suc, ◌+◌, ◌-◌, ◌*◌, ◌/◌, ◌^◌, ◌≤◌, ◌<◌, ltb, eqb, Float, Ok}
 use Rattle.std.specs.Float.{binary64}
 use Rattle.std.specs.Float.Ieee.{round}
 use Rattle.std.specs.Float.Ieee.Exact.{HasValue}
 use Rattle.refusals.specs.declared.refusals.Refusal.TheVariants as R
-use Rattle.refusals.specs.Refusals.{Outcome, served, refused, Rule, rule, unless, following}
-use Rattle.draws.specs.declared.stated.Drawn.{Drawn}
-use Rattle.draws.specs.declared.stated.Drawn.TheVariants as D
+use Rattle.refusals.specs.declared.refusals.Rule.{Rule}
+use Rattle.refusals.specs.Refusals.{Outcome, rule, unless, following}
 use Rattle.draws.specs.Xorshift.{step_of, steps_of}
 
 -- "adds the top 32 bits of the state after each of" n "steps"
@@ -45,12 +44,8 @@ abbrev pub draw_rules : ℕ → ℕ → List Rule
 draw_rules seed n = rule R.Size (ltb 1024 n) ∷ rule R.ZeroSeed (eqb seed 0) ∷ []
 
 unfoldable pub draws_outcome : ℕ → ℕ → Outcome (List Float)
-draws_outcome seed n = unless (draw_rules seed n) (served (draws_of n seed))
+draws_outcome seed n = unless (draw_rules seed n) (Ok (draws_of n seed))
 
 -- the state that is told beside what is served
 abbrev pub reaching : Outcome (List Float) → ℕ → Outcome ℕ
-reaching values state = following values (λ xs. served state)
-
-abbrev pub drawn_outcome : Drawn → Outcome ℕ
-drawn_outcome (D.Reached state) = served state
-drawn_outcome (D.Refused r) = refused r
+reaching values state = following values (λ xs. Ok state)

@@ -4,4 +4,4 @@
 mod stated;
 mod xorshift;
 
-pub use stated::{Drawn, stated_draws, write_draws};
+pub use stated::{stated_draws, write_draws};

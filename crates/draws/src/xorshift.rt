@@ -3,6 +3,9 @@ ghost use Rattle.std.specs.Prelude.{◌≡◌, ◌*◌, ◌^◌, ◌<◌};
 ghost use Rattle.draws.specs.Xorshift.{step_of, steps_of};
 ghost use Rattle.draws.specs.Draws.{sum_of};
 
+// The steps that a draw adds over.
+const STEPS: u64 = 12;
+
 // What twelve steps come to: the sum of the top halves, and the state reached.
 #[derive(Clone, Copy)]
 pub struct Twelve {
@@ -26,11 +29,9 @@ pub fn twelve_steps(seed: u64) -> Twelve
 {
     let mut sum = 0;
     let mut state = seed;
-    let mut left: u32 = 12;
-    while left > 0 {
+    for _ in 0..STEPS {
         state = step(state);
         sum += state >> 32;
-        left -= 1;
     }
     Twelve { sum, state }
 }

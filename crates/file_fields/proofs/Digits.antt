@@ -64,9 +64,9 @@ one_digit n x h e = rw e (sym (last_digit 19 n h))
 pub two_digits : (n x y : ℕ) → 10 ≤ n → n < 100 → x ≡ 48 + n / 10 → y ≡ 48 + n % 10 → x ∷ y ∷ [] ≡ decimal_in 20 n
 two_digits n x y l h e f = rw (e, f) (sym (one_more 19 n l ∙ rw (last_digit 18 (n / 10) (omega arith))))
 
-pub three_digits : (n x y z : ℕ) → 100 ≤ n → n < 1000 → x ≡ 48 + n / 10 / 10 → y ≡ 48 + n / 10 % 10 → z ≡ 48 + n % 10 → x ∷ y ∷ z ∷ [] ≡ decimal_in 20 n
+pub three_digits : (n x y z : ℕ) → 100 ≤ n → n < 1000 → x ≡ 48 + n / 100 → y ≡ 48 + n / 10 % 10 → z ≡ 48 + n % 10 → x ∷ y ∷ z ∷ [] ≡ decimal_in 20 n
 three_digits n x y z l h e f g =
-    rw (e, f, g) (sym (one_more 19 n (omega arith) ∙ rw (one_more 18 (n / 10) (omega arith), last_digit 17 (n / 10 / 10) (omega arith))))
+    rw (e, ← div-div-eq-div-mul n 10 10, f, g) (sym (one_more 19 n (omega arith) ∙ rw (one_more 18 (n / 10) (omega arith), last_digit 17 (n / 10 / 10) (omega arith))))
 
 -- ---- the first j digits, and then the last k
 pub hex_split : (j k n : ℕ) → hex_in j (n / 16 ^ k) ++ hex_in k n ≡ hex_in (j + k) n

@@ -3,15 +3,14 @@ use mathlib.Core.Path.{◌≡◌, refl, sym, ◌∙◌, ap, ap₂}
 use mathlib.Core.Bool.{true}
 use mathlib.Core.List.{List, [], ◌∷◌, map}
 use Prim.Native.Nat.{ℕ, zero, suc, ◌+◌, ◌-◌, ◌*◌, ◌/◌, ◌%◌, ◌^◌, ◌<◌}
-use native.Mathlib.Nat.{add_comm, add-mul, mul_assoc, div-one}
-use native.Mathlib.Numerals.{add-one}
+use native.Mathlib.Nat.{add_comm, add-mul, mul_assoc, div-one, div-div-eq-div-mul, pow-suc}
 use native.Mathlib.Omega.{arith}
 use lib.Arith.{digits_div, digits_mod}
 use lib.Bits.{bit_and, and_zero_r, and_mask, and_shr, and_mod}
 use lib.Dec.{T}
-use lib.ListN.{length, drop, get_or}
+use lib.ListN.{length}
 use lib.Pow.{split, high, low, shr-shr, field, mod-mod-pow, ones_lt, pow_mono}
-use lib.Seq.{drop-cons}
+use Rattle.std.specs.Int.{w64, bytes_low_first, to_le_bytes}
 use Rattle.file_fields.specs.Text.{bytes_of}
 
 -- the word whose lanes, below b, these are
@@ -92,14 +91,15 @@ unfolding bytes_of
 bytes_length zero n = refl
 bytes_length (suc k) n = ap suc (bytes_length k (n / 256))
 
--- i bytes are taken off the word, and then one more
-pub bytes_turn : (k word i rest : ℕ) → i < k → drop i (bytes_of k word) ≡ bytes_of (k - i) rest → (rest % 256 ≡ get_or (bytes_of k word) i 0) × (drop (i + 1) (bytes_of k word) ≡ bytes_of (k - (i + 1)) (rest / 256))
-unfolding bytes_of
-bytes_turn k word i rest h e =
-    let s = bytes_of k word in
-    let m = k - (i + 1) in
-    let z : k - i ≡ suc m = omega arith in
-    let l : i < length s = rw bytes_length h in
-    let q : get_or s i 0 ∷ drop (suc i) s ≡ rest % 256 ∷ bytes_of m (rest / 256) = sym (drop-cons s i 0 l) ∙ e ∙ ap (λ (j : ℕ). bytes_of j rest) z in
-    let t : drop (suc i) s ≡ bytes_of m (rest / 256) = cc in
-    (cc, ap (λ (j : ℕ). drop j s) (add-one i) ∙ t)
+-- ---- the bytes of a word, as the library has them
+module _ (n : ℕ) where
+  from_low : (i k : ℕ) → bytes_low_first (suc i) k n ≡ bytes_of k (n / 256 ^ suc i)
+  unfolding bytes_of
+  from_low i zero = refl
+  from_low i (suc k) =
+      let e : n / 256 ^ suc i / 256 ≡ n / 256 ^ suc (suc i) = div-div-eq-div-mul n (256 ^ suc i) 256 ∙ ap (λ (m : ℕ). n / m) (sym (pow-suc 256 (suc i))) in
+      rw (e, from_low (suc i) k)
+
+  pub le_bytes : to_le_bytes w64 n ≡ bytes_of 8 n
+  unfolding bytes_of
+  le_bytes = ap (λ (t : List ℕ). n % 256 ∷ t) (from_low 0 7)

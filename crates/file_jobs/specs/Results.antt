@@ -1,7 +1,7 @@
 -- What is told of a job of kinds 1 to 11: document 01's number, a value, and a note.
-use Rattle.std.specs.Prelude.{ℕ, cond, List, ltb, eqb, Float}
+use Rattle.std.specs.Prelude.{ℕ, cond, List, ltb, eqb, Float, Ok, Err}
 use Rattle.ieee.specs.Numbers.{zero}
-use Rattle.refusals.specs.Refusals.{Outcome, served, refused, number_of, answer_of, answer_number, value_or, following}
+use Rattle.refusals.specs.Refusals.{Outcome, number_of, answer_of, answer_number, value_or, following}
 use Rattle.hullwhite_options.specs.declared.options.OptionType.TheVariants.{Put, Call}
 use Rattle.hullwhite_options.specs.Options.{optionlet_outcome, bond_option_outcome}
 use Rattle.hullwhite_jamshidian.specs.Price as Model
@@ -15,6 +15,8 @@ use Rattle.fit.specs.Fits.{caplet_fit_outcome, swaption_fit_outcome}
 use Rattle.file_layout.specs.declared.records.Job.{Job}
 use Rattle.file_layout.specs.Request.{Request}
 use Rattle.file_jobs.specs.declared.results.JobResult.{JobResult}
+use Rattle.hullwhite_jamshidian.specs.declared.price.Swaption.{Swaption}
+use Rattle.pricer_value.specs.declared.value.Valuation.{Valuation}
 
 -- ---- from an outcome: "with value +0" beside a refusal; "Other notes are 0"
 
@@ -26,15 +28,15 @@ abbrev pub note_of : Fit → ℕ
 note_of fit = cond fit.converged fit.halvings 0
 
 abbrev pub result_of_fit : Outcome Fit → JobResult
-result_of_fit (served fit) = record { answer = 0; value = fit.sigma; note = note_of fit }
-result_of_fit (refused r) = record { answer = number_of r; value = zero; note = 0 }
+result_of_fit (Ok fit) = record { answer = 0; value = fit.sigma; note = note_of fit }
+result_of_fit (Err r) = record { answer = number_of r; value = zero; note = 0 }
 
 -- a swaption's value without its root
-abbrev pub model_value : Outcome Model.ModelValued → Outcome Float
-model_value o = following o (λ v. served v.value)
+abbrev pub model_value : Outcome Swaption → Outcome Float
+model_value o = following o (λ v. Ok v.value)
 
-abbrev pub pricer_value : Outcome Pricer.PricerValued → Outcome Float
-pricer_value o = following o (λ v. served v.value)
+abbrev pub pricer_value : Outcome Valuation → Outcome Float
+pricer_value o = following o (λ v. Ok v.value)
 
 -- ---- the lists of a file as the code has them
 abbrev pub request_of_lists : Float → List Float → List Float → List Float → List Float → List Float → List Float → List Float → List Float → List Float → List Job → Request

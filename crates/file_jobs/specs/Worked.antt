@@ -7,7 +7,6 @@ use Rattle.pricer_formulas.specs.declared.bond_option.SwaptionType.TheVariants.{
 use Rattle.pricer_value.specs.Value as Pricer
 use Rattle.pricer.specs.Pricer.{pricer_outcome}
 use Rattle.math_bisection.specs.declared.result.Fit.{Fit}
-use Rattle.math_bisection.specs.Result.{fitted_outcome}
 use Rattle.fit_objective.specs.declared.market.VolatilityType.TheVariants.{Black, Normal}
 use Rattle.fit.specs.Fits.{caplet_fit_outcome, swaption_fit_outcome}
 use Rattle.file_layout.specs.declared.records.Job.{Job}
@@ -16,34 +15,24 @@ use Rattle.file_jobs.specs.declared.results.JobResult.{JobResult}
 use Rattle.file_jobs.specs.declared.results.Worked.{Worked}
 use Rattle.file_jobs.specs.declared.results.Worked.TheVariants as W
 use Rattle.file_jobs.specs.Results.{result_of_price, result_of_fit, model_value, pricer_value, swaption_result, fit_result, job_result_of}
-
--- the model's swaption with its root, a valuation, a fit: each served or refused
-pub data Whole : Type 0 where
-  modelled : Outcome Model.ModelValued → Whole
-  valued : Outcome Pricer.PricerValued → Whole
-  fitted : Outcome Fit → Whole
-
--- the code's answer as one
-abbrev pub whole_of : Worked → Whole
-whole_of (W.Swaption s) = modelled (Model.swaption_outcome s)
-whole_of (W.Valuation v) = valued (Pricer.valuation_outcome v)
-whole_of (W.Fit f) = fitted (fitted_outcome f)
+use Rattle.hullwhite_jamshidian.specs.declared.price.Swaption.{Swaption}
+use Rattle.pricer_value.specs.declared.value.Valuation.{Valuation}
 
 -- number, value and note of each sort
-unfoldable pub result_from : Whole → JobResult
-result_from (modelled o) = result_of_price (model_value o)
-result_from (valued o) = result_of_price (pricer_value o)
-result_from (fitted o) = result_of_fit o
+unfoldable pub result_from : Worked → JobResult
+result_from (W.Swaption o) = result_of_price (model_value o)
+result_from (W.Valuation o) = result_of_price (pricer_value o)
+result_from (W.Fit o) = result_of_fit o
 
 -- ---- "Kinds": the calls of `job_result_of`, on the same fields
 module _ (q : Request) (j : Job) where
-  abbrev model : Outcome Model.ModelValued
+  abbrev model : Outcome Swaption
   model = model_outcome q.alpha q.curve_times q.curve_factors q.payments q.accruals j.a j.b j.c
 
-  abbrev payer : Outcome Pricer.PricerValued
+  abbrev payer : Outcome Valuation
   payer = pricer_outcome Payer q.alpha q.pillar_times q.pillar_sigmas q.curve_times q.curve_factors q.payments q.accruals q.owns j.a j.b j.c j.d
 
-  abbrev receiver : Outcome Pricer.PricerValued
+  abbrev receiver : Outcome Valuation
   receiver = pricer_outcome Receiver q.alpha q.pillar_times q.pillar_sigmas q.curve_times q.curve_factors q.payments q.accruals q.owns j.a j.b j.c j.d
 
   abbrev black_caplet : Outcome Fit
@@ -58,30 +47,30 @@ module _ (q : Request) (j : Job) where
   abbrev normal_swaption : Outcome Fit
   normal_swaption = swaption_fit_outcome Normal q.alpha q.curve_times q.curve_factors q.payments q.accruals j.a j.b j.c
 
-  unfoldable pub swaption_whole : Whole
-  swaption_whole = cond (eqb j.kind 5) (modelled model) (cond (eqb j.kind 6) (valued payer) (valued receiver))
+  unfoldable pub swaption_whole : Worked
+  swaption_whole = cond (eqb j.kind 5) (W.Swaption model) (cond (eqb j.kind 6) (W.Valuation payer) (W.Valuation receiver))
 
-  unfoldable pub fit_whole : Whole
-  fit_whole = cond (eqb j.kind 8) (fitted black_caplet) (cond (eqb j.kind 9) (fitted normal_caplet) (cond (eqb j.kind 10) (fitted black_swaption) (fitted normal_swaption)))
+  unfoldable pub fit_whole : Worked
+  fit_whole = cond (eqb j.kind 8) (W.Fit black_caplet) (cond (eqb j.kind 9) (W.Fit normal_caplet) (cond (eqb j.kind 10) (W.Fit black_swaption) (W.Fit normal_swaption)))
 
-unfoldable pub work_of : Request → Job → Whole
+unfoldable pub work_of : Request → Job → Worked
 work_of q j = cond (ltb j.kind 8) (swaption_whole q j) (fit_whole q j)
 
 -- ---- what is told of the whole is what is told of the job
-swaptions_told : (a b : Bool) (w : Outcome Model.ModelValued) (x y : Outcome Pricer.PricerValued) → result_from (cond a (modelled w) (cond b (valued x) (valued y))) ≡ cond a (result_of_price (model_value w)) (cond b (result_of_price (pricer_value x)) (result_of_price (pricer_value y)))
+swaptions_told : (a b : Bool) (w : Outcome Swaption) (x y : Outcome Valuation) → result_from (cond a (W.Swaption w) (cond b (W.Valuation x) (W.Valuation y))) ≡ cond a (result_of_price (model_value w)) (cond b (result_of_price (pricer_value x)) (result_of_price (pricer_value y)))
 unfolding result_from
 swaptions_told true b w x y = refl
 swaptions_told false true w x y = refl
 swaptions_told false false w x y = refl
 
-fits_told : (a b c : Bool) (w x y z : Outcome Fit) → result_from (cond a (fitted w) (cond b (fitted x) (cond c (fitted y) (fitted z)))) ≡ cond a (result_of_fit w) (cond b (result_of_fit x) (cond c (result_of_fit y) (result_of_fit z)))
+fits_told : (a b c : Bool) (w x y z : Outcome Fit) → result_from (cond a (W.Fit w) (cond b (W.Fit x) (cond c (W.Fit y) (W.Fit z)))) ≡ cond a (result_of_fit w) (cond b (result_of_fit x) (cond c (result_of_fit y) (result_of_fit z)))
 unfolding result_from
 fits_told true b c w x y z = refl
 fits_told false true c w x y z = refl
 fits_told false false true w x y z = refl
 fits_told false false false w x y z = refl
 
-sorts_told : (a : Bool) (x y : Whole) (t u : JobResult) → result_from x ≡ t → result_from y ≡ u → result_from (cond a x y) ≡ cond a t u
+sorts_told : (a : Bool) (x y : Worked) (t u : JobResult) → result_from x ≡ t → result_from y ≡ u → result_from (cond a x y) ≡ cond a t u
 sorts_told true x y t u e f = e
 sorts_told false x y t u e f = f
 

@@ -2,9 +2,8 @@
 ghost use Rattle.std.specs.Prelude.{◌≡◌, []};
 ghost use Rattle.refusals.specs.Faults.{curve_faults};
 ghost use Rattle.file_jobs.specs.Results.{request_of_lists, option_result};
-ghost use Rattle.file_jobs.specs.Worked.{whole_of, swaption_whole, fit_whole, work_of};
+ghost use Rattle.file_jobs.specs.Worked.{swaption_whole, fit_whole, work_of};
 
-use super::results;
 use super::results::{JobResult, Worked};
 use file_layout::Job;
 use fit::{Quote, VolatilityType};
@@ -30,7 +29,7 @@ pub fn option_result(curve: Faults, alpha: f64, times: &[f64], factors: &[f64], 
         strike: j.c,
     };
     if j.kind == 1 {
-        return results::price(hullwhite_options::optionlet_on(
+        return JobResult::from(hullwhite_options::optionlet_on(
             OptionType::Put,
             curve,
             alpha,
@@ -41,7 +40,7 @@ pub fn option_result(curve: Faults, alpha: f64, times: &[f64], factors: &[f64], 
         ));
     }
     if j.kind == 2 {
-        return results::price(hullwhite_options::optionlet_on(
+        return JobResult::from(hullwhite_options::optionlet_on(
             OptionType::Call,
             curve,
             alpha,
@@ -52,7 +51,7 @@ pub fn option_result(curve: Faults, alpha: f64, times: &[f64], factors: &[f64], 
         ));
     }
     if j.kind == 3 {
-        return results::price(hullwhite_options::bond_option_on(
+        return JobResult::from(hullwhite_options::bond_option_on(
             OptionType::Put,
             curve,
             alpha,
@@ -62,7 +61,7 @@ pub fn option_result(curve: Faults, alpha: f64, times: &[f64], factors: &[f64], 
             j.d,
         ));
     }
-    results::price(hullwhite_options::bond_option_on(
+    JobResult::from(hullwhite_options::bond_option_on(
         OptionType::Call,
         curve,
         alpha,
@@ -88,7 +87,7 @@ fn swaption_work(
     j: Job,
 ) -> Worked
     requires { curve ≡ curve_faults times.now factors.now }
-    ensures { whole_of result ≡ swaption_whole (request_of_lists alpha pillars.now sigmas.now times.now factors.now payments.now accruals.now owns.now [] [] []) j }
+    ensures { result ≡ swaption_whole (request_of_lists alpha pillars.now sigmas.now times.now factors.now payments.now accruals.now owns.now [] [] []) j }
 {
     if j.kind == 5 {
         return Worked::Swaption(hullwhite_swaptions::swaption_price_on(
@@ -131,7 +130,7 @@ fn fit_work(
     j: Job,
 ) -> Worked
     requires { curve ≡ curve_faults times.now factors.now }
-    ensures { whole_of result ≡ fit_whole (request_of_lists alpha [] [] times.now factors.now payments.now accruals.now [] [] [] []) j }
+    ensures { result ≡ fit_whole (request_of_lists alpha [] [] times.now factors.now payments.now accruals.now [] [] [] []) j }
 {
     let caplet = Optionlet {
         strike: j.a,
@@ -185,7 +184,7 @@ pub fn work(
     j: Job,
 ) -> Worked
     requires { curve ≡ curve_faults times.now factors.now }
-    ensures { whole_of result ≡ work_of (request_of_lists alpha pillars.now sigmas.now times.now factors.now payments.now accruals.now owns.now [] [] []) j }
+    ensures { result ≡ work_of (request_of_lists alpha pillars.now sigmas.now times.now factors.now payments.now accruals.now owns.now [] [] []) j }
 {
     if j.kind < 8 {
         return swaption_work(

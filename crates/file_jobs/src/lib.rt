@@ -5,4 +5,4 @@ mod kinds;
 mod results;
 
 pub use kinds::{option_result, work};
-pub use results::{JobResult, Worked, job_result};
+pub use results::{JobResult, Worked};

@@ -1,23 +1,19 @@
 // What a job is worked to, and what is told of it: document 01's number, the value or +0, and the note.
 ghost use Rattle.std.specs.Prelude.{◌≡◌};
-ghost use Rattle.refusals.specs.Refusals.{refused, outcome_of};
-ghost use Rattle.hullwhite_jamshidian.specs.Price.{swaption_outcome};
-ghost use Rattle.pricer_value.specs.Value.{valuation_outcome};
-ghost use Rattle.math_bisection.specs.Result.{fitted_outcome};
-ghost use Rattle.file_jobs.specs.Results.{result_of_price, model_value, pricer_value, result_of_fit, note_of};
-ghost use Rattle.file_jobs.specs.Worked.{whole_of, result_from};
+ghost use Rattle.file_jobs.specs.Results.{result_of_price, result_of_fit, model_value, pricer_value, note_of};
+ghost use Rattle.file_jobs.specs.Worked.{result_from};
 
 use hullwhite_jamshidian::Swaption;
-use math_bisection::{Fit, Fitted};
+use math_bisection::Fit;
 use pricer_value::Valuation;
-use refusals::{Price, Refusal};
+use refusals::Refusal;
 
 // All that a job's call returns, of kind 5, 6 and 7, and 8 to 11.
 #[derive(Clone, Copy)]
 pub enum Worked {
-    Swaption(Swaption),
-    Valuation(Valuation),
-    Fit(Fitted),
+    Swaption(Result<Swaption, Refusal>),
+    Valuation(Result<Valuation, Refusal>),
+    Fit(Result<Fit, Refusal>),
 }
 
 #[derive(Clone, Copy)]
@@ -27,51 +23,36 @@ pub struct JobResult {
     pub note: u64,
 }
 
-fn plain(value: f64) -> JobResult
-    ensures { result ≡ record { answer = 0; value = value; note = 0 } }
-{
-    JobResult {
-        answer: 0,
-        value,
-        note: 0,
+impl From<Result<f64, Refusal>> for JobResult {
+    ghost from_gives = { λ price told. told ≡ result_of_price price };
+
+    fn from(price: Result<f64, Refusal>) -> JobResult {
+        match price {
+            Ok(value) => JobResult {
+                answer: 0,
+                value,
+                note: 0,
+            },
+            Err(refusal) => JobResult {
+                answer: refusal.into(),
+                value: 0.0,
+                note: 0,
+            },
+        }
     }
 }
 
-fn turned_down(refusal: Refusal) -> JobResult
-    ensures { result ≡ result_of_price (refused refusal) }
+// A swaption's value without its root.
+fn model_value(priced: Result<Swaption, Refusal>) -> Result<f64, Refusal>
+    ensures { result ≡ model_value priced }
 {
-    JobResult {
-        answer: refusals::number(refusal),
-        value: 0.0,
-        note: 0,
-    }
+    Ok(priced?.value)
 }
 
-pub fn price(p: Price) -> JobResult
-    ensures { result ≡ result_of_price (outcome_of p) }
+fn pricer_value(valued: Result<Valuation, Refusal>) -> Result<f64, Refusal>
+    ensures { result ≡ pricer_value valued }
 {
-    match p {
-        Price::Served(value) => plain(value),
-        Price::Refused(refusal) => turned_down(refusal),
-    }
-}
-
-fn swaption(s: Swaption) -> JobResult
-    ensures { result ≡ result_of_price (model_value (swaption_outcome s)) }
-{
-    match s {
-        Swaption::Served(value, _) => plain(value),
-        Swaption::Refused(refusal) => turned_down(refusal),
-    }
-}
-
-fn valuation(v: Valuation) -> JobResult
-    ensures { result ≡ result_of_price (pricer_value (valuation_outcome v)) }
-{
-    match v {
-        Valuation::Served { value, .. } => plain(value),
-        Valuation::Refused(refusal) => turned_down(refusal),
-    }
+    Ok(valued?.value)
 }
 
 // The halving that converged, or 0.
@@ -81,25 +62,33 @@ fn note_of(fit: Fit) -> u64
     if fit.converged { fit.halvings } else { 0 }
 }
 
-fn fitted(f: Fitted) -> JobResult
-    ensures { result ≡ result_of_fit (fitted_outcome f) }
-{
-    match f {
-        Fitted::Served(fit) => JobResult {
-            answer: 0,
-            value: fit.sigma,
-            note: note_of(fit),
-        },
-        Fitted::Refused(refusal) => turned_down(refusal),
+impl From<Result<Fit, Refusal>> for JobResult {
+    ghost from_gives = { λ fitted told. told ≡ result_of_fit fitted };
+
+    fn from(fitted: Result<Fit, Refusal>) -> JobResult {
+        match fitted {
+            Ok(fit) => JobResult {
+                answer: 0,
+                value: fit.sigma,
+                note: note_of(fit),
+            },
+            Err(refusal) => JobResult {
+                answer: refusal.into(),
+                value: 0.0,
+                note: 0,
+            },
+        }
     }
 }
 
-pub fn job_result(w: Worked) -> JobResult
-    ensures { result ≡ result_from (whole_of w) }
-{
-    match w {
-        Worked::Swaption(s) => swaption(s),
-        Worked::Valuation(v) => valuation(v),
-        Worked::Fit(f) => fitted(f),
+impl From<Worked> for JobResult {
+    ghost from_gives = { λ worked told. told ≡ result_from worked };
+
+    fn from(worked: Worked) -> JobResult {
+        match worked {
+            Worked::Swaption(priced) => model_value(priced).into(),
+            Worked::Valuation(valued) => pricer_value(valued).into(),
+            Worked::Fit(fitted) => fitted.into(),
+        }
     }
 }

@@ -7,9 +7,9 @@ use native.Mathlib.Omega.{arith}
 use borrow.Author.Tests.{leb-true}
 use lib.Dec.{leb}
 use lib.ListN.{length}
+use Rattle.std.specs.Prelude.{Some, None}
 use Rattle.file_layout.specs.declared.parts.Part.{Part}
 use Rattle.file_layout.specs.declared.parts.Layout.{Layout}
-use Rattle.file_layout.specs.declared.parts.Laid.TheVariants.{Parts, Broken}
 use Rattle.file_layout.specs.Bytes.{eight_bytes}
 use Rattle.file_layout.specs.Layout.{parts_of, end_of, bounded, placed, coupon_width, sized, known, all_known, keeps, layout_of}
 use Rattle.file_layout.proofs.Conditions.{both, ends, Counted, sizes}
@@ -53,11 +53,11 @@ kept_parts file l e =
       kinds = k.1;
     }
 
-pick : (b : Bool) (p l : Layout) → cond b (Parts p) Broken ≡ Parts l → (b ≡ true) × (p ≡ l)
+pick : (b : Bool) (p l : Layout) → cond b (Some p) None ≡ Some l → (b ≡ true) × (p ≡ l)
 pick true p l e = (refl, cc)
 pick false p l e = absurd (let z : ◌≡◌ {A = ℕ} 0 1 = cc in let y : ⊥ = omega arith in y)
 
-module _ (file : List ℕ) (l : Layout) (e : layout_of file ≡ Parts l) where
+module _ (file : List ℕ) (l : Layout) (e : layout_of file ≡ Some l) where
   picked : (keeps file (parts_of file) ≡ true) × (parts_of file ≡ l)
   unfolding layout_of
   picked = pick (keeps file (parts_of file)) (parts_of file) l e
@@ -78,7 +78,7 @@ job_known file at (suc n) (suc k) t h =
     rw z (job_known file (at + 40) n k (both (known (eight_bytes file at)) (all_known file (at + 40) n) t).1 (omega arith))
 
 -- "another kind breaks the layout"
-pub kind_known : (file : List ℕ) (l : Layout) → layout_of file ≡ Parts l → (k : ℕ) → k < l.jobs.length / 40 → (1 ≤ eight_bytes file (l.jobs.offset + 40 * k)) × (eight_bytes file (l.jobs.offset + 40 * k) ≤ 13)
+pub kind_known : (file : List ℕ) (l : Layout) → layout_of file ≡ Some l → (k : ℕ) → k < l.jobs.length / 40 → (1 ≤ eight_bytes file (l.jobs.offset + 40 * k)) × (eight_bytes file (l.jobs.offset + 40 * k) ≤ 13)
 kind_known file l e k h =
     let kind = eight_bytes file (l.jobs.offset + 40 * k) in
     let b = both (leb 1 kind) (leb kind 13) (job_known file l.jobs.offset (l.jobs.length / 40) k (kept file l e).kinds h) in

@@ -1,22 +1,53 @@
 -- What a caller knows of list `which` of a file that keeps the layout, and how the places of the lists stay apart while they are filled.
 use mathlib.Core.Path.{◌≡◌, refl, sym, ◌∙◌, ap}
-use mathlib.Core.List.{List, ◌++◌, append_assoc}
+use mathlib.Core.List.{List, [], ◌∷◌}
 use mathlib.Core.Logic.{◌⊎◌, inl, inr}
 use Prim.Native.Nat.{ℕ, zero, suc, ◌+◌, ◌*◌, ◌-◌, ◌/◌, ◌<◌, ◌≤◌}
 use native.Mathlib.Nat.{eq-or-lt_of_le}
 use native.Mathlib.Omega.{arith}
-use lib.ListN.{length, take, drop, take-append-drop, length-drop, length-append}
-use lib.Seq.{length-take-le, take_at, drop_at, take-append-le, drop-append-le}
+use lib.ListN.{length, get_or, take, drop}
 use lib.Ieee.{Float}
+use borrow.Rule.Slice.PartMut.{put_mid}
+use Rattle.std.specs.Prelude.{Some}
+use Rattle.std.proofs.lemmas.List.{drop-take}
+use Rattle.std.proofs.lemmas.Slice.{between-put_mid, take-put_mid_below}
 use Rattle.file_layout.specs.declared.parts.Part.{Part}
 use Rattle.file_layout.specs.declared.parts.Layout.{Layout}
-use Rattle.file_layout.specs.declared.parts.Laid.TheVariants.{Parts}
 use Rattle.file_layout.specs.declared.reading.Column.{Column}
+use Rattle.file_layout.specs.declared.reading.Which.{Which}
+use Rattle.file_layout.specs.declared.reading.Which.TheVariants.{PillarTimes, PillarSigmas, CurveTimes, CurveFactors, Payments, Accruals, Owns, GridTimes, Draws}
 use Rattle.file_layout.specs.Layout.{end_of, layout_of}
 use Rattle.file_layout.specs.Request.{column_of, request_of}
-use Rattle.file_layout.specs.Lists.{list_of, Stands, column_on, column_at}
+use Rattle.file_layout.specs.Lists.{number, list_of, Stands, column_on, column_at}
 use Rattle.file_layout.proofs.Kept.{Whole, kept}
 use Rattle.file_layout.proofs.Lists.{column_length}
+
+-- ---- the numbers of the lists
+pub below_nine : (which : Which) → number which < 9
+below_nine PillarTimes = omega arith
+below_nine PillarSigmas = omega arith
+below_nine CurveTimes = omega arith
+below_nine CurveFactors = omega arith
+below_nine Payments = omega arith
+below_nine Accruals = omega arith
+below_nine Owns = omega arith
+below_nine GridTimes = omega arith
+below_nine Draws = omega arith
+
+abbrev pub all_lists : List Which
+all_lists = PillarTimes ∷ PillarSigmas ∷ CurveTimes ∷ CurveFactors ∷ Payments ∷ Accruals ∷ Owns ∷ GridTimes ∷ Draws ∷ []
+
+pub in_order : (d : Which) (i : ℕ) → i < 9 → number (get_or all_lists i d) ≡ i
+in_order d zero h = refl
+in_order d (suc zero) h = refl
+in_order d (suc (suc zero)) h = refl
+in_order d (suc (suc (suc zero))) h = refl
+in_order d (suc (suc (suc (suc zero)))) h = refl
+in_order d (suc (suc (suc (suc (suc zero))))) h = refl
+in_order d (suc (suc (suc (suc (suc (suc zero)))))) h = refl
+in_order d (suc (suc (suc (suc (suc (suc (suc zero))))))) h = refl
+in_order d (suc (suc (suc (suc (suc (suc (suc (suc zero)))))))) h = refl
+in_order d (suc (suc (suc (suc (suc (suc (suc (suc (suc n))))))))) h = absurd (let z : ⊥ = omega arith in z)
 
 -- ---- the column of a list
 pub record Listed (file : List ℕ) (c : Column) (next : ℕ) (list : List Float) : Type 0 where
@@ -38,7 +69,7 @@ listed_in file p width limit field place next w room within = record {
 abbrev place_at : Layout → ℕ → ℕ
 place_at l which = (column_at l which).place
 
-module _ (file : List ℕ) (l : Layout) (e : layout_of file ≡ Parts l) where
+module _ (file : List ℕ) (l : Layout) (e : layout_of file ≡ Some l) where
   -- each list ends before the next one's place
   listed : (which : ℕ) → which < 9 → Listed file (column_at l which) (place_at l (suc which)) (list_of (request_of file l) which)
   unfolding request_of
@@ -75,51 +106,28 @@ module _ (file : List ℕ) (l : Layout) (e : layout_of file ≡ Parts l) where
       let up : place_at l (suc w) ≤ place_at l which = rw y at (climb (which - suc w) (suc w) (omega arith)) in
       omega (arith, z.room, z.count, up)
 
--- ---- a place is filled: what stands before `at` is as it was, and from there on a list
-module _ (xs : List Float) (at : ℕ) (fits : at ≤ length xs) where
-  front : (p n : ℕ) → p + n ≤ at → (ws : List Float) → take n (drop p (take at xs ++ ws)) ≡ take n (drop p (take at xs))
-  front p n h ws =
-      let z : length (take at xs) ≡ at = length-take-le at xs fits in
-      let i : p ≤ length (take at xs) = omega arith in
-      let j : n ≤ length (drop p (take at xs)) = rw length-drop (omega arith) in
-      rw (drop-append-le p (take at xs) ws i, take-append-le n (drop p (take at xs)) ws j)
-
-  before : (p n : ℕ) → p + n ≤ at → (ws : List Float) → take n (drop p (take at xs ++ ws)) ≡ take n (drop p xs)
-  before p n h ws = front p n h ws ∙ sym (front p n h (drop at xs)) ∙ ap (λ ys. take n (drop p ys)) (take-append-drop at xs)
-
-  behind : (list rest zs ys : List Float) → ys ≡ list ++ rest → take (length list) (drop at (take at xs ++ (ys ++ zs))) ≡ list
-  behind list rest zs ys e = rw (drop_at (take at xs) (ys ++ zs) at (length-take-le at xs fits), e, append_assoc) (take_at list (rest ++ zs) (length list) refl)
-
-pub same_front : (vs list rest : List Float) → vs ≡ list → vs ++ rest ≡ list ++ rest
-same_front vs list rest e = rw e
-
--- the list's own part, from its place to its end
-pub own_part : (file : List ℕ) (l : Layout) (floats : List Float) (which at n : ℕ) → at ≡ place_at l which → length (list_of (request_of file l) which) ≡ n → Stands file l floats which → take (at + n - at) (drop at floats) ≡ list_of (request_of file l) which
-own_part file l floats which at n p e h =
-    let z : at + n - at ≡ length (list_of (request_of file l) which) = omega arith in
+-- ---- the list's own part, from its place to its end
+pub own_part : (file : List ℕ) (l : Layout) (floats : List Float) (which at end n : ℕ) → at ≡ place_at l which → end ≡ at + n → length (list_of (request_of file l) which) ≡ n → Stands file l floats which → take (end - at) (drop at floats) ≡ list_of (request_of file l) which
+own_part file l floats which at end n p q e h =
+    let z : end - at ≡ length (list_of (request_of file l) which) = omega arith in
     rw (z, p) h
 
--- what is lent from a place on, and comes back
-module _ (xs : List Float) (at : ℕ) (fits : at ≤ length xs) where
-  from : length (take (length xs - at) (drop at xs)) ≡ length xs - at
-  from = length-take-le (length xs - at) (drop at xs) (rw length-drop (omega arith))
-
-  pub lent_room : (n : ℕ) → at + n ≤ length xs → n ≤ length (take (length xs - at) (drop at xs))
-  lent_room n h = rw from (omega arith)
-
-  pub same_room : (ys : List Float) → length ys ≡ length (take (length xs - at) (drop at xs)) → length (take at xs ++ (ys ++ drop (length xs - at) (drop at xs))) ≡ length xs
-  same_room ys e =
-      let z : length (take at xs) ≡ at = length-take-le at xs fits in
-      let y : length ys ≡ length xs - at = e ∙ from in
-      rw (length-append, z, length-append, y, length-drop, length-drop) (omega arith)
-
-module _ (file : List ℕ) (l : Layout) (e : layout_of file ≡ Parts l) (which : ℕ) (h : which < 9) (at : ℕ) (p : at ≡ place_at l which) (xs rest zs ys : List Float) (fits : at ≤ length xs) (got : ys ≡ list_of (request_of file l) which ++ rest) where
-  abbrev now_is : List Float
-  now_is = take at xs ++ (ys ++ zs)
-
-  pub one_more : ((w : ℕ) → w < which → Stands file l xs w) → (w : ℕ) → w < which + 1 → Stands file l now_is w
-  one_more all w k = goes (eq-or-lt_of_le (let z : w ≤ which = omega arith in z))
+-- ---- one more list is put at its place
+module _ (file : List ℕ) (l : Layout) (e : layout_of file ≡ Some l) (which : ℕ) (h : which < 9) (at k : ℕ) (p : at ≡ place_at l which) (xs ys : List Float) (fits : at ≤ length xs) (got : ys ≡ list_of (request_of file l) which) where
+  pub one_more : ((w : ℕ) → w < which → Stands file l xs w) → (w : ℕ) → w < which + 1 → Stands file l (put_mid at k xs ys) w
+  one_more all w b = goes (eq-or-lt_of_le (let z : w ≤ which = omega arith in z))
     where
-      goes : (w ≡ which) ⊎ (w < which) → Stands file l now_is w
-      goes (inl q) = rw (q, ← p) (behind xs at fits (list_of (request_of file l) which) rest zs ys got)
-      goes (inr i) = before xs at fits (place_at l w) (length (list_of (request_of file l) w)) (rw p (apart file l e w which i h)) (ys ++ zs) ∙ all w i
+      n : ℕ
+      n = length (list_of (request_of file l) w)
+
+      goes : (w ≡ which) ⊎ (w < which) → Stands file l (put_mid at k xs ys) w
+      goes (inl q) =
+          let list = list_of (request_of file l) which in
+          let z : at + length list - at ≡ length list = omega arith in
+          rw (q, ← p) (rw z at (between-put_mid at k xs ys (at + length list) fits (ap length got ∙ sym z)) ∙ got)
+      goes (inr i) =
+          let b : place_at l w + n ≤ at = rw p (apart file l e w which i h) in
+          sym (drop-take (place_at l w) n (put_mid at k xs ys))
+          ∙ ap (drop (place_at l w)) (take-put_mid_below at k xs ys (place_at l w + n) b fits)
+          ∙ drop-take (place_at l w) n xs
+          ∙ all w i

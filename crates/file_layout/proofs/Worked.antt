@@ -3,8 +3,8 @@ use mathlib.Core.Path.{◌≡◌, refl}
 use Prim.Native.Nat.{ℕ}
 use mathlib.Core.List.{List, [], ◌∷◌, ◌++◌}
 use lib.Ieee.{Float, binary64, of_bits}
+use Rattle.std.specs.Prelude.{Some}
 use Rattle.file_layout.specs.declared.parts.Layout.{Layout}
-use Rattle.file_layout.specs.declared.parts.Laid.TheVariants.{Parts}
 use Rattle.file_layout.specs.Layout.{parts_of, placed, sized, all_known, keeps, layout_of}
 use Rattle.file_layout.specs.Request.{floats_from, jobs_from, request_of}
 
@@ -43,7 +43,7 @@ laid = record {
   jobs = record { offset = 88; length = 80 };
 }
 
-keeps_it : layout_of file ≡ Parts laid
+keeps_it : layout_of file ≡ Some laid
 unfolding file pairs alpha curve put call layout_of keeps placed sized all_known parts_of
 keeps_it = refl
 

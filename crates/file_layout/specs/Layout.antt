@@ -1,9 +1,7 @@
 -- Document 01, "The run file", sentence by sentence: the six parts that a file names, and when they keep the layout.
-use Rattle.std.specs.Prelude.{ℕ, zero, suc, ◌+◌, ◌*◌, ◌/◌, ◌%◌, Bool, true, cond, ◌&&◌, List, leb, eqb, length}
+use Rattle.std.specs.Prelude.{ℕ, zero, suc, ◌+◌, ◌*◌, ◌/◌, ◌%◌, Bool, true, cond, ◌&&◌, List, leb, eqb, length, Option, Some, None}
 use Rattle.file_layout.specs.declared.parts.Part.{Part}
 use Rattle.file_layout.specs.declared.parts.Layout.{Layout}
-use Rattle.file_layout.specs.declared.parts.Laid.{Laid}
-use Rattle.file_layout.specs.declared.parts.Laid.TheVariants.{Parts, Broken}
 use Rattle.file_layout.specs.Bytes.{four_bytes, eight_bytes}
 
 -- "It begins with six pairs of offset and length (u32 each, bytes, from the file's start)": pair k
@@ -75,5 +73,6 @@ keeps file l =
     && sized l
     && all_known file l.jobs.offset (l.jobs.length / 40)
 
-unfoldable pub layout_of : List ℕ → Laid
-layout_of file = cond (keeps file (parts_of file)) (Parts (parts_of file)) Broken
+-- the parts of a file that keeps it; none, of one that breaks it
+unfoldable pub layout_of : List ℕ → Option Layout
+layout_of file = cond (keeps file (parts_of file)) (Some (parts_of file)) None

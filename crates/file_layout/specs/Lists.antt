@@ -3,6 +3,8 @@ use Rattle.std.specs.Prelude.{ℕ, ◌<◌, ◌≡◌, List, [], ◌∷◌, leng
 use Rattle.file_layout.specs.declared.parts.Part.{Part}
 use Rattle.file_layout.specs.declared.parts.Layout.{Layout}
 use Rattle.file_layout.specs.declared.reading.Column.{Column}
+use Rattle.file_layout.specs.declared.reading.Which.{Which}
+use Rattle.file_layout.specs.declared.reading.Which.TheVariants.{PillarTimes, PillarSigmas, CurveTimes, CurveFactors, Payments, Accruals, Owns, GridTimes, Draws}
 use Rattle.file_layout.specs.Layout.{coupon_width}
 use Rattle.file_layout.specs.Request.{Request, request_of}
 
@@ -13,6 +15,18 @@ lists_in q = q.pillar_times ∷ q.pillar_sigmas ∷ q.curve_times ∷ q.curve_fa
 -- list `which`, from 0
 abbrev pub list_of : Request → ℕ → List Float
 list_of q which = get_or (lists_in q) which []
+
+-- the number of a list
+abbrev pub number : Which → ℕ
+number PillarTimes = 0
+number PillarSigmas = 1
+number CurveTimes = 2
+number CurveFactors = 3
+number Payments = 4
+number Accruals = 5
+number Owns = 6
+number GridTimes = 7
+number Draws = 8
 
 -- the column that list `which` is, with `request_of`, and the place where it is put: the lists before it have room for as many floats as they may have
 abbrev pub column_on : Part → ℕ → ℕ → ℕ → Column

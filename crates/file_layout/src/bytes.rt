@@ -19,7 +19,7 @@ pub fn float_of(b: u64) -> f64
     if is_number {
         f64::from_bits(b)
     } else {
-        0.0 / 0.0
+        f64::NAN
     }
 }
 
@@ -29,7 +29,7 @@ pub fn word(s: &[u8], at: usize) -> u64
     requires { at + 8 ≤ length s.now }
     ensures { result ≡ eight_bytes s.now at }
 {
-    half(s, at) + 0x1_0000_0000 * half(s, at + 4)
+    u64::from_le_bytes(s[at..at + 8].try_into().unwrap())
 }
 
 // The u32 at place `at`. A caller has these four bytes in the same way.
@@ -38,15 +38,5 @@ pub fn half(s: &[u8], at: usize) -> u64
     ensures upper_bound { result < 0x1_0000_0000 }
     ensures value { result ≡ four_bytes s.now at }
 {
-    wide(s[at])
-        + 0x100 * wide(s[at + 1])
-        + 0x1_0000 * wide(s[at + 2])
-        + 0x100_0000 * wide(s[at + 3])
-}
-
-fn wide(b: u8) -> u64
-    ensures upper_bound { result < 256 }
-    ensures value { result ≡ b }
-{
-    b as u64
+    u64::from(u32::from_le_bytes(s[at..at + 4].try_into().unwrap()))
 }

@@ -5,6 +5,7 @@ ghost use Rattle.std.specs.Io.KnownBytes.{Consumes};
 use std::io::Read;
 
 // Reads until the list is full, the input ends or a read fails, and answers how many bytes it put at the front.
+// A `while` on a running place: how far each read comes is the reader's to say.
 pub fn fill<R: Read>(input: &mut R, out: &mut [u8]) -> usize
     ensures bound { result ≤ length out.new }
     ensures read { Consumes (R.remaining input.old) (R.remaining input.new) (take result out.new) }

@@ -10,6 +10,6 @@ mod records;
 
 pub use bytes::{float_of, half, word};
 pub use input::fill;
-pub use parts::{Laid, Layout, Part, lay_out};
-pub use reading::{list, read_lists};
+pub use parts::{Layout, Part, lay_out};
+pub use reading::{Which, list, read_lists};
 pub use records::{Job, alpha, column, nth_job};

@@ -11,6 +11,22 @@ pub struct Part {
     pub length: u32,
 }
 
+impl Part {
+    fn end(self) -> usize
+        ensures { result ≡ end_of self }
+    {
+        self.offset as usize + self.length as usize
+    }
+
+    // Whether the part is whole records of that width, and at most `limit`. A caller gives a width that is not 0.
+    fn records(self, width: u32, limit: u32) -> bool
+        requires { 0 < width }
+        ensures { result ≡ Layout·records width limit self }
+    {
+        self.length % width == 0 && self.length / width <= limit
+    }
+}
+
 #[derive(Clone, Copy)]
 pub struct Layout {
     pub model: Part,
@@ -21,35 +37,51 @@ pub struct Layout {
     pub jobs: Part,
 }
 
-// The parts of a file that keeps the layout.
-#[derive(Clone, Copy)]
-pub enum Laid {
-    Parts(Layout),
-    Broken,
+impl Layout {
+    // Whether the parts stand one behind the other, after the pairs and within the file.
+    #[tactic(auto, unfolding(crate::specs::Layout::placed))]
+    fn placed(self, size: usize) -> bool
+        ensures { result ≡ Layout·placed size self }
+    {
+        48 <= self.model.offset
+            && self.model.end() <= self.pillars.offset as usize
+            && self.pillars.end() <= self.curve.offset as usize
+            && self.curve.end() <= self.coupons.offset as usize
+            && self.coupons.end() <= self.grid.offset as usize
+            && self.grid.end() <= self.jobs.offset as usize
+            && self.jobs.end() <= size
+    }
+
+    // Whether each part is whole records, and not too many.
+    #[tactic(auto, unfolding(crate::specs::Layout::sized))]
+    fn sized(self) -> bool
+        ensures { result ≡ Layout·sized self }
+    {
+        self.model.length == 8
+            && self.pillars.records(16, 64)
+            && self.curve.records(16, 2048)
+            && self.coupons.records(24, 64)
+            && self.grid.records(16, 1024)
+            && self.jobs.records(40, 128)
+    }
 }
 
-pub fn lay_out(file: &[u8]) -> Laid
+// The parts of a file that keeps the layout, and None of one that breaks it.
+pub fn lay_out(file: &[u8]) -> Option<Layout>
     ensures { result ≡ layout_of file.now }
 {
-    if 65536 < file.len() {
-        return Laid::Broken;
-    }
-    if file.len() < 48 {
-        return Laid::Broken;
+    if 65536 < file.len() || file.len() < 48 {
+        return None;
     }
     let l = parts(file);
-    if !placed(file.len(), l) {
-        return Laid::Broken;
+    if l.placed(file.len()) && l.sized() && all_known(file, l.jobs) {
+        Some(l)
+    } else {
+        None
     }
-    if !sized(l) {
-        return Laid::Broken;
-    }
-    if !all_known(file, l.jobs) {
-        return Laid::Broken;
-    }
-    Laid::Parts(l)
 }
 
+#[tactic(auto, unfolding(crate::specs::Layout::parts_of))]
 // The six pairs. A caller has turned down a file too short for them.
 fn parts(file: &[u8]) -> Layout
     requires { 48 ≤ length file.now }
@@ -76,59 +108,16 @@ fn pair(file: &[u8], k: usize) -> Part
     }
 }
 
-fn end(p: Part) -> usize
-    ensures { result ≡ end_of p }
-{
-    p.offset as usize + p.length as usize
-}
-
-// Whether the parts stand one behind the other, after the pairs and within the file.
-fn placed(size: usize, l: Layout) -> bool
-    ensures { result ≡ Layout·placed size l }
-{
-    (48 <= l.model.offset)
-        & (end(l.model) <= l.pillars.offset as usize)
-        & (end(l.pillars) <= l.curve.offset as usize)
-        & (end(l.curve) <= l.coupons.offset as usize)
-        & (end(l.coupons) <= l.grid.offset as usize)
-        & (end(l.grid) <= l.jobs.offset as usize)
-        & (end(l.jobs) <= size)
-}
-
-// Whether each part is whole records, and not too many.
-fn sized(l: Layout) -> bool
-    ensures { result ≡ Layout·sized l }
-{
-    (l.model.length == 8)
-        & records(16, 64, l.pillars)
-        & records(16, 2048, l.curve)
-        & records(24, 64, l.coupons)
-        & records(16, 1024, l.grid)
-        & records(40, 128, l.jobs)
-}
-
-// Whether a part is whole records of that width, and at most `limit`. A caller gives a width that is not 0.
-fn records(width: u32, limit: u32, p: Part) -> bool
-    requires { 0 < width }
-    ensures { result ≡ Layout·records width limit p }
-{
-    (p.length % width == 0) & (p.length / width <= limit)
-}
-
 // Whether every job has a kind of document 01, or 13 of document 02. A caller has asked before whether the parts
 // are in their places, within the file.
 fn all_known(file: &[u8], jobs: Part) -> bool
     requires { end_of jobs ≤ length file.now }
     ensures { result ≡ all_known file.now jobs.offset (jobs.length / 40) }
 {
-    let mut at = jobs.offset as usize;
-    let mut left = jobs.length / 40;
-    while left > 0 {
-        if !known(bytes::word(file, at)) {
+    for i in 0..jobs.length as usize / 40 {
+        if !known(bytes::word(file, jobs.offset as usize + 40 * i)) {
             return false;
         }
-        at += 40;
-        left -= 1;
     }
     true
 }
@@ -136,5 +125,5 @@ fn all_known(file: &[u8], jobs: Part) -> bool
 fn known(kind: u64) -> bool
     ensures { result ≡ Layout·known kind }
 {
-    (1 <= kind) & (kind <= 13)
+    (1..=13).contains(&kind)
 }

@@ -1,14 +1,57 @@
-// The nine lists of a run file, by number, read into one array of floats, in which each has its place.
-ghost use Rattle.std.specs.Prelude.{◌≡◌, ◌++◌, ◌<◌, ◌≤◌, length, drop};
-ghost use Rattle.file_layout.specs.declared.parts.Laid.TheVariants.{Parts};
+// The nine lists of a run file, read into one array of floats, in which each has its place.
+ghost use Rattle.std.specs.Prelude.{◌≡◌, ◌+◌, ◌/◌, ◌<◌, ◌≤◌, length, Some};
 ghost use Rattle.file_layout.specs.Layout.{layout_of};
 ghost use Rattle.file_layout.specs.Request.{request_of};
-ghost use Rattle.file_layout.specs.Lists.{list_of, HoldsLists, column_on, column_at};
+ghost use Rattle.file_layout.specs.Lists.{number, list_of, HoldsLists, column_on, column_at};
 
 use crate::parts::{Layout, Part};
 use crate::records;
 
-// A list is a column of its part: of records of `width` bytes, the float number `field`. It is put at `place`.
+// Which list.
+#[derive(Clone, Copy, Debug, PartialEq, Eq)]
+pub enum Which {
+    PillarTimes,
+    PillarSigmas,
+    CurveTimes,
+    CurveFactors,
+    Payments,
+    Accruals,
+    Owns,
+    GridTimes,
+    Draws,
+}
+
+impl Which {
+    const ALL: [Which; 9] = [
+        Which::PillarTimes,
+        Which::PillarSigmas,
+        Which::CurveTimes,
+        Which::CurveFactors,
+        Which::Payments,
+        Which::Accruals,
+        Which::Owns,
+        Which::GridTimes,
+        Which::Draws,
+    ];
+
+    fn column(self, l: Layout) -> Column
+        ensures { result ≡ column_at l (number self) }
+    {
+        match self {
+            Which::PillarTimes => Column::new(l.pillars, 16, 0, 0),
+            Which::PillarSigmas => Column::new(l.pillars, 16, 1, 64),
+            Which::CurveTimes => Column::new(l.curve, 16, 0, 128),
+            Which::CurveFactors => Column::new(l.curve, 16, 1, 2176),
+            Which::Payments => Column::new(l.coupons, 24, 0, 4224),
+            Which::Accruals => Column::new(l.coupons, 24, 1, 4288),
+            Which::Owns => Column::new(l.coupons, 24, 2, 4352),
+            Which::GridTimes => Column::new(l.grid, 16, 0, 4416),
+            Which::Draws => Column::new(l.grid, 16, 1, 5440),
+        }
+    }
+}
+
+// A list is a column of its part: of records of `width` bytes, the float number `field`. It stands from `place` on.
 #[derive(Clone, Copy)]
 pub struct Column {
     part: Part,
@@ -17,71 +60,46 @@ pub struct Column {
     place: usize,
 }
 
-fn of_part(part: Part, width: usize, field: usize, place: usize) -> Column
-    ensures { result ≡ column_on part width field place }
-{
-    Column {
-        part,
-        width,
-        field,
-        place,
+impl Column {
+    fn new(part: Part, width: usize, field: usize, place: usize) -> Self
+        ensures { result ≡ column_on part width field place }
+    {
+        Column {
+            part,
+            width,
+            field,
+            place,
+        }
     }
-}
 
-// The column of list `which`: a caller asks for one of the nine.
-fn column_at(l: Layout, which: usize) -> Column
-    requires { which < 9 }
-    ensures { result ≡ column_at l which }
-{
-    match which {
-        0 => of_part(l.pillars, 16, 0, 0),
-        1 => of_part(l.pillars, 16, 1, 64),
-        2 => of_part(l.curve, 16, 0, 128),
-        3 => of_part(l.curve, 16, 1, 2176),
-        4 => of_part(l.coupons, 24, 0, 4224),
-        5 => of_part(l.coupons, 24, 1, 4288),
-        6 => of_part(l.coupons, 24, 2, 4352),
-        7 => of_part(l.grid, 16, 0, 4416),
-        _ => of_part(l.grid, 16, 1, 5440),
+    // The place behind the list. A caller has a column of records that are not empty, with a place in the array.
+    fn end(self) -> usize
+        requires { (0 < self.width) × (self.place ≤ 6464) }
+        ensures { result ≡ self.place + self.part.length / self.width }
+    {
+        self.place + self.part.length as usize / self.width
     }
-}
-
-// List `which` of a run file, at the front of `out`, and how many floats it has. The layout is the one that
-// `lay_out` gave of this file; a caller asks for one of the nine, and lends room for it.
-fn read_list(file: &[u8], l: Layout, which: usize, out: &mut [f64]) -> usize
-    requires { (layout_of file.now ≡ Parts l) × (which < 9) × (length (list_of (request_of file.now l) which) ≤ length out.old) }
-    ensures value { result ≡ length (list_of (request_of file.now l) which) }
-    ensures out_after { out.new ≡ list_of (request_of file.now l) which ++ drop result out.old }
-{
-    let c = column_at(l, which);
-    let n = c.part.length as usize / c.width;
-    records::column(file, c.part, c.width, c.field, &mut out[..n]);
-    n
 }
 
 // All nine, each at its place. The layout is the one that `lay_out` gave of this file; a caller lends room for
 // the longest lists that a file may have.
 pub fn read_lists(file: &[u8], l: Layout, floats: &mut [f64])
-    requires { (layout_of file.now ≡ Parts l) × (length floats.old ≡ 6464) }
+    requires { (layout_of file.now ≡ Some l) × (length floats.old ≡ 6464) }
     ensures { HoldsLists file.now l floats.new }
 {
-    let mut which = 0;
-    while which < 9 {
-        let c = column_at(l, which);
-        let at = c.place;
-        read_list(file, l, which, &mut floats[at..]);
-        which += 1;
+    for which in Which::ALL {
+        let c = which.column(l);
+        let list = &mut floats[c.place..c.end()];
+        records::column(file, c.part, c.width, c.field, list);
     }
 }
 
-// List `which` of a run file, where `read_lists` has put it: a caller hands on the floats that were read from
-// this very file, and asks for one of the nine.
-pub fn list<'a>(file: &[u8], l: Layout, floats: &'a [f64], which: usize) -> &'a [f64]
-    requires { (layout_of file.now ≡ Parts l) × HoldsLists file.now l floats.now × (which < 9) }
-    ensures { result.now ≡ list_of (request_of file.now l) which }
+// A list of a run file, where `read_lists` has put it: a caller hands on the floats that were read from this
+// very file.
+pub fn list<'a>(file: &[u8], l: Layout, floats: &'a [f64], which: Which) -> &'a [f64]
+    requires { (layout_of file.now ≡ Some l) × HoldsLists file.now l floats.now }
+    ensures { result.now ≡ list_of (request_of file.now l) (number which) }
 {
-    let c = column_at(l, which);
-    let at = c.place;
-    let end = at + c.part.length as usize / c.width;
-    &floats[at..end]
+    let c = which.column(l);
+    &floats[c.place..c.end()]
 }

@@ -8,6 +8,7 @@ use crate::bytes;
 use crate::parts::Part;
 
 // A job's kind, and its four floats, whose meaning is the kind's.
+// The kind is the file's own number, which is printed again: `file_jobs` tells apart what each asks.
 #[derive(Clone, Copy)]
 pub struct Job {
     pub kind: u64,
@@ -35,12 +36,8 @@ pub fn column(file: &[u8], part: Part, width: usize, field: usize, out: &mut [f6
     requires out_len { length out.old ≡ part.length / width }
     ensures { out.new ≡ column_of file.now part width field }
 {
-    let mut at = part.offset as usize;
-    let mut i = 0;
-    while i < out.len() {
-        out[i] = bytes::float_at(file, at + 8 * field);
-        at += width;
-        i += 1;
+    for (i, x) in out.iter_mut().enumerate() {
+        *x = bytes::float_at(file, part.offset as usize + width * i + 8 * field);
     }
 }
 

@@ -5,8 +5,8 @@ use mathlib.Core.List.{List, [], ◌∷◌}
 use Prim.Native.Nat.{ℕ, suc, ◌+◌, ◌*◌, ◌/◌, ◌≤◌, ◌<◌}
 use native.Mathlib.Omega.{arith}
 use lib.ListN.{get_or-eq_default}
+use Rattle.std.specs.Prelude.{Some, None}
 use Rattle.file_layout.specs.declared.parts.Layout.{Layout}
-use Rattle.file_layout.specs.declared.parts.Laid.TheVariants.{Parts, Broken}
 use Rattle.file_layout.specs.Layout.{layout_of}
 use Rattle.file_layout.specs.Request.{request_of, job_at}
 use Rattle.file_fields.specs.Text.{Begins}
@@ -18,14 +18,14 @@ use Rattle.file_output.specs.Pieces.{pieces_of, piece_of, job_is, count_is, head
 pub none : (text d : List ℕ) → text ≡ [] → Begins 0 text d d
 none text d e = rw e (record { counted = refl; within = omega arith; front = refl; rest = refl; part = refl })
 
-module _ (file : List ℕ) (e : layout_of file ≡ Broken) where
+module _ (file : List ℕ) (e : layout_of file ≡ None) where
   pub refusal_piece : (n k : ℕ) (d out : List ℕ) → k ≡ 0 → Begins n (cond true refused_line header) d out → Begins n (piece_of file k) d out
   refusal_piece n k d out z b = rw (z, refused_is file e) b
 
   pub behind_refusal : (k : ℕ) → (k ≡ 0 → ⊥) → piece_of file k ≡ []
   behind_refusal k z = rw (refused_is file e) (get_or-eq_default (refused_line ∷ []) [] {n = k} (omega (arith, z)))
 
-module _ (file : List ℕ) (l : Layout) (e : layout_of file ≡ Parts l) where
+module _ (file : List ℕ) (l : Layout) (e : layout_of file ≡ Some l) where
   pub header_piece : (n k : ℕ) (d out : List ℕ) → k ≡ 0 → Begins n (cond false refused_line header) d out → Begins n (piece_of file k) d out
   header_piece n k d out z b = rw (z, header_is file l e) b
 

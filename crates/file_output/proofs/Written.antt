@@ -1,4 +1,5 @@
 -- From what the path's call answered and left in its list to the lines of the path, and from a job's answer to the lines of the job. Assumes nothing.
+use Rattle.std.specs.Prelude.{Ok, Err, Some}
 use mathlib.Core.Path.{◌≡◌, refl, sym, ◌∙◌}
 use mathlib.Core.List.{List, [], ◌∷◌, append-nil}
 use Prim.Native.Nat.{ℕ, ◌≤◌, ◌<◌}
@@ -8,14 +9,11 @@ use lib.ListN.{length, take, drop_of_length-le}
 use lib.Ieee.{Float}
 use Rattle.ieee.specs.Numbers as Numbers
 use Rattle.refusals.specs.declared.refusals.Refusal.{Refusal}
-use Rattle.refusals.specs.declared.refusals.Answer.{Answer}
-use Rattle.refusals.specs.declared.refusals.Answer.TheVariants as A
-use Rattle.refusals.specs.Refusals.{Outcome, served, refused, answer_of, number_of}
+use Rattle.refusals.specs.Refusals.{Outcome, answer_of, number_of, Answer}
 use Rattle.hullwhite_points.specs.declared.walk.Centre.TheVariants as C
 use Rattle.hullwhite_transitions.specs.Written.{stored_of}
 use Rattle.refusals.proofs.Lending.{lent_is}
 use Rattle.file_layout.specs.declared.parts.Layout.{Layout}
-use Rattle.file_layout.specs.declared.parts.Laid.TheVariants.{Parts}
 use Rattle.file_layout.specs.declared.records.Job.{Job}
 use Rattle.file_layout.specs.Layout.{layout_of}
 use Rattle.file_layout.specs.Request.{Request, request_of}
@@ -26,31 +24,32 @@ use Rattle.file_fields.specs.Fields.{bits_of}
 use Rattle.file_lines.specs.Lines.{line_of}
 use Rattle.file_jobs.specs.declared.results.JobResult.{JobResult}
 use Rattle.file_jobs.specs.Results.{request_of_lists, option_result, job_result_of}
-use Rattle.file_jobs.specs.Worked.{Whole, result_from, swaption_whole, fit_whole, work_of, result_is}
+use Rattle.file_jobs.specs.declared.results.Worked.{Worked}
+use Rattle.file_jobs.specs.Worked.{result_from, swaption_whole, fit_whole, work_of, result_is}
 use Rattle.file_output.specs.Output.{result_line, point_lines, path_lines, path_of, job_lines}
 
 -- ---- an outcome, from the answer without its values
 module _ {B : Type 0} (o : Outcome B) (answer : Answer) where
-  pub was_refused : (r : Refusal) → answer ≡ A.Refused r → answer ≡ answer_of o → o ≡ refused r
+  pub was_refused : (r : Refusal) → answer ≡ Err r → answer ≡ answer_of o → o ≡ Err r
   was_refused r e h = refused_case o (sym e ∙ h)
     where
-      refused_case : (p : Outcome B) → A.Refused r ≡ answer_of p → p ≡ refused r
-      refused_case (served v) q = absurd (let z : ◌≡◌ {A = ℕ} 0 1 = cc in let y : ⊥ = omega arith in y)
-      refused_case (refused s) q = cc
+      refused_case : (p : Outcome B) → Err r ≡ answer_of p → p ≡ Err r
+      refused_case (Ok v) q = absurd (let z : ◌≡◌ {A = ℕ} 0 1 = cc in let y : ⊥ = omega arith in y)
+      refused_case (Err s) q = cc
 
-  pub was_served : answer ≡ A.Served → answer ≡ answer_of o → (v : B) × (o ≡ served v)
+  pub was_served : answer ≡ Ok tt → answer ≡ answer_of o → (v : B) × (o ≡ Ok v)
   was_served e h = served_case o (sym e ∙ h)
     where
-      served_case : (p : Outcome B) → A.Served ≡ answer_of p → (v : B) × (p ≡ served v)
-      served_case (served v) q = (v, refl)
-      served_case (refused s) q = absurd (let z : ◌≡◌ {A = ℕ} 0 1 = cc in let y : ⊥ = omega arith in y)
+      served_case : (p : Outcome B) → (Ok tt) ≡ answer_of p → (v : B) × (p ≡ Ok v)
+      served_case (Ok v) q = (v, refl)
+      served_case (Err s) q = absurd (let z : ◌≡◌ {A = ℕ} 0 1 = cc in let y : ⊥ = omega arith in y)
 
 -- ---- the path's list was lent as the first n places of `work`, one for each grid point
 module _ (f : ℕ → Outcome (List Float)) (work : List Float) (n : ℕ) (fits : n ≤ length work) where
   pub same_room : (answer : Answer) → answer ≡ answer_of (f (length (take n work))) → answer ≡ answer_of (f n)
   same_room answer e = rw (← lent_is work n fits) at e
 
-  pub left_is : (xs back : List Float) → f n ≡ served xs → length xs ≡ n → back ≡ stored_of (f (length (take n work))) (take n work) → back ≡ xs
+  pub left_is : (xs back : List Float) → f n ≡ Ok xs → length xs ≡ n → back ≡ stored_of (f (length (take n work))) (take n work) → back ≡ xs
   left_is xs back e same h =
       let z : back ≡ stored_of (f n) (take n work) = rw (← lent_is work n fits) at h in
       let y : length (take n work) ≤ length xs = omega (arith, lent_is work n fits, same) in
@@ -58,14 +57,14 @@ module _ (f : ℕ → Outcome (List Float)) (work : List Float) (n : ℕ) (fits 
 
 -- ---- the lines of a path
 module _ (k kind : ℕ) (o : Outcome (List Float)) (res : ℕ) (d out : List ℕ) where
-  pub refused_line_lem : (r : Refusal) (n : ℕ) → o ≡ refused r → n ≡ number_of r → Begins res (line_of k kind n (bits_of Numbers.zero) 0) d out → Begins res (path_lines k kind o) d out
+  pub refused_line_lem : (r : Refusal) (n : ℕ) → o ≡ Err r → n ≡ number_of r → Begins res (line_of k kind n (bits_of Numbers.zero) 0) d out → Begins res (path_lines k kind o) d out
   refused_line_lem r n e q b = rw e (rw q at b)
 
-  pub empty_line : (xs : List Float) → o ≡ served xs → length xs ≡ 0 → Begins res (line_of k kind 0 (bits_of Numbers.zero) 0) d out → Begins res (path_lines k kind o) d out
+  pub empty_line : (xs : List Float) → o ≡ Ok xs → length xs ≡ 0 → Begins res (line_of k kind 0 (bits_of Numbers.zero) 0) d out → Begins res (path_lines k kind o) d out
   empty_line [] e h b = rw e b
   empty_line (x ∷ xs) e h b = absurd (let z : ⊥ = omega arith in z)
 
-  pub point_by_point : (xs vs : List Float) → o ≡ served xs → (length xs ≡ 0 → ⊥) → vs ≡ xs → Begins res (point_lines k kind 0 vs) d out → Begins res (path_lines k kind o) d out
+  pub point_by_point : (xs vs : List Float) → o ≡ Ok xs → (length xs ≡ 0 → ⊥) → vs ≡ xs → Begins res (point_lines k kind 0 vs) d out → Begins res (path_lines k kind o) d out
   point_by_point [] vs e h q b = absurd (h refl)
   point_by_point (x ∷ xs) vs e h q b = rw e (rw q at b)
 
@@ -86,7 +85,7 @@ module _ (q q' : Request) (j j' : Job) (k res : ℕ) (d out : List ℕ) (e : q �
   unfolding job_lines job_result_of
   option_job t h p b = rw (← e, ← f, ne_eqb j.kind 12 (λ z. let y : ⊥ = omega arith in y), ne_eqb j.kind 13 (λ z. let y : ⊥ = omega arith in y), lt-ltb j.kind 5 h, ← p) b
 
-  pub worked_job : (w : Whole) → (j.kind ≡ 12 → ⊥) → (j.kind ≡ 13 → ⊥) → 5 ≤ j.kind → w ≡ work_of q j → Begins res (result_line k j.kind (result_from w)) d out → Begins res (job_lines q' k j') d out
+  pub worked_job : (w : Worked) → (j.kind ≡ 12 → ⊥) → (j.kind ≡ 13 → ⊥) → 5 ≤ j.kind → w ≡ work_of q j → Begins res (result_line k j.kind (result_from w)) d out → Begins res (job_lines q' k j') d out
   unfolding job_lines
   worked_job w h g i p b = rw (← e, ← f, ne_eqb j.kind 12 h, ne_eqb j.kind 13 g, ← result_is q j (le-ltb j.kind 5 i), ← p) b
 
@@ -100,6 +99,6 @@ module _ (alpha : Float) (pillars sigmas times factors payments accruals owns gr
   unfolding work_of swaption_whole fit_whole
   work_lists = refl
 
-pub grid_short : (file : List ℕ) (l : Layout) → layout_of file ≡ Parts l → (grid : List Float) → grid ≡ (request_of file l).grid_times → length grid ≤ 1024
+pub grid_short : (file : List ℕ) (l : Layout) → layout_of file ≡ Some l → (grid : List Float) → grid ≡ (request_of file l).grid_times → length grid ≤ 1024
 unfolding request_of
 grid_short file l e grid q = rw (q, column_length file l.grid 16 0) (kept file l e).grid.few

@@ -1,13 +1,12 @@
 -- The bytes that the program must print, for every file. Document 01: "The program reads standard input and prints `job kind answer value note`, then a line a job".
-use Rattle.std.specs.Prelude.{ℕ, suc, cond, List, [], ◌∷◌, ◌++◌, eqb, length, Float}
+use Rattle.std.specs.Prelude.{ℕ, suc, cond, List, [], ◌∷◌, ◌++◌, eqb, length, Float, Ok, Err, Option, Some, None}
 use Rattle.ieee.specs.Numbers as Numbers
-use Rattle.refusals.specs.Refusals.{Outcome, served, refused, number_of}
+use Rattle.refusals.specs.Refusals.{Outcome, number_of}
 use Rattle.hullwhite_points.specs.declared.walk.Centre.{Centre}
 use Rattle.hullwhite_points.specs.declared.walk.Centre.TheVariants as C
 use Rattle.hullwhite_paths.specs.Generate.{generate_outcome}
+use Rattle.file_layout.specs.declared.parts.Layout.{Layout}
 use Rattle.file_layout.specs.declared.records.Job.{Job}
-use Rattle.file_layout.specs.declared.parts.Laid.{Laid}
-use Rattle.file_layout.specs.declared.parts.Laid.TheVariants.{Parts, Broken}
 use Rattle.file_layout.specs.Layout.{layout_of}
 use Rattle.file_layout.specs.Request.{Request, request_of}
 use Rattle.file_fields.specs.Fields.{bits_of}
@@ -26,9 +25,9 @@ point_lines k kind i (x ∷ xs) = line_of k kind 0 (bits_of x) i ++ point_lines 
 
 -- "an empty grid is served with one line of zeros"; so is a refusal, beside its number
 abbrev pub path_lines : ℕ → ℕ → Outcome (List Float) → List ℕ
-path_lines k kind (served []) = line_of k kind 0 (bits_of Numbers.zero) 0
-path_lines k kind (served (x ∷ xs)) = point_lines k kind 0 (x ∷ xs)
-path_lines k kind (refused r) = line_of k kind (number_of r) (bits_of Numbers.zero) 0
+path_lines k kind (Ok []) = line_of k kind 0 (bits_of Numbers.zero) 0
+path_lines k kind (Ok (x ∷ xs)) = point_lines k kind 0 (x ∷ xs)
+path_lines k kind (Err r) = line_of k kind (number_of r) (bits_of Numbers.zero) 0
 
 -- the path of a request; its output has a place for each grid point
 abbrev pub path_of : Centre → Request → Outcome (List Float)
@@ -47,9 +46,9 @@ lines_from q k [] = []
 lines_from q k (j ∷ js) = job_lines q k j ++ lines_from q (suc k) js
 
 -- "then the program prints only `refused 1`"
-abbrev pub printed : List ℕ → Laid → List ℕ
-printed file Broken = refused_line
-printed file (Parts l) = let q = request_of file l in header ++ lines_from q 0 q.jobs
+abbrev pub printed : List ℕ → Option Layout → List ℕ
+printed file None = refused_line
+printed file (Some l) = let q = request_of file l in header ++ lines_from q 0 q.jobs
 
 -- what the program prints for a file
 unfoldable pub output_of : List ℕ → List ℕ

@@ -1,15 +1,13 @@
 -- The output of every file as the pieces that the program sends one by one: the header or `refused 1`, and then the lines of each job.
-use Rattle.std.specs.Prelude.{◌≡◌, Bool, true, false, cond, List, [], ◌∷◌, ◌++◌, eqb, length, get_or, Float}
+use Rattle.std.specs.Prelude.{◌≡◌, Bool, true, false, cond, List, [], ◌∷◌, ◌++◌, eqb, length, get_or, Float, Ok, Err, Option, Some, None}
 use Rattle.std.proofs.Math.Path.{refl}
 use Rattle.std.proofs.Common.{ap, append-nil}
 use Prim.Native.Nat.{ℕ, zero, suc, ◌+◌, ◌*◌, ◌/◌, ◌<◌}
 use native.Mathlib.Omega.{arith}
 use Rattle.ieee.specs.Numbers as Numbers
-use Rattle.refusals.specs.Refusals.{Outcome, served, refused, number_of}
+use Rattle.refusals.specs.Refusals.{Outcome, number_of}
 use Rattle.hullwhite_points.specs.declared.walk.Centre.TheVariants as C
 use Rattle.file_layout.specs.declared.parts.Layout.{Layout}
-use Rattle.file_layout.specs.declared.parts.Laid.{Laid}
-use Rattle.file_layout.specs.declared.parts.Laid.TheVariants.{Parts, Broken}
 use Rattle.file_layout.specs.declared.records.Job.{Job}
 use Rattle.file_layout.specs.Layout.{layout_of}
 use Rattle.file_layout.specs.Request.{Request, request_of, job_at, jobs_from}
@@ -23,9 +21,9 @@ unfoldable pub job_pieces : Request → ℕ → List Job → List (List ℕ)
 job_pieces q k [] = []
 job_pieces q k (j ∷ js) = job_lines q k j ∷ job_pieces q (suc k) js
 
-abbrev pub pieces_in : List ℕ → Laid → List (List ℕ)
-pieces_in file Broken = refused_line ∷ []
-pieces_in file (Parts l) = let q = request_of file l in header ∷ job_pieces q 0 q.jobs
+abbrev pub pieces_in : List ℕ → Option Layout → List (List ℕ)
+pieces_in file None = refused_line ∷ []
+pieces_in file (Some l) = let q = request_of file l in header ∷ job_pieces q 0 q.jobs
 
 unfoldable pub pieces_of : List ℕ → List (List ℕ)
 pieces_of file = pieces_in file (layout_of file)
@@ -45,17 +43,17 @@ unfolding joined job_pieces lines_from
 lines_are q k [] = refl
 lines_are q k (j ∷ js) = ap (λ rest. job_lines q k j ++ rest) (lines_are q (suc k) js)
 
-laid_is : (file : List ℕ) (laid : Laid) → joined (pieces_in file laid) ≡ printed file laid
+laid_is : (file : List ℕ) (laid : Option Layout) → joined (pieces_in file laid) ≡ printed file laid
 unfolding joined
-laid_is file Broken = rw append-nil refl
-laid_is file (Parts l) = ap (λ rest. header ++ rest) (lines_are (request_of file l) 0 (request_of file l).jobs)
+laid_is file None = rw append-nil refl
+laid_is file (Some l) = ap (λ rest. header ++ rest) (lines_are (request_of file l) 0 (request_of file l).jobs)
 
 pub output_is : (file : List ℕ) → joined (pieces_of file) ≡ output_of file
 unfolding pieces_of output_of
 output_is file = laid_is file (layout_of file)
 
 -- "then the program prints only `refused 1`"
-pub broken_is : (file : List ℕ) → layout_of file ≡ Broken → output_of file ≡ refused_line
+pub broken_is : (file : List ℕ) → layout_of file ≡ None → output_of file ≡ refused_line
 unfolding output_of
 broken_is file e = rw e
 
@@ -74,7 +72,7 @@ unfolding job_pieces jobs_from
 pieces_length q file zero at k = refl
 pieces_length q file (suc n) at k = ap suc (pieces_length q file n (at + 40) (suc k))
 
-module _ (file : List ℕ) (l : Layout) (e : layout_of file ≡ Parts l) where
+module _ (file : List ℕ) (l : Layout) (e : layout_of file ≡ Some l) where
   -- the lines of job k are piece k + 1
   pub job_is : (k : ℕ) → k < l.jobs.length / 40 → piece_of file (suc k) ≡ job_lines (request_of file l) k (job_at file (l.jobs.offset + 40 * k))
   unfolding pieces_of request_of
@@ -88,7 +86,7 @@ module _ (file : List ℕ) (l : Layout) (e : layout_of file ≡ Parts l) where
   unfolding pieces_of
   header_is = rw e refl
 
-module _ (file : List ℕ) (e : layout_of file ≡ Broken) where
+module _ (file : List ℕ) (e : layout_of file ≡ None) where
   pub refused_is : pieces_of file ≡ refused_line ∷ []
   unfolding pieces_of
   refused_is = rw e refl
@@ -108,9 +106,9 @@ line_full job kind answer bits note = behind (ending 32 (decimal_of job) ++ endi
 
 path_full : (k kind : ℕ) (o : Outcome (List Float)) → 0 < length (path_lines k kind o)
 unfolding point_lines
-path_full k kind (served []) = line_full k kind 0 (bits_of Numbers.zero) 0
-path_full k kind (served (x ∷ xs)) = before (line_of k kind 0 (bits_of x) 0) (point_lines k kind 1 xs) (line_full k kind 0 (bits_of x) 0)
-path_full k kind (refused r) = line_full k kind (number_of r) (bits_of Numbers.zero) 0
+path_full k kind (Ok []) = line_full k kind 0 (bits_of Numbers.zero) 0
+path_full k kind (Ok (x ∷ xs)) = before (line_of k kind 0 (bits_of x) 0) (point_lines k kind 1 xs) (line_full k kind 0 (bits_of x) 0)
+path_full k kind (Err r) = line_full k kind (number_of r) (bits_of Numbers.zero) 0
 
 either_full : (b : Bool) (xs ys : List ℕ) → 0 < length xs → 0 < length ys → 0 < length (cond b xs ys)
 either_full true xs ys h k = h
@@ -130,11 +128,11 @@ jobs_full q k i [] h = absurd (let z : ⊥ = omega arith in z)
 jobs_full q k zero (j ∷ js) h = job_full q k j
 jobs_full q k (suc i) (j ∷ js) h = jobs_full q (suc k) i js (omega arith)
 
-laid_full : (file : List ℕ) (laid : Laid) (k : ℕ) → k < length (pieces_in file laid) → 0 < length (get_or (pieces_in file laid) k [])
-laid_full file Broken zero h = omega arith
-laid_full file Broken (suc k) h = absurd (let z : ⊥ = omega arith in z)
-laid_full file (Parts l) zero h = omega arith
-laid_full file (Parts l) (suc k) h = let q = request_of file l in jobs_full q 0 k q.jobs (omega arith)
+laid_full : (file : List ℕ) (laid : Option Layout) (k : ℕ) → k < length (pieces_in file laid) → 0 < length (get_or (pieces_in file laid) k [])
+laid_full file None zero h = omega arith
+laid_full file None (suc k) h = absurd (let z : ⊥ = omega arith in z)
+laid_full file (Some l) zero h = omega arith
+laid_full file (Some l) (suc k) h = let q = request_of file l in jobs_full q 0 k q.jobs (omega arith)
 
 pub never_empty : (file : List ℕ) (k : ℕ) → k < length (pieces_of file) → 0 < length (piece_of file k)
 unfolding pieces_of

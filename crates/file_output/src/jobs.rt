@@ -1,22 +1,21 @@
 // The lines of a job, in the output that is lent.
-ghost use Rattle.std.specs.Prelude.{◌≡◌, ◌*◌, ◌+◌, ◌/◌, ◌≤◌, ◌<◌, length};
+ghost use Rattle.std.specs.Prelude.{◌≡◌, ◌*◌, ◌+◌, ◌/◌, ◌≤◌, ◌<◌, length, Some};
 ghost use Rattle.refusals.specs.Faults.{curve_faults};
 ghost use Rattle.hullwhite_paths.specs.Generate.{generate_outcome};
-ghost use Rattle.file_layout.specs.declared.parts.Laid.TheVariants.{Parts};
 ghost use Rattle.file_layout.specs.Layout.{layout_of};
 ghost use Rattle.file_layout.specs.Request.{request_of, job_at, jobs_of};
 ghost use Rattle.file_fields.specs.Text.{Begins};
 ghost use Rattle.file_fields.specs.Fields.{bits_of};
 ghost use Rattle.file_lines.specs.Lines.{line_of};
 ghost use Rattle.file_jobs.specs.Results.{request_of_lists};
-ghost use Rattle.file_jobs.specs.Worked.{whole_of, result_from};
+ghost use Rattle.file_jobs.specs.Worked.{result_from};
 ghost use Rattle.file_output.specs.Output.{result_line, point_lines, path_lines, job_lines};
 
 use file_jobs::{JobResult, Worked};
 use file_layout::Layout;
 use file_lines::Line;
 use hullwhite_points::Centre;
-use refusals::{Answer, Faults};
+use refusals::Faults;
 
 // A line for each point of a path, the note being the point from 0. A caller lends 128 bytes for each.
 fn point_lines(k: u64, kind: u64, values: &[f64], out: &mut [u8]) -> usize
@@ -24,18 +23,15 @@ fn point_lines(k: u64, kind: u64, values: &[f64], out: &mut [u8]) -> usize
     ensures { Begins result (point_lines k kind 0 values.now) out.old out.new }
 {
     let mut at = 0;
-    let mut i = 0;
-    while i < values.len() {
-        let value = values[i];
+    for i in 0..values.len() {
         let point = Line {
             job: k,
             kind,
             answer: 0,
-            value,
+            value: values[i],
             note: i as u64,
         };
         at = file_lines::write_line(point, out, at);
-        i += 1;
     }
     at
 }
@@ -68,9 +64,9 @@ fn result_line(k: u64, kind: u64, told: JobResult, out: &mut [u8]) -> usize
 // The line of a job of kinds 5 to 11, from all that its call returned. A caller lends 128 bytes for it.
 pub fn worked_line(k: u64, kind: u64, worked: Worked, out: &mut [u8]) -> usize
     requires { 128 ≤ length out.old }
-    ensures { Begins result (result_line k kind (result_from (whole_of worked))) out.old out.new }
+    ensures { Begins result (result_line k kind (result_from worked)) out.old out.new }
 {
-    result_line(k, kind, file_jobs::job_result(worked), out)
+    result_line(k, kind, worked.into(), out)
 }
 
 // Kinds 12 and 13. A grid without points is served with one line of zeros. A caller has the curve's faults and the
@@ -106,12 +102,12 @@ fn path_lines(
         draws,
         &mut values[..n],
     );
-    if let Answer::Refused(refusal) = answer {
+    if let Err(refusal) = answer {
         return one_line(
             Line {
                 job: k,
                 kind,
-                answer: refusals::number(refusal),
+                answer: refusal.into(),
                 value: 0.0,
                 note: 0,
             },
@@ -154,7 +150,7 @@ pub fn job_lines(
     k: usize,
     out: &mut [u8],
 ) -> usize
-    requires file_value { (layout_of file.now ≡ Parts l) × (k < l.jobs.length / 40) × (131072 ≤ length out.old) }
+    requires file_value { (layout_of file.now ≡ Some l) × (k < l.jobs.length / 40) × (131072 ≤ length out.old) }
     requires curve_value { curve ≡ curve_faults times.now factors.now }
     requires jobs_value { request_of_lists alpha pillars.now sigmas.now times.now factors.now payments.now accruals.now owns.now grid.now draws.now (jobs_of file.now l.jobs) ≡ request_of file.now l }
     ensures { Begins result (job_lines (request_of file.now l) k (job_at file.now (l.jobs.offset + 40 * k))) out.old out.new }

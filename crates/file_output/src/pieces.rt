@@ -1,7 +1,6 @@
 // What the program prints for a file, piece by piece.
-ghost use Rattle.std.specs.Prelude.{◌≡◌, cond, ◌*◌, ◌+◌, ◌/◌, ◌≤◌, ◌<◌, suc, length};
+ghost use Rattle.std.specs.Prelude.{◌≡◌, cond, ◌*◌, ◌+◌, ◌/◌, ◌≤◌, ◌<◌, suc, length, Some};
 ghost use Rattle.refusals.specs.Faults.{curve_faults};
-ghost use Rattle.file_layout.specs.declared.parts.Laid.TheVariants.{Parts};
 ghost use Rattle.file_layout.specs.Layout.{layout_of};
 ghost use Rattle.file_layout.specs.Lists.{HoldsLists, list_of};
 ghost use Rattle.file_layout.specs.Request.{request_of, job_at};
@@ -11,7 +10,7 @@ ghost use Rattle.file_output.specs.Output.{job_lines};
 ghost use Rattle.file_output.specs.Pieces.{piece_of};
 
 use super::jobs;
-use file_layout::{Laid, Layout};
+use file_layout::{Layout, Which};
 use refusals::Faults;
 
 // Puts piece k of the file's output at the front of the buffer, and answers how many bytes it has: 0 is the header or
@@ -22,13 +21,13 @@ pub fn piece(file: &[u8], k: usize, out: &mut [u8]) -> usize
 {
     let laid = file_layout::lay_out(file);
     match laid {
-        Laid::Broken => {
+        None => {
             if k == 0 {
                 return first_line(true, out);
             }
             0
         }
-        Laid::Parts(l) => {
+        Some(l) => {
             if k == 0 {
                 return first_line(false, out);
             }
@@ -51,7 +50,7 @@ pub fn first_line(broken: bool, out: &mut [u8]) -> usize
 // Piece k + 1 of a file whose layout is known: the lines of job k, or no bytes behind the last job. The lists are read for this
 // job alone.
 fn job_piece(file: &[u8], l: Layout, k: usize, out: &mut [u8]) -> usize
-    requires { (layout_of file.now ≡ Parts l) × (131072 ≤ length out.old) }
+    requires { (layout_of file.now ≡ Some l) × (131072 ≤ length out.old) }
     ensures { Begins result (piece_of file.now (suc k)) out.old out.new }
 {
     let n_jobs = (l.jobs.length / 40) as usize;
@@ -66,11 +65,11 @@ fn job_piece(file: &[u8], l: Layout, k: usize, out: &mut [u8]) -> usize
 
 // The faults of the file's curve, on its lists.
 pub fn file_curve_faults(file: &[u8], l: Layout, floats: &[f64]) -> Faults
-    requires { (layout_of file.now ≡ Parts l) × HoldsLists file.now l floats.now }
+    requires { (layout_of file.now ≡ Some l) × HoldsLists file.now l floats.now }
     ensures { result ≡ curve_faults (list_of (request_of file.now l) 2) (list_of (request_of file.now l) 3) }
 {
-    let times = file_layout::list(file, l, floats, 2);
-    let factors = file_layout::list(file, l, floats, 3);
+    let times = file_layout::list(file, l, floats, Which::CurveTimes);
+    let factors = file_layout::list(file, l, floats, Which::CurveFactors);
     refusals::curve_faults(times, factors)
 }
 
@@ -83,20 +82,20 @@ pub fn lines_on(
     k: usize,
     out: &mut [u8],
 ) -> usize
-    requires file_value { (layout_of file.now ≡ Parts l) × HoldsLists file.now l floats.now × (k < l.jobs.length / 40) × (131072 ≤ length out.old) }
+    requires file_value { (layout_of file.now ≡ Some l) × HoldsLists file.now l floats.now × (k < l.jobs.length / 40) × (131072 ≤ length out.old) }
     requires curve_value { curve ≡ curve_faults (list_of (request_of file.now l) 2) (list_of (request_of file.now l) 3) }
     ensures { Begins result (job_lines (request_of file.now l) k (job_at file.now (l.jobs.offset + 40 * k))) out.old out.new }
 {
     let alpha = file_layout::alpha(file, l.model);
-    let pillars = file_layout::list(file, l, floats, 0);
-    let sigmas = file_layout::list(file, l, floats, 1);
-    let times = file_layout::list(file, l, floats, 2);
-    let factors = file_layout::list(file, l, floats, 3);
-    let payments = file_layout::list(file, l, floats, 4);
-    let accruals = file_layout::list(file, l, floats, 5);
-    let owns = file_layout::list(file, l, floats, 6);
-    let grid = file_layout::list(file, l, floats, 7);
-    let draws = file_layout::list(file, l, floats, 8);
+    let pillars = file_layout::list(file, l, floats, Which::PillarTimes);
+    let sigmas = file_layout::list(file, l, floats, Which::PillarSigmas);
+    let times = file_layout::list(file, l, floats, Which::CurveTimes);
+    let factors = file_layout::list(file, l, floats, Which::CurveFactors);
+    let payments = file_layout::list(file, l, floats, Which::Payments);
+    let accruals = file_layout::list(file, l, floats, Which::Accruals);
+    let owns = file_layout::list(file, l, floats, Which::Owns);
+    let grid = file_layout::list(file, l, floats, Which::GridTimes);
+    let draws = file_layout::list(file, l, floats, Which::Draws);
     jobs::job_lines(
         file, l, curve, alpha, pillars, sigmas, times, factors, payments, accruals, owns, grid,
         draws, k, out,

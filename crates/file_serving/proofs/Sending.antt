@@ -5,9 +5,8 @@ use mathlib.Core.List.{List}
 use Prim.Native.Nat.{ℕ, suc, ◌+◌, ◌*◌, ◌/◌, ◌≤◌, ◌<◌}
 use native.Mathlib.Omega.{arith}
 use lib.ListN.{length, take}
+use Rattle.std.specs.Prelude.{Option, Some, None}
 use Rattle.file_layout.specs.declared.parts.Layout.{Layout}
-use Rattle.file_layout.specs.declared.parts.Laid.{Laid}
-use Rattle.file_layout.specs.declared.parts.Laid.TheVariants.{Parts, Broken}
 use Rattle.file_layout.specs.Layout.{layout_of}
 use Rattle.file_layout.specs.Request.{request_of, job_at}
 use Rattle.file_layout.proofs.Kept.{kept}
@@ -19,22 +18,22 @@ use Rattle.file_serving.specs.declared.sent.Sent.{Sent}
 use Rattle.file_serving.specs.Sending.{file_of, Due, SameFile}
 
 -- ---- at most 128 jobs, and the header
-few_in : (file : List ℕ) (laid : Laid) → layout_of file ≡ laid → length (pieces_of file) ≤ 129
-few_in file Broken e = rw (refused_is file e) (omega arith)
-few_in file (Parts l) e = omega (arith, count_is file l e, (kept file l e).jobs.few)
+few_in : (file : List ℕ) (laid : Option Layout) → layout_of file ≡ laid → length (pieces_of file) ≤ 129
+few_in file None e = rw (refused_is file e) (omega arith)
+few_in file (Some l) e = omega (arith, count_is file l e, (kept file l e).jobs.few)
 
 pub few : (file : List ℕ) → length (pieces_of file) ≤ 129
 few file = few_in file (layout_of file) refl
 
 -- ---- the first piece
 module _ (file : List ℕ) (n due : ℕ) (d text : List ℕ) (z : due ≡ 0) where
-  pub refusal_due : layout_of file ≡ Broken → Begins n (cond true refused_line header) d text → (due < length (pieces_of file)) × (take n text ≡ piece_of file due)
+  pub refusal_due : layout_of file ≡ None → Begins n (cond true refused_line header) d text → (due < length (pieces_of file)) × (take n text ≡ piece_of file due)
   refusal_due e b = rw (z, refused_is file e) (omega arith, b.front)
 
-  pub header_due : (l : Layout) → layout_of file ≡ Parts l → Begins n (cond false refused_line header) d text → (due < length (pieces_of file)) × (take n text ≡ piece_of file due)
+  pub header_due : (l : Layout) → layout_of file ≡ Some l → Begins n (cond false refused_line header) d text → (due < length (pieces_of file)) × (take n text ≡ piece_of file due)
   header_due l e b = (omega (arith, count_is file l e, z), rw z (b.front ∙ sym (header_is file l e)))
 
-module _ (file : List ℕ) (l : Layout) (e : layout_of file ≡ Parts l) where
+module _ (file : List ℕ) (l : Layout) (e : layout_of file ≡ Some l) where
   -- ---- the lines of job k are piece k + 1
   pub job_due : (n k due : ℕ) (d out : List ℕ) → due ≡ k + 1 → k < l.jobs.length / 40 → Begins n (job_lines (request_of file l) k (job_at file (l.jobs.offset + 40 * k))) d out
       → (due < length (pieces_of file)) × (take n out ≡ piece_of file due)

@@ -1,9 +1,8 @@
 -- When the output of a file is sent: every piece of it has been handed to the call that writes, or one of these calls has failed; and what a writer was handed.
-use Rattle.std.specs.Prelude.{◌≡◌, refl, Bool, true, false, not, ◌⊎◌, List, ℕ, ◌≤◌, ◌<◌, T, leb, length, take, Option}
+use Rattle.std.specs.Prelude.{◌≡◌, refl, Bool, true, false, not, ◌⊎◌, List, ℕ, ◌≤◌, ◌<◌, T, leb, length, take, Option, None}
 use Rattle.std.specs.Io.KnownBytes.{Appends}
 use Rattle.std.proofs.Common.{sym, ◌∙◌, ap, subst, arith, leb→le, take_all, length-take-le}
 use Rattle.std.proofs.Math.Dec.{nleb→lt}
-use Rattle.file_layout.specs.declared.parts.Laid.TheVariants.{Broken}
 use Rattle.file_layout.specs.Layout.{layout_of, keeps}
 use Rattle.file_output.specs.Output.{output_of}
 use Rattle.file_output.specs.Pieces.{pieces_of, broken_is}
@@ -30,7 +29,7 @@ Handed old new text false = Appends old new text
 Handed old new text true = (n : ℕ) × (n ≤ length text) × Appends old new (take n text)
 
 -- ---- "At most 65,536 bytes": the bytes behind the 65,537th change nothing
-too_long : (file : List ℕ) → leb (length file) 65536 ≡ false → layout_of file ≡ Broken
+too_long : (file : List ℕ) → leb (length file) 65536 ≡ false → layout_of file ≡ None
 unfolding layout_of keeps
 too_long file e = rw e refl
 

@@ -1,7 +1,6 @@
 // A run file served: its layout, its lists, and each job's lines as soon as they are worked.
-ghost use Rattle.std.specs.Prelude.{◌≡◌, drop};
+ghost use Rattle.std.specs.Prelude.{◌≡◌, drop, Some};
 ghost use Rattle.std.specs.Io.KnownBytes.{Consumes};
-ghost use Rattle.file_layout.specs.declared.parts.Laid.TheVariants.{Parts};
 ghost use Rattle.file_layout.specs.Layout.{layout_of};
 ghost use Rattle.file_layout.specs.Lists.{HoldsLists};
 ghost use Rattle.file_output.specs.Output.{output_of};
@@ -10,7 +9,7 @@ ghost use Rattle.file_serving.specs.Sending.{file_of, Due, Done, Handed};
 
 use super::sent;
 use super::sent::Sent;
-use file_layout::{Laid, Layout};
+use file_layout::Layout;
 use std::io::{Read, Write};
 
 // What the input holds, served: all of its output is sent, or a write has failed. The file is what was read, and what the
@@ -37,11 +36,11 @@ fn serve_file<W: Write>(file: &[u8], sent: Sent, due: &mut usize, output: &mut W
     let laid = file_layout::lay_out(file);
     let mut text = [0u8; 128];
     match laid {
-        Laid::Broken => {
+        None => {
             let n = file_output::first_line(true, &mut text);
             sent::send(sent, due, &text[..n], output)
         }
-        Laid::Parts(l) => {
+        Some(l) => {
             let n = file_output::first_line(false, &mut text);
             let first = sent::send(sent, due, &text[..n], output);
             if sent::failed(first) {
@@ -54,7 +53,7 @@ fn serve_file<W: Write>(file: &[u8], sent: Sent, due: &mut usize, output: &mut W
 
 // The jobs, on the lists that are read here, once. The layout is that of the file, whose header is sent.
 fn serve_jobs<W: Write>(file: &[u8], l: Layout, sent: Sent, due: &mut usize, output: &mut W) -> Sent
-    requires { (layout_of file.now ≡ Parts l) × Due file.now sent due.old × (due.old ≡ 1) }
+    requires { (layout_of file.now ≡ Some l) × Due file.now sent due.old × (due.old ≡ 1) }
     ensures done { Done file.now result }
     ensures handed { Handed (W.contents output.old) (W.contents output.new) (joined (drop 1 (pieces_of file.now))) result.failed }
 {
@@ -73,7 +72,7 @@ fn each_job<W: Write>(
     due: &mut usize,
     output: &mut W,
 ) -> Sent
-    requires { (layout_of file.now ≡ Parts l) × HoldsLists file.now l floats.now × Due file.now sent due.old × (due.old ≡ 1) }
+    requires { (layout_of file.now ≡ Some l) × HoldsLists file.now l floats.now × Due file.now sent due.old × (due.old ≡ 1) }
     ensures done { Done file.now result }
     ensures handed { Handed (W.contents output.old) (W.contents output.new) (joined (drop 1 (pieces_of file.now))) result.failed }
 {

@@ -1,12 +1,12 @@
 -- Demand 3 of kinds 8 to 11, of the definitions: a fit that is served is assured, at every sigma that a swaption's fit tries the root is located, and one is refused for want of a bracket exactly where a search that it tries has none. Assumes nothing.
+use Rattle.std.specs.Prelude.{Some, Ok, Err}
 use mathlib.Core.Path.{◌≡◌, sym, ap, ◌∙◌}
 use mathlib.Core.Logic.{◌↔◌}
 use mathlib.Core.List.{List, []}
 use lib.Ieee.{Float}
-use Rattle.refusals.specs.declared.refusals.Answer.TheVariants as A
 use Rattle.refusals.specs.declared.refusals.Refusal.TheVariants as R
-use Rattle.refusals.specs.Refusals.{Outcome, served, refused, first_of, following}
-use Rattle.curve.specs.Lookups.{just, factor_at}
+use Rattle.refusals.specs.Refusals.{Outcome, first_of, following}
+use Rattle.curve.specs.Lookups.{factor_at}
 use Rattle.refusals.specs.Faults.{curve_faults}
 use Rattle.refusals.proofs.Outcomes.{not_both}
 use Rattle.hullwhite_terms.proofs.Callers.{Late, past_rules, past_lookups}
@@ -28,30 +28,30 @@ module _ (quote : VolatilityType) (alpha : Float) (ts fs : List Float) (strike t
   fit_on pt p_s = following (solve_of (caplet_objective quote alpha strike t S vol pt p_s)) finishing_fit
 
   record CapletBegun (o : Outcome Fit) : Type 0 where
-    passed : first_of (caplet_rules (curve_faults ts fs) quote alpha strike t S vol) ≡ A.Served
+    passed : first_of (caplet_rules (curve_faults ts fs) quote alpha strike t S vol) ≡ Ok tt
     pt : Float
     p_s : Float
-    at_start : factor_at ts fs t ≡ just pt
-    at_end : factor_at ts fs S ≡ just p_s
+    at_start : factor_at ts fs t ≡ Some pt
+    at_end : factor_at ts fs S ≡ Some p_s
     goes_on : fit_on pt p_s ≡ o
 
   caplet_begun : (o : Outcome Fit) → Late o → caplet_fit_outcome quote alpha ts fs strike t S vol ≡ o → CapletBegun o
   unfolding caplet_fit_outcome caplet_fitted
   caplet_begun o late e =
       let p = past_rules o late (caplet_rules (curve_faults ts fs) quote alpha strike t S vol) (caplet_fitted quote alpha ts fs strike t S vol) tt e in
-      let r = past_lookups (factor_at ts fs t) (factor_at ts fs S) (served []) (λ pt p_s none. fit_on pt p_s) o late (λ q z. absurd (not_both (sym z))) p.1 in
+      let r = past_lookups (factor_at ts fs t) (factor_at ts fs S) (Ok []) (λ pt p_s none. fit_on pt p_s) o late (λ q z. absurd (not_both (sym z))) p.1 in
       record { passed = p.0; pt = r.pt; p_s = r.p_plus; at_start = r.at_option; at_end = r.day_after; goes_on = r.goes_on }
 
   -- a caplet's objective is never refused
-  never : (pt p_s sigma : Float) → caplet_objective quote alpha strike t S vol pt p_s sigma ≡ refused R.NoBracket → ⊥
+  never : (pt p_s sigma : Float) → caplet_objective quote alpha strike t S vol pt p_s sigma ≡ Err R.NoBracket → ⊥
   unfolding caplet_objective
   never pt p_s sigma e = not_both (sym e)
 
   -- of any answer whose outcome is the one defined: `CapletFitHolds` and `CapletFitNeverNoBracket`
   module _ {o : Outcome Fit} (is : o ≡ caplet_fit_outcome quote alpha ts fs strike t S vol) where
-    pub caplet_held : (fit : Fit) → o ≡ served fit → CapletFitAssured quote alpha ts fs strike t S vol fit
+    pub caplet_held : (fit : Fit) → o ≡ Ok fit → CapletFitAssured quote alpha ts fs strike t S vol fit
     caplet_held fit e =
-        let b = caplet_begun (served fit) tt (sym is ∙ e) in
+        let b = caplet_begun (Ok fit) tt (sym is ∙ e) in
         let f = caplet_objective quote alpha strike t S vol b.pt b.p_s in
         record {
           passed = b.passed;
@@ -62,9 +62,9 @@ module _ (quote : VolatilityType) (alpha : Float) (ts fs : List Float) (strike t
           assured = demand3.assured f fit (finished_served (solve_of f) fit b.goes_on);
         }
 
-    pub caplet_never_so : o ≡ refused R.NoBracket → ⊥
+    pub caplet_never_so : o ≡ Err R.NoBracket → ⊥
     caplet_never_so e =
-        let b = caplet_begun (refused R.NoBracket) tt (sym is ∙ e) in
+        let b = caplet_begun (Err R.NoBracket) tt (sym is ∙ e) in
         let f = caplet_objective quote alpha strike t S vol b.pt b.p_s in
         let w = (demand3.no_bracket f).0 (finished_wanting (solve_of f) b.goes_on) in
         never b.pt b.p_s w.sigma w.there
@@ -87,27 +87,27 @@ module _ (quote : VolatilityType) (alpha : Float) (ts fs payments accruals : Lis
   fit_begins b = begins (swaption_rules_on quote alpha ts fs payments accruals strike t vol) ts fs payments t swaption_on b
 
   -- the search at a sigma where the objective is served
-  root_at : (b : FitBegun quote alpha ts fs payments accruals strike t vol) (sigma x : Float) → objective_from b.pt b.p_plus b.ps sigma ≡ served x → RootAt quote alpha ts fs payments accruals strike t vol b sigma
+  root_at : (b : FitBegun quote alpha ts fs payments accruals strike t vol) (sigma x : Float) → objective_from b.pt b.p_plus b.ps sigma ≡ Ok x → RootAt quote alpha ts fs payments accruals strike t vol b sigma
   root_at b sigma x e =
       let r = value_there quote alpha payments accruals strike t vol b.pt b.p_plus b.ps sigma e in
       record { valued = r.0; price = r.1; located = root_there quote alpha payments accruals strike t vol b.pt b.p_plus b.ps sigma r.0 r.1 }
 
   -- of any answer whose outcome is the one defined: `SwaptionFitHolds` and `SwaptionFitNoBracketExactly`
   module _ {o : Outcome Fit} (is : o ≡ swaption_fit_outcome quote alpha ts fs payments accruals strike t vol) where
-    pub swaption_held : (fit : Fit) → o ≡ served fit → SwaptionFitAssured quote alpha ts fs payments accruals strike t vol fit
+    pub swaption_held : (fit : Fit) → o ≡ Ok fit → SwaptionFitAssured quote alpha ts fs payments accruals strike t vol fit
     swaption_held fit e =
-        let s = fits (served fit) tt (sym is ∙ e) in
+        let s = fits (Ok fit) tt (sym is ∙ e) in
         let b = s.begun in
         let f = objective_from b.pt b.p_plus b.ps in
         let a = demand3.assured f fit (finished_served (solve_of f) fit s.goes_on) in
         record { begun = b; assured = a; every_search = λ sigma m. let x = a.every sigma m in root_at b sigma x.residual x.there }
 
-    pub swaption_refused_so : (o ≡ refused R.NoBracket) ↔ FitWantsBracket quote alpha ts fs payments accruals strike t vol
+    pub swaption_refused_so : (o ≡ Err R.NoBracket) ↔ FitWantsBracket quote alpha ts fs payments accruals strike t vol
     swaption_refused_so = (there, back)
       where
-        there : o ≡ refused R.NoBracket → FitWantsBracket quote alpha ts fs payments accruals strike t vol
+        there : o ≡ Err R.NoBracket → FitWantsBracket quote alpha ts fs payments accruals strike t vol
         there e =
-            let s = fits (refused R.NoBracket) tt (sym is ∙ e) in
+            let s = fits (Err R.NoBracket) tt (sym is ∙ e) in
             let b = s.begun in
             let f = objective_from b.pt b.p_plus b.ps in
             let w = (demand3.no_bracket f).0 (finished_wanting (solve_of f) s.goes_on) in
@@ -118,7 +118,7 @@ module _ (quote : VolatilityType) (alpha : Float) (ts fs payments accruals : Lis
               unbracketed = unbracketed_there quote alpha payments accruals strike t vol b.pt b.p_plus b.ps w.sigma (want_there quote alpha payments accruals strike t vol b.pt b.p_plus b.ps w.sigma w.there);
             }
 
-        back : FitWantsBracket quote alpha ts fs payments accruals strike t vol → o ≡ refused R.NoBracket
+        back : FitWantsBracket quote alpha ts fs payments accruals strike t vol → o ≡ Err R.NoBracket
         back w =
             let b = w.begun in
             let f = objective_from b.pt b.p_plus b.ps in

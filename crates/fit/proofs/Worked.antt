@@ -1,14 +1,13 @@
 -- A fit of the objective on what is worked ahead is a fit of document 01's own, since the two are one at every sigma. Assumes nothing.
+use Rattle.std.specs.Prelude.{Ok, Err}
 use mathlib.Core.Path.{◌≡◌, refl, ap, ◌∙◌}
 use mathlib.Core.List.{List}
 use lib.Ieee.{Float}
 use Rattle.ieee.specs.Rounded.{◌⊖◌}
 use Rattle.refusals.specs.declared.refusals.Refusal.{Refusal}
-use Rattle.refusals.specs.Refusals.{Outcome, refused, following}
+use Rattle.refusals.specs.Refusals.{Outcome, following}
 use Rattle.hullwhite_formulas.specs.declared.instruments.Optionlet.{Optionlet}
 use Rattle.hullwhite_formulas.specs.HullWhite.{b_of, state_deviation_of, growth_of, optionlet_strike_of}
-use Rattle.hullwhite_terms.specs.declared.swaption.WorkedTerms.{WorkedTerms}
-use Rattle.hullwhite_terms.specs.declared.swaption.WorkedTerms.TheVariants as T
 use Rattle.hullwhite_terms.specs.Terms.{curve_parts_of}
 use Rattle.hullwhite_terms.specs.Swaption.{SwaptionTerms, terms_on, terms_of, terms_outcome}
 use Rattle.hullwhite_terms.proofs.OnTerms.{terms_refused, terms_served}
@@ -25,6 +24,7 @@ use Rattle.fit_objective.specs.Objective.{caplet_objective, swaption_objective}
 use Rattle.fit_objective.specs.Ahead.{objective_of, objective_on}
 use Rattle.fit_objective.proofs.Worked.{caplet_same, swaption_same, swaption_ahead}
 use Rattle.fit.specs.Fits.{swaption_fitted}
+use Rattle.hullwhite_terms.specs.declared.swaption.TermsAhead.{TermsAhead}
 
 -- rule 13 after a fit of either objective
 finished : {f g : Float → Outcome Float} {o q : Outcome Fit} → ((sigma : Float) → f sigma ≡ g sigma) → o ≡ solve_of f → q ≡ following o finishing_fit → q ≡ following (solve_of g) finishing_fit
@@ -44,18 +44,18 @@ pub swaption_fit : (alpha t pt forward market : Float) (cs bs ps : List Float) {
 swaption_fit alpha t pt forward market cs bs ps d h = finished (swaption_same alpha t pt forward market cs bs ps d h)
 
 -- the call, by what its terms came to, `r` with the lists beside it
-module _ (quote : VolatilityType) (alpha : Float) (ts fs payments accruals : List Float) (strike t vol : Float) (r : WorkedTerms) (cs bs ps : List Float) (is : terms_outcome r cs bs ps ≡ terms_of alpha ts fs payments accruals strike t) where
+module _ (quote : VolatilityType) (alpha : Float) (ts fs payments accruals : List Float) (strike t vol : Float) (r : Outcome TermsAhead) (cs bs ps : List Float) (is : terms_outcome r cs bs ps ≡ terms_of alpha ts fs payments accruals strike t) where
   abbrev on : SwaptionTerms → Outcome Fit
   on w = following (solve_of (objective_on alpha t w (swaption_market_price_of quote strike t vol accruals w.pt w.factors))) finishing_fit
 
   same : (pt p_plus : Float) (qs : List Float) → on (terms_on alpha payments accruals strike t pt p_plus qs) ≡ following (solve_of (swaption_objective quote alpha payments accruals strike t vol pt p_plus qs)) finishing_fit
   same pt p_plus qs = finished (swaption_ahead quote alpha strike t vol payments accruals pt p_plus qs) refl refl
 
-  pub off_curve : {q : Refusal} → r ≡ T.Refused q → refused q ≡ swaption_fitted quote alpha ts fs payments accruals strike t vol
+  pub off_curve : {q : Refusal} → r ≡ Err q → Err q ≡ swaption_fitted quote alpha ts fs payments accruals strike t vol
   unfolding swaption_fitted
   off_curve e = terms_refused alpha ts fs payments accruals strike t _ on same r cs bs ps is e
 
-  pub on_curve : {pt forward market : Float} {cs' bs' ps' : List Float} {o : Outcome Fit} → r ≡ T.Served pt forward → cs' ≡ cs → bs' ≡ bs → ps' ≡ ps → market ≡ swaption_market_price_of quote strike t vol accruals pt ps'
-      → o ≡ following (solve_of (objective_on alpha t (record { pt = pt; forward = forward; coefficients = cs'; bs = bs'; factors = ps' }) market)) finishing_fit → o ≡ swaption_fitted quote alpha ts fs payments accruals strike t vol
+  pub on_curve : {ahead : TermsAhead} {market : Float} {cs' bs' ps' : List Float} {o : Outcome Fit} → r ≡ Ok ahead → cs' ≡ cs → bs' ≡ bs → ps' ≡ ps → market ≡ swaption_market_price_of quote strike t vol accruals ahead.p_t ps'
+      → o ≡ following (solve_of (objective_on alpha t (record { pt = ahead.p_t; forward = ahead.forward; coefficients = cs'; bs = bs'; factors = ps' }) market)) finishing_fit → o ≡ swaption_fitted quote alpha ts fs payments accruals strike t vol
   unfolding swaption_fitted
   on_curve e c b p m h = h ∙ rw m (terms_served alpha ts fs payments accruals strike t _ on same r cs bs ps is e c b p)

@@ -6,7 +6,8 @@ use Rattle.ieee.specs.Numbers.{zero}
 use Rattle.refusals.specs.declared.curves.Faults.{Faults}
 use Rattle.refusals.specs.declared.checks.Test.TheVariants.{Above}
 use Rattle.refusals.specs.declared.refusals.Refusal.TheVariants as R
-use Rattle.refusals.specs.Refusals.{Outcome, Rule, rule, unless, following}
+use Rattle.refusals.specs.declared.refusals.Rule.{Rule}
+use Rattle.refusals.specs.Refusals.{Outcome, rule, unless, following}
 use Rattle.refusals.specs.Checks.{all_of}
 use Rattle.curve.specs.Lookups.{factor_at, needing}
 use Rattle.refusals.specs.Faults.{curve_faults, coupon_faults}

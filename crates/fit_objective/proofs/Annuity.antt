@@ -1,26 +1,34 @@
 -- The annuity, a coupon at a time, and the last of the factors. Assumes nothing.
 use mathlib.Core.Path.{◌≡◌, refl}
+use mathlib.Core.Logic.{◌⊎◌, inl, inr}
 use mathlib.Core.List.{List, [], ◌∷◌}
-use Prim.Native.Nat.{ℕ, zero, suc, ◌+◌, ◌-◌, ◌≤◌, ◌<◌}
-use native.Mathlib.Numerals.{add-one}
+use Prim.Native.Nat.{ℕ, zero, suc, ◌-◌, ◌<◌}
 use native.Mathlib.Omega.{arith}
-use lib.ListN.{length, drop, get_or, drop_of_length-le}
-use lib.Seq.{drop-cons}
+use lib.ListN.{length, get_or}
 use lib.Ieee.{Float, nan}
 use Rattle.ieee.specs.Rounded.{◌⊖◌, ◌⊗◌, ◌⊘◌}
+use Rattle.ieee.specs.Numbers as Numbers
 use Rattle.quotes.specs.Formulas.{annuity_step}
 use Rattle.fit_objective.specs.declared.market.VolatilityType.{VolatilityType}
 use Rattle.fit_objective.specs.Market.{vanilla_call_of, annuity_onto, annuity_of, last_of, swaption_market_price_of}
 
-module _ (accruals ps : List Float) (sum : Float) (i : ℕ) where
-  pub annuity_on : (next : Float) → i < length accruals → i < length ps → next ≡ annuity_step sum (get_or accruals i nan) (get_or ps i nan)
-      → annuity_onto next (drop (i + 1) accruals) (drop (i + 1) ps) ≡ annuity_onto sum (drop i accruals) (drop i ps)
-  unfolding annuity_onto
-  annuity_on next h k q = rw (add-one, drop-cons accruals i nan h, drop-cons ps i nan k, q)
+pub annuity_begins : {accruals ps xs ys : List Float} → xs ≡ accruals → ys ≡ ps → annuity_onto Numbers.zero xs ys ≡ annuity_of accruals ps
+unfolding annuity_of
+annuity_begins p q = rw (p, q)
 
-  pub annuity_done : length accruals ≤ i → sum ≡ annuity_onto sum (drop i accruals) (drop i ps)
-  unfolding annuity_onto
-  annuity_done h = rw (drop_of_length-le accruals h)
+pub annuity_on : (sum : Float) {next x y : Float} {xs xs' ys ys' : List Float} → xs ≡ x ∷ xs' → ys ≡ y ∷ ys' → next ≡ annuity_step sum x y → annuity_onto next xs' ys' ≡ annuity_onto sum xs ys
+unfolding annuity_onto
+annuity_on sum p q n = rw (p, q, n)
+
+no_factors : (sum : Float) (accruals : List Float) → sum ≡ annuity_onto sum accruals []
+unfolding annuity_onto
+no_factors sum [] = refl
+no_factors sum (x ∷ accruals) = refl
+
+pub annuity_done : (sum : Float) (xs ys : List Float) → (xs ≡ []) ⊎ (ys ≡ []) → sum ≡ annuity_onto sum xs ys
+unfolding annuity_onto
+annuity_done sum xs ys (inl e) = rw e
+annuity_done sum xs ys (inr e) = rw e (no_factors sum xs)
 
 last_at : (ps : List Float) (k : ℕ) → length ps ≡ suc k → get_or ps k nan ≡ last_of ps
 unfolding last_of

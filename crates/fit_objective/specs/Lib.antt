@@ -2,3 +2,4 @@
 pub mod Market
 pub mod Objective
 pub mod Ahead
+pub mod Asked

@@ -6,4 +6,4 @@ mod market;
 mod objective;
 
 pub use market::{Quote, VolatilityType, caplet_market_price, swaption_market_price};
-pub use objective::{CapletAhead, Instrument, residual};
+pub use objective::{CapletAhead, Instrument, Objective};

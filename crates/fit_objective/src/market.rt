@@ -45,10 +45,8 @@ fn annuity(accruals: &[f64], p: &[f64]) -> f64
     ensures { result ≡ annuity_of accruals.now p.now }
 {
     let mut sum = 0.0;
-    let mut i = 0;
-    while i < accruals.len() {
-        sum = quotes::annuity_step(sum, accruals[i], p[i]);
-        i += 1;
+    for (accrual, factor) in accruals.iter().zip(p) {
+        sum = quotes::annuity_step(sum, *accrual, *factor);
     }
     sum
 }

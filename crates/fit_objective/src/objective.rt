@@ -1,14 +1,11 @@
 // HwCalibrationObjective: the model price less the market price at a sigma, one function over the kind of
 // instrument. What does not depend on sigma is worked ahead, once a fit.
 ghost use Rattle.std.specs.Prelude.{◌≡◌, ◌≤◌, length};
-ghost use Rattle.refusals.specs.Refusals.{outcome_of};
 ghost use Rattle.math_bisection.specs.Solve.{residual_at};
-ghost use Rattle.fit_objective.specs.Objective.{value_alone};
-ghost use Rattle.fit_objective.specs.Ahead.{caplet_at, model_price_of, objective_of};
-ghost use Rattle.hullwhite_jamshidian.specs.Price.{swaption_outcome};
+ghost use Rattle.fit_objective.specs.Ahead.{caplet_at};
 
-use hullwhite_jamshidian::{Swaption, SwaptionAhead};
-use refusals::{Price, Refusal};
+use hullwhite_jamshidian::SwaptionAhead;
+use refusals::Refusal;
 
 // What no sigma changes of a caplet's price: B and the state's deviation of its start, what one unit grows to by
 // its strike, the strike of its bond put, and the factors at its start and end.
@@ -37,59 +34,56 @@ fn caplet_at(sigma: f64, ahead: CapletAhead) -> f64
     ahead.growth * put
 }
 
-// The model price at a sigma. The lists are a swaption's coefficients, B, curve's parts and factors; a caplet has
-// none. A caller that has worked them ahead has them of one length of at most 64.
-fn model_price(
-    instrument: Instrument,
-    c: &[f64],
-    b: &[f64],
-    curve_part: &[f64],
-    p: &[f64],
-    sigma: f64,
-) -> Price
-    requires { (length c.now ≤ 64) × (length b.now ≡ length c.now) × (length curve_part.now ≡ length c.now) × (length p.now ≡ length c.now) }
-    ensures { outcome_of result ≡ model_price_of instrument c.now b.now curve_part.now p.now sigma }
-{
-    match instrument {
-        Instrument::Caplet(ahead) => Price::Served(caplet_at(sigma, ahead)),
-        Instrument::Swaption(ahead) => value_of(hullwhite_jamshidian::price_at(
-            ahead, sigma, c, b, curve_part, p,
-        )),
-    }
+// What a fit asks for its residuals: an instrument, its market price, and the lists of a swaption's terms, which are
+// its coefficients, B, curve's parts and factors. A caplet has them empty.
+#[derive(Clone, Copy)]
+pub struct Objective<'a> {
+    pub instrument: Instrument,
+    pub market: f64,
+    pub c: &'a [f64],
+    pub b: &'a [f64],
+    pub curve_part: &'a [f64],
+    pub p: &'a [f64],
+    pub ghost lists_fit: { (length c.now ≤ 64) × (length b.now ≡ length c.now) × (length curve_part.now ≡ length c.now) × (length p.now ≡ length c.now) },
 }
 
-// A swaption's price without its root.
-fn value_of(swaption: Swaption) -> Price
-    ensures { outcome_of result ≡ value_alone (swaption_outcome swaption) }
-{
-    match swaption {
-        Swaption::Served(value, _) => Price::Served(value),
-        Swaption::Refused(refusal) => Price::Refused(refusal),
-    }
-}
+impl<'a> Objective<'a> {
+    ghost use Rattle.fit_objective.specs.Asked.{price_asked, objective_at};
 
-// The residual at a sigma, or why there is none: the model's refusal, or a NaN. A caller that fits has the
-// lists of one length of at most 64.
-pub fn residual(
-    instrument: Instrument,
-    market: f64,
-    c: &[f64],
-    b: &[f64],
-    curve_part: &[f64],
-    p: &[f64],
-    sigma: f64,
-) -> Price
-    requires { (length c.now ≤ 64) × (length b.now ≡ length c.now) × (length curve_part.now ≡ length c.now) × (length p.now ≡ length c.now) }
-    ensures { outcome_of result ≡ residual_at (objective_of instrument market c.now b.now curve_part.now p.now) sigma }
-{
-    let price = model_price(instrument, c, b, curve_part, p, sigma);
-    let Price::Served(model) = price else {
-        return price;
-    };
-    let value = model - market;
-    let is_nan = value != value;
-    if is_nan {
-        return Price::Refused(Refusal::NanReached);
+    // The model price at a sigma.
+    fn model_price(self, sigma: f64) -> Result<f64, Refusal>
+        ensures { result ≡ price_asked self.entry sigma }
+    {
+        match self.instrument {
+            Instrument::Caplet(ahead) => Ok(caplet_at(sigma, ahead)),
+            Instrument::Swaption(ahead) => {
+                let swaption = hullwhite_jamshidian::price_at(
+                    ahead,
+                    sigma,
+                    self.c,
+                    self.b,
+                    self.curve_part,
+                    self.p,
+                )?;
+                Ok(swaption.value)
+            }
+        }
     }
-    Price::Served(value)
+
+    // The residual at a sigma, or why there is none: the model's refusal, or a NaN.
+    pub fn residual(self, sigma: f64) -> Result<f64, Refusal>
+        ensures { result ≡ residual_at (objective_at self.entry) sigma }
+    {
+        let price = self.model_price(sigma);
+        let Ok(model) = price else {
+            return price;
+        };
+        let value = model - self.market;
+        let is_nan = value != value;
+        if is_nan {
+            Err(Refusal::NanReached)
+        } else {
+            Ok(value)
+        }
+    }
 }

@@ -1,19 +1,21 @@
 -- The same price on what no sigma changes, so that a fit works it once: the terms' coefficients, B, the curve's parts of ln A, and factors, share = 1 - exp(-2 × alpha × t), and deviation = √(share/(2 × alpha)). `price_ahead_lem`: it is `price_at`, bit for bit at every sigma.
-use Rattle.std.specs.Prelude.{◌≡◌, refl, List, [], ◌∷◌, Float}
+use Rattle.std.specs.Prelude.{◌≡◌, refl, List, [], ◌∷◌, Float, Ok}
 use Rattle.std.proofs.Common.{ap}
 use Rattle.std.proofs.Math.Path.{fun_ext}
 use Rattle.ieee.specs.Numbers.{zero}
 use Rattle.ieee.specs.Fused.{fused_of}
-use Rattle.refusals.specs.Refusals.{Outcome, served, following}
+use Rattle.refusals.specs.Refusals.{Outcome, following}
 use Rattle.hullwhite_formulas.specs.HullWhite.{forward_of, stationary_share_of, half_variance_of, state_deviation_of, zcb_price_of, zcb_price_volatility_at, zcb_price_volatility_ahead, bond_put_of}
 use Rattle.search_sum.specs.Sum.{coupon_sum}
 use Rattle.search.specs.Rate.{critical_of}
-use Rattle.search.specs.Values.{Values, critical_outcome}
+use Rattle.search.specs.declared.Root.{Root}
+use Rattle.search.specs.Values.{critical_outcome}
 use Rattle.hullwhite_terms.specs.Terms.{coefficients_of, bs_of, a_list_of, curve_parts_of, a_list_at, a_list_ahead}
 use Rattle.hullwhite_terms.specs.Swaption.{SwaptionTerms, terms_on}
 use Rattle.hullwhite_jamshidian.specs.declared.price.SwaptionAhead.{SwaptionAhead}
 use Rattle.hullwhite_jamshidian.specs.PricedSum.{model_sum_of}
-use Rattle.hullwhite_jamshidian.specs.Price.{ModelValued, put_of, puts_onto, puts_of, price_at}
+use Rattle.hullwhite_jamshidian.specs.declared.price.Swaption.{Swaption}
+use Rattle.hullwhite_jamshidian.specs.Price.{put_of, puts_onto, puts_of, price_at}
 
 -- at an option time t whose factor is pt
 abbrev pub ahead_of : Float → Float → Float → SwaptionAhead
@@ -34,13 +36,13 @@ unfoldable pub puts_ahead : SwaptionAhead → Float → Float → List Float →
 unfolding puts_ahead_onto
 puts_ahead ahead sigma r cs affs bs ps = puts_ahead_onto zero ahead sigma r cs affs bs ps
 
-unfoldable pub price_ahead : SwaptionAhead → Float → List Float → List Float → List Float → List Float → Outcome ModelValued
+unfoldable pub price_ahead : SwaptionAhead → Float → List Float → List Float → List Float → List Float → Outcome Swaption
 price_ahead ahead sigma cs bs curveParts ps =
     let affs = a_list_at (half_variance_of ahead.alpha sigma ahead.share) bs curveParts in
-    following (critical_outcome (critical_of (coupon_sum cs affs bs))) (λ root. served (record { value = puts_ahead ahead sigma root.rate cs affs bs ps; root = root }))
+    following (critical_outcome (critical_of (coupon_sum cs affs bs))) (λ root. Ok (record { value = puts_ahead ahead sigma root.rate cs affs bs ps; root = root }))
 
 -- on all the terms of a swaption
-abbrev pub price_on : Float → Float → SwaptionTerms → Float → Outcome ModelValued
+abbrev pub price_on : Float → Float → SwaptionTerms → Float → Outcome Swaption
 price_on alpha t w sigma = price_ahead (ahead_of alpha t w.pt) sigma w.coefficients w.bs (curve_parts_of w.forward w.pt w.bs w.factors) w.factors
 
 -- ---- the law
@@ -61,8 +63,8 @@ pub price_ahead_lem : (alpha : Float) (payments accruals : List Float) (strike t
     → price_on alpha t (terms_on alpha payments accruals strike t pt p_plus ps) sigma ≡ price_at alpha payments accruals strike t pt p_plus ps sigma
 unfolding price_ahead price_at
 price_ahead_lem alpha payments accruals strike t pt p_plus ps sigma =
-    let valued : Float → Values → Outcome ModelValued = λ v root. served (record { value = v; root = root }) in
+    let valued : Float → Root → Outcome Swaption = λ v root. Ok (record { value = v; root = root }) in
     rw (a_list_ahead alpha t sigma (forward_of pt p_plus) pt payments ps)
     (ap
     (following (critical_outcome (critical_of (model_sum_of alpha t payments accruals strike sigma pt p_plus ps))))
-    (fun_ext (λ (root : Values). ap (λ (v : Float). valued v root) (puts_ahead_lem alpha t sigma (forward_of pt p_plus) pt root.rate (coefficients_of strike accruals) payments ps))))
+    (fun_ext (λ (root : Root). ap (λ (v : Float). valued v root) (puts_ahead_lem alpha t sigma (forward_of pt p_plus) pt root.rate (coefficients_of strike accruals) payments ps))))

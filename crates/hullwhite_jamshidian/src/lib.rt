@@ -4,4 +4,4 @@
 
 mod price;
 
-pub use price::{Root, Swaption, SwaptionAhead, ahead_of, price_at};
+pub use price::{Swaption, SwaptionAhead, ahead_of, price_at};

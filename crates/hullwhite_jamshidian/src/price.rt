@@ -1,20 +1,9 @@
 // A swaption's price at a sigma, from terms that do not depend on sigma.
 ghost use Rattle.std.specs.Prelude.{◌≡◌, ◌≤◌, length};
-ghost use Rattle.hullwhite_jamshidian.specs.Price.{swaption_outcome};
 ghost use Rattle.hullwhite_jamshidian.specs.Ahead.{ahead_of, put_ahead, puts_ahead, price_ahead};
 
 use refusals::Refusal;
-use search::{Bracket, Critical};
-
-// Where a price's root lies: the critical rate, its final bracket, and the rungs the search left its
-// ladders at.
-#[derive(Clone, Copy)]
-pub struct Root {
-    pub rate: f64,
-    pub bracket: Bracket,
-    pub below: u64,
-    pub above: u64,
-}
+use search::Root;
 
 // What no sigma changes of a swaption's price, beside its lists of terms: alpha, and of the option time the
 // stationary share, the state's deviation and the factor.
@@ -26,10 +15,11 @@ pub struct SwaptionAhead {
     pub p_t: f64,
 }
 
-#[derive(Clone, Copy)]
-pub enum Swaption {
-    Served(f64, Root),
-    Refused(Refusal),
+// A swaption's price, and where its root lies.
+#[derive(Clone, Copy, Default)]
+pub struct Swaption {
+    pub value: f64,
+    pub root: Root,
 }
 
 // At an option time t whose factor is p_t.
@@ -73,11 +63,9 @@ fn puts(
     ensures { result ≡ puts_ahead ahead sigma rate c.now a.now b.now p.now }
 {
     let mut total = 0.0;
-    let mut i = 0;
-    while i < c.len() {
+    for i in 0..c.len() {
         let price = coupon_put(ahead, sigma, rate, a[i], b[i], p[i]);
         total = ieee::fused(c[i], price, total);
-        i += 1;
     }
     total
 }
@@ -91,35 +79,15 @@ pub fn price_at(
     b: &[f64],
     curve_part: &[f64],
     p: &[f64],
-) -> Swaption
+) -> Result<Swaption, Refusal>
     requires { (length c.now ≤ 64) × (length b.now ≡ length c.now) × (length curve_part.now ≡ length c.now) × (length p.now ≡ length c.now) }
-    ensures { swaption_outcome result ≡ price_ahead ahead sigma c.now b.now curve_part.now p.now }
+    ensures { result ≡ price_ahead ahead sigma c.now b.now curve_part.now p.now }
 {
     let n = c.len();
     let mut a = [0.0; 64];
     let half_variance = hullwhite_formulas::half_variance_of(ahead.alpha, sigma, ahead.share);
     hullwhite_terms::a_list_at(half_variance, b, curve_part, &mut a[..n]);
-    let found = hullwhite_terms::find_critical_rate_of(c, &a[..n], b);
-    if let Critical::NotANumber = found {
-        return Swaption::Refused(Refusal::NanReached);
-    }
-    let Critical::Found {
-        bracket,
-        below,
-        above,
-        rate,
-    } = found
-    else {
-        return Swaption::Refused(Refusal::NoBracket);
-    };
-    let value = puts(ahead, sigma, rate, c, &a[..n], b, p);
-    Swaption::Served(
-        value,
-        Root {
-            rate,
-            bracket,
-            below,
-            above,
-        },
-    )
+    let root = hullwhite_terms::find_critical_rate_of(c, &a[..n], b)?;
+    let value = puts(ahead, sigma, root.rate, c, &a[..n], b, p);
+    Ok(Swaption { value, root })
 }

@@ -1,12 +1,11 @@
 -- The formulas of hullwhitemodel.rs that are no kind, as calls: B, A, zcb_price, zcb_price_volatility, short_rate_variance, the forward rate and theta. "In the formulas `t` is an option time, `T` or `S` a bond time."
-use Rattle.std.specs.Prelude.{◌≡◌, cond, List, Float}
+use Rattle.std.specs.Prelude.{◌≡◌, cond, List, Float, Option}
 use Rattle.std.specs.Float.Ieee.{lt}
 use Rattle.ieee.specs.Rounded.{◌⊕◌, ◌⊖◌}
 use Rattle.ieee.specs.Numbers.{zero, two}
 use Rattle.ieee.specs.Fused.{fused_of}
 use Rattle.refusals.specs.Refusals.{Outcome, unless, finishing}
-use Rattle.curve.specs.Lookups.{found_of, factor_at, needing}
-use Rattle.curve.specs.declared.lookups.Found.{Found}
+use Rattle.curve.specs.Lookups.{factor_at, needing}
 use Rattle.refusals.specs.Faults.{curve_faults}
 use Rattle.hullwhite_formulas.specs.HullWhite.{h, b_of, forward_of, a_of, zcb_price_of, zcb_price_volatility_of, slope_of, theta_of, short_rate_variance_of}
 use Rattle.hullwhite_model.specs.Rules.{no_faults, forward_rules, theta_rules}
@@ -30,8 +29,8 @@ with_a alpha ts fs t T sigma b rest =
     rest (a_of alpha t sigma b (forward_of pt p_plus) pt p_t))))
 
 -- for the contract of the part that finds A: what it found goes on as that
-abbrev pub FoundA : Float → List Float → List Float → Float → Float → Float → Float → Found → Type 0
-FoundA alpha ts fs t T sigma b found = (rest : Float → Outcome Float) → needing (found_of found) rest ≡ with_a alpha ts fs t T sigma b rest
+abbrev pub FoundA : Float → List Float → List Float → Float → Float → Float → Float → Option Float → Type 0
+FoundA alpha ts fs t T sigma b found = (rest : Float → Outcome Float) → needing found rest ≡ with_a alpha ts fs t T sigma b rest
 
 unfoldable pub a_priced : Float → List Float → List Float → Float → Float → Float → Outcome Float
 a_priced alpha ts fs t T sigma = with_a alpha ts fs t T sigma (b_of alpha t T) finishing

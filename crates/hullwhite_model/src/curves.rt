@@ -2,66 +2,63 @@
 // What stands behind rule 4 has times that strictly rise, and looks its factors up by halves.
 ghost use Rattle.std.specs.Prelude.{◌≡◌, true};
 ghost use Rattle.refusals.specs.Checks.{in_order};
-ghost use Rattle.refusals.specs.Refusals.{Priced, outcome_of};
+ghost use Rattle.refusals.specs.Refusals.{Priced};
 ghost use Rattle.hullwhite_model.specs.Curves.{b_outcome, zcb_price_volatility_outcome, short_rate_variance_outcome, FoundA, a_priced, a_outcome, zcb_priced, zcb_outcome, forward_priced, forward_outcome, theta_priced, theta_from, theta_outcome};
 
 use super::rules;
-use curve::Found;
-use refusals::{Answer, Price, Refusal};
+use refusals::Refusal;
 
-pub fn B(alpha: f64, t: f64, bond: f64) -> Price
+pub fn B(alpha: f64, t: f64, bond: f64) -> Result<f64, Refusal>
     ensures { Priced result (b_outcome alpha t bond) }
 {
-    let answer = hullwhite_options::option_rules(rules::no_faults(), alpha, t, bond, 0.0, 0.0);
-    match answer {
-        Answer::Refused(refusal) => Price::Refused(refusal),
-        Answer::Served => refusals::served(hullwhite_formulas::b_of(alpha, t, bond)),
-    }
+    hullwhite_options::option_rules(rules::no_faults(), alpha, t, bond, 0.0, 0.0)?;
+    refusals::served(hullwhite_formulas::b_of(alpha, t, bond))
 }
 
-pub fn zcb_price_volatility(alpha: f64, sigma: f64, t: f64, bond: f64) -> Price
+pub fn zcb_price_volatility(alpha: f64, sigma: f64, t: f64, bond: f64) -> Result<f64, Refusal>
     ensures { Priced result (zcb_price_volatility_outcome alpha sigma t bond) }
 {
-    let answer = hullwhite_options::option_rules(rules::no_faults(), alpha, t, bond, sigma, 0.0);
-    match answer {
-        Answer::Refused(refusal) => Price::Refused(refusal),
-        Answer::Served => refusals::served(hullwhite_formulas::zcb_price_volatility_of(
-            alpha, sigma, t, bond,
-        )),
-    }
+    hullwhite_options::option_rules(rules::no_faults(), alpha, t, bond, sigma, 0.0)?;
+    refusals::served(hullwhite_formulas::zcb_price_volatility_of(alpha, sigma, t, bond))
 }
 
-pub fn short_rate_variance(alpha: f64, t: f64, bond: f64, sigma: f64) -> Price
+pub fn short_rate_variance(alpha: f64, t: f64, bond: f64, sigma: f64) -> Result<f64, Refusal>
     ensures { Priced result (short_rate_variance_outcome alpha t bond sigma) }
 {
-    let answer = hullwhite_options::option_rules(rules::no_faults(), alpha, t, bond, sigma, 0.0);
-    match answer {
-        Answer::Refused(refusal) => Price::Refused(refusal),
-        Answer::Served => refusals::served(hullwhite_formulas::short_rate_variance_of(
-            alpha, t, bond, sigma,
-        )),
-    }
+    hullwhite_options::option_rules(rules::no_faults(), alpha, t, bond, sigma, 0.0)?;
+    refusals::served(hullwhite_formulas::short_rate_variance_of(alpha, t, bond, sigma))
 }
 
-pub fn A(alpha: f64, times: &[f64], factors: &[f64], t: f64, bond: f64, sigma: f64) -> Price
+pub fn A(
+    alpha: f64,
+    times: &[f64],
+    factors: &[f64],
+    t: f64,
+    bond: f64,
+    sigma: f64,
+) -> Result<f64, Refusal>
     ensures { Priced result (a_outcome alpha times.now factors.now t bond sigma) }
 {
     let curve = refusals::curve_faults(times, factors);
-    let answer = hullwhite_options::option_rules(curve, alpha, t, bond, sigma, 0.0);
-    match answer {
-        Answer::Refused(refusal) => Price::Refused(refusal),
-        Answer::Served => a_priced(alpha, times, factors, t, bond, sigma),
-    }
+    hullwhite_options::option_rules(curve, alpha, t, bond, sigma, 0.0)?;
+    a_priced(alpha, times, factors, t, bond, sigma)
 }
 
 // A behind its rules: a caller that has asked them has a curve whose times strictly rise.
-fn a_priced(alpha: f64, times: &[f64], factors: &[f64], t: f64, bond: f64, sigma: f64) -> Price
+fn a_priced(
+    alpha: f64,
+    times: &[f64],
+    factors: &[f64],
+    t: f64,
+    bond: f64,
+    sigma: f64,
+) -> Result<f64, Refusal>
     requires { in_order true times.now ≡ true }
-    ensures { outcome_of result ≡ a_priced alpha times.now factors.now t bond sigma }
+    ensures { result ≡ a_priced alpha times.now factors.now t bond sigma }
 {
     let b = hullwhite_formulas::b_of(alpha, t, bond);
-    let Found::At(a) = a_found(alpha, times, factors, t, bond, sigma, b) else {
-        return Price::Refused(Refusal::OffCurve);
+    let Some(a) = a_found(alpha, times, factors, t, bond, sigma, b) else {
+        return Err(Refusal::OffCurve);
     };
     refusals::served(a)
 }
@@ -76,21 +73,15 @@ fn a_found(
     bond: f64,
     sigma: f64,
     b: f64,
-) -> Found
+) -> Option<f64>
     requires { in_order true times.now ≡ true }
     ensures { FoundA alpha times.now factors.now t bond sigma b result }
 {
-    let Found::At(p_t) = curve::factor(times, factors, t) else {
-        return Found::Missing;
-    };
-    let Found::At(p_bond) = curve::factor(times, factors, bond) else {
-        return Found::Missing;
-    };
-    let Found::At(p_plus) = curve::factor(times, factors, t + hullwhite_formulas::day()) else {
-        return Found::Missing;
-    };
+    let p_t = curve::factor(times, factors, t)?;
+    let p_bond = curve::factor(times, factors, bond)?;
+    let p_plus = curve::factor(times, factors, t + hullwhite_formulas::day())?;
     let forward = hullwhite_formulas::forward_of(p_t, p_plus);
-    Found::At(hullwhite_formulas::a_of(alpha, t, sigma, b, forward, p_t, p_bond))
+    Some(hullwhite_formulas::a_of(alpha, t, sigma, b, forward, p_t, p_bond))
 }
 
 pub fn zcb_price(
@@ -101,15 +92,12 @@ pub fn zcb_price(
     t: f64,
     bond: f64,
     sigma: f64,
-) -> Price
+) -> Result<f64, Refusal>
     ensures { Priced result (zcb_outcome alpha times.now factors.now rate t bond sigma) }
 {
     let curve = refusals::curve_faults(times, factors);
-    let answer = hullwhite_options::option_rules(curve, alpha, t, bond, sigma, rate);
-    match answer {
-        Answer::Refused(refusal) => Price::Refused(refusal),
-        Answer::Served => zcb_priced(alpha, times, factors, rate, t, bond, sigma),
-    }
+    hullwhite_options::option_rules(curve, alpha, t, bond, sigma, rate)?;
+    zcb_priced(alpha, times, factors, rate, t, bond, sigma)
 }
 
 // The bond's price behind its rules: a caller that has asked them has a curve whose times strictly rise.
@@ -121,63 +109,63 @@ fn zcb_priced(
     t: f64,
     bond: f64,
     sigma: f64,
-) -> Price
+) -> Result<f64, Refusal>
     requires { in_order true times.now ≡ true }
-    ensures { outcome_of result ≡ zcb_priced alpha times.now factors.now rate t bond sigma }
+    ensures { result ≡ zcb_priced alpha times.now factors.now rate t bond sigma }
 {
     let b = hullwhite_formulas::b_of(alpha, t, bond);
-    let Found::At(a) = a_found(alpha, times, factors, t, bond, sigma, b) else {
-        return Price::Refused(Refusal::OffCurve);
+    let Some(a) = a_found(alpha, times, factors, t, bond, sigma, b) else {
+        return Err(Refusal::OffCurve);
     };
     refusals::served(hullwhite_formulas::zcb_price_of(a, b, rate))
 }
 
-pub fn forward_rate_from_curve(times: &[f64], factors: &[f64], t: f64) -> Price
+pub fn forward_rate_from_curve(times: &[f64], factors: &[f64], t: f64) -> Result<f64, Refusal>
     ensures { Priced result (forward_outcome times.now factors.now t) }
 {
     let curve = refusals::curve_faults(times, factors);
-    let answer = rules::forward_rules(curve, t);
-    match answer {
-        Answer::Refused(refusal) => Price::Refused(refusal),
-        Answer::Served => forward_priced(times, factors, t),
-    }
+    rules::forward_rules(curve, t)?;
+    forward_priced(times, factors, t)
 }
 
 // The forward rate behind its rules: a caller that has asked them has a curve whose times strictly rise.
-fn forward_priced(times: &[f64], factors: &[f64], t: f64) -> Price
+fn forward_priced(times: &[f64], factors: &[f64], t: f64) -> Result<f64, Refusal>
     requires { in_order true times.now ≡ true }
-    ensures { outcome_of result ≡ forward_priced times.now factors.now t }
+    ensures { result ≡ forward_priced times.now factors.now t }
 {
-    let Found::At(p) = curve::factor(times, factors, t) else {
-        return Price::Refused(Refusal::OffCurve);
+    let Some(p) = curve::factor(times, factors, t) else {
+        return Err(Refusal::OffCurve);
     };
-    let Found::At(p_plus) = curve::factor(times, factors, t + hullwhite_formulas::day()) else {
-        return Price::Refused(Refusal::OffCurve);
+    let Some(p_plus) = curve::factor(times, factors, t + hullwhite_formulas::day()) else {
+        return Err(Refusal::OffCurve);
     };
     refusals::served(hullwhite_formulas::forward_of(p, p_plus))
 }
 
-pub fn theta(alpha: f64, times: &[f64], factors: &[f64], t: f64, sigma: f64) -> Price
+pub fn theta(alpha: f64, times: &[f64], factors: &[f64], t: f64, sigma: f64) -> Result<f64, Refusal>
     ensures { Priced result (theta_outcome alpha times.now factors.now t sigma) }
 {
     let curve = refusals::curve_faults(times, factors);
-    let answer = rules::theta_rules(curve, alpha, t, sigma);
-    match answer {
-        Answer::Refused(refusal) => Price::Refused(refusal),
-        Answer::Served => theta_priced(alpha, times, factors, t, sigma),
-    }
+    rules::theta_rules(curve, alpha, t, sigma)?;
+    theta_priced(alpha, times, factors, t, sigma)
 }
 
 // The drift behind its rules: a caller that has asked them has a curve whose times strictly rise.
-fn theta_priced(alpha: f64, times: &[f64], factors: &[f64], t: f64, sigma: f64) -> Price
+fn theta_priced(
+    alpha: f64,
+    times: &[f64],
+    factors: &[f64],
+    t: f64,
+    sigma: f64,
+) -> Result<f64, Refusal>
     requires { in_order true times.now ≡ true }
-    ensures { outcome_of result ≡ theta_priced alpha times.now factors.now t sigma }
+    ensures { result ≡ theta_priced alpha times.now factors.now t sigma }
 {
-    let Found::At(p) = curve::factor(times, factors, t) else {
-        return Price::Refused(Refusal::OffCurve);
+    let Some(p) = curve::factor(times, factors, t) else {
+        return Err(Refusal::OffCurve);
     };
-    let Found::At(p_plus) = curve::factor(times, factors, t + hullwhite_formulas::day()) else {
-        return Price::Refused(Refusal::OffCurve);
+    let Some(p_plus) = curve::factor(times, factors, t + hullwhite_formulas::day()) else {
+        return Err(Refusal::OffCurve);
     };
     theta_from(alpha, times, factors, t, sigma, p, p_plus)
 }
@@ -192,15 +180,15 @@ fn theta_from(
     sigma: f64,
     p: f64,
     p_plus: f64,
-) -> Price
+) -> Result<f64, Refusal>
     requires { in_order true times.now ≡ true }
-    ensures { outcome_of result ≡ theta_from alpha times.now factors.now t sigma p p_plus }
+    ensures { result ≡ theta_from alpha times.now factors.now t sigma p p_plus }
 {
     let h = hullwhite_formulas::day();
     let forward = hullwhite_formulas::forward_of(p, p_plus);
     if t > h {
-        let Found::At(p_minus) = curve::factor(times, factors, t - h) else {
-            return Price::Refused(Refusal::OffCurve);
+        let Some(p_minus) = curve::factor(times, factors, t - h) else {
+            return Err(Refusal::OffCurve);
         };
         let slope = hullwhite_formulas::forward_slope_of(
             forward,
@@ -208,8 +196,8 @@ fn theta_from(
         );
         refusals::served(hullwhite_formulas::theta_of(alpha, t, sigma, forward, slope))
     } else {
-        let Found::At(p_plus2) = curve::factor(times, factors, ieee::fused(2.0, h, t)) else {
-            return Price::Refused(Refusal::OffCurve);
+        let Some(p_plus2) = curve::factor(times, factors, ieee::fused(2.0, h, t)) else {
+            return Err(Refusal::OffCurve);
         };
         let slope = hullwhite_formulas::forward_slope_of(
             hullwhite_formulas::forward_of(p_plus, p_plus2),

@@ -3,7 +3,7 @@ ghost use Rattle.std.specs.Prelude.{◌≡◌};
 ghost use Rattle.refusals.specs.Refusals.{first_of};
 ghost use Rattle.hullwhite_model.specs.Rules.{no_faults, theta_rules, forward_rules};
 
-use refusals::{Answer, Faults, Refusal};
+use refusals::{Faults, Refusal};
 
 // The faults of a list that the call does not use.
 pub fn no_faults() -> Faults
@@ -17,27 +17,31 @@ pub fn no_faults() -> Faults
     }
 }
 
-pub fn theta_rules(curve: Faults, alpha: f64, t: f64, sigma: f64) -> Answer
+pub fn theta_rules(curve: Faults, alpha: f64, t: f64, sigma: f64) -> Result<(), Refusal>
     ensures { result ≡ first_of (theta_rules curve alpha t sigma) }
 {
     let finite = math_elementary::is_finite(alpha)
         & math_elementary::is_finite(t)
         & math_elementary::is_finite(sigma);
-    let mut answer = refusals::and_rule(Answer::Served, Refusal::Size, curve.size);
-    answer = refusals::and_rule(answer, Refusal::NotFinite, curve.not_finite | !finite);
-    answer = refusals::and_rule(answer, Refusal::MeanReversion, alpha <= 0.0);
-    answer = refusals::and_rule(answer, Refusal::Order, curve.order);
-    answer = refusals::and_rule(answer, Refusal::Times, t < 0.0);
-    refusals::and_rule(answer, Refusal::Domain, (sigma < 0.0) | curve.domain)
+    refusals::first_of(&[
+        Refusal::Size.when(curve.size),
+        Refusal::NotFinite.when(curve.not_finite | !finite),
+        Refusal::MeanReversion.when(alpha <= 0.0),
+        Refusal::Order.when(curve.order),
+        Refusal::Times.when(t < 0.0),
+        Refusal::Domain.when((sigma < 0.0) | curve.domain),
+    ])
 }
 
-pub fn forward_rules(curve: Faults, t: f64) -> Answer
+pub fn forward_rules(curve: Faults, t: f64) -> Result<(), Refusal>
     ensures { result ≡ first_of (forward_rules curve t) }
 {
     let finite = math_elementary::is_finite(t);
-    let mut answer = refusals::and_rule(Answer::Served, Refusal::Size, curve.size);
-    answer = refusals::and_rule(answer, Refusal::NotFinite, curve.not_finite | !finite);
-    answer = refusals::and_rule(answer, Refusal::Order, curve.order);
-    answer = refusals::and_rule(answer, Refusal::Times, t < 0.0);
-    refusals::and_rule(answer, Refusal::Domain, curve.domain)
+    refusals::first_of(&[
+        Refusal::Size.when(curve.size),
+        Refusal::NotFinite.when(curve.not_finite | !finite),
+        Refusal::Order.when(curve.order),
+        Refusal::Times.when(t < 0.0),
+        Refusal::Domain.when(curve.domain),
+    ])
 }

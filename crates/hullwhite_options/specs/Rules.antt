@@ -5,7 +5,8 @@ use Rattle.std.specs.Float.Ieee.Scale.{finite}
 use Rattle.ieee.specs.Numbers.{zero}
 use Rattle.refusals.specs.declared.curves.Faults.{Faults}
 use Rattle.refusals.specs.declared.refusals.Refusal.TheVariants as R
-use Rattle.refusals.specs.Refusals.{Rule, rule}
+use Rattle.refusals.specs.declared.refusals.Rule.{Rule}
+use Rattle.refusals.specs.Refusals.{rule}
 
 -- a call with an option time t and a bond or end time T. `other` is a further number that the call uses, 0 where there is none
 abbrev pub option_rules : Faults → Float → Float → Float → Float → Float → List Rule

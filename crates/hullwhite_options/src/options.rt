@@ -1,16 +1,15 @@
 // hullwhitemodel.rs: caplets, floorlets, bond puts and bond calls (kinds 1 to 4).
 // What stands behind rule 4 has times that strictly rise, and looks its factors up by halves.
-ghost use Rattle.std.specs.Prelude.{◌≡◌, true};
+ghost use Rattle.std.specs.Prelude.{◌≡◌, true, Option};
 ghost use Rattle.refusals.specs.Checks.{in_order};
-ghost use Rattle.refusals.specs.Refusals.{Priced, outcome_of};
+ghost use Rattle.refusals.specs.Refusals.{Priced};
 ghost use Rattle.refusals.specs.Faults.{curve_faults};
 ghost use Rattle.hullwhite_options.specs.Options.{bond_option_at, bond_option_priced, optionlet_priced, bond_option_outcome, optionlet_outcome};
 ghost use Rattle.hullwhite_options.specs.declared.options.OptionType.TheVariants as Option;
 
 use super::rules;
-use curve::Found;
 use hullwhite_formulas::Optionlet;
-use refusals::{Answer, Faults, Price, Refusal};
+use refusals::{Faults, Refusal};
 
 #[derive(Clone, Copy)]
 pub enum OptionType {
@@ -33,7 +32,7 @@ pub fn caplet_price(
     factors: &[f64],
     caplet: Optionlet,
     sigma: f64,
-) -> Price
+) -> Result<f64, Refusal>
     ensures { Priced result (optionlet_outcome Option.Put alpha times.now factors.now caplet.strike caplet.start caplet.end sigma) }
 {
     let curve = refusals::curve_faults(times, factors);
@@ -47,7 +46,7 @@ pub fn floorlet_price(
     factors: &[f64],
     floorlet: Optionlet,
     sigma: f64,
-) -> Price
+) -> Result<f64, Refusal>
     ensures { Priced result (optionlet_outcome Option.Call alpha times.now factors.now floorlet.strike floorlet.start floorlet.end sigma) }
 {
     let curve = refusals::curve_faults(times, factors);
@@ -69,7 +68,7 @@ pub fn bond_put_price(
     factors: &[f64],
     put: BondOption,
     sigma: f64,
-) -> Price
+) -> Result<f64, Refusal>
     ensures { Priced result (bond_option_outcome Option.Put alpha times.now factors.now put.t put.bond put.strike sigma) }
 {
     let curve = refusals::curve_faults(times, factors);
@@ -83,7 +82,7 @@ pub fn bond_call_price(
     factors: &[f64],
     call: BondOption,
     sigma: f64,
-) -> Price
+) -> Result<f64, Refusal>
     ensures { Priced result (bond_option_outcome Option.Call alpha times.now factors.now call.t call.bond call.strike sigma) }
 {
     let curve = refusals::curve_faults(times, factors);
@@ -100,22 +99,19 @@ pub fn bond_option_on(
     factors: &[f64],
     bond_option: BondOption,
     sigma: f64,
-) -> Price
+) -> Result<f64, Refusal>
     requires { curve ≡ curve_faults times.now factors.now }
     ensures { Priced result (bond_option_outcome option alpha times.now factors.now bond_option.t bond_option.bond bond_option.strike sigma) }
 {
-    let answer = rules::option_rules(
+    rules::option_rules(
         curve,
         alpha,
         bond_option.t,
         bond_option.bond,
         sigma,
         bond_option.strike,
-    );
-    match answer {
-        Answer::Refused(refusal) => Price::Refused(refusal),
-        Answer::Served => { bond_option_priced(option, alpha, times, factors, bond_option, sigma) }
-    }
+    )?;
+    bond_option_priced(option, alpha, times, factors, bond_option, sigma)
 }
 
 // The same of a caplet or a floorlet; a caller has worked the faults too.
@@ -127,22 +123,19 @@ pub fn optionlet_on(
     factors: &[f64],
     optionlet: Optionlet,
     sigma: f64,
-) -> Price
+) -> Result<f64, Refusal>
     requires { curve ≡ curve_faults times.now factors.now }
     ensures { Priced result (optionlet_outcome option alpha times.now factors.now optionlet.strike optionlet.start optionlet.end sigma) }
 {
-    let answer = rules::option_rules(
+    rules::option_rules(
         curve,
         alpha,
         optionlet.start,
         optionlet.end,
         sigma,
         optionlet.strike,
-    );
-    match answer {
-        Answer::Refused(refusal) => Price::Refused(refusal),
-        Answer::Served => { optionlet_priced(option, alpha, times, factors, optionlet, sigma) }
-    }
+    )?;
+    optionlet_priced(option, alpha, times, factors, optionlet, sigma)
 }
 
 // A price behind the rules: a caller that has asked them has a curve whose times strictly rise. The exps need
@@ -155,16 +148,16 @@ fn bond_option_priced(
     factors: &[f64],
     bond_option: BondOption,
     sigma: f64,
-) -> Price
+) -> Result<f64, Refusal>
     requires { in_order true times.now ≡ true }
-    ensures { outcome_of result ≡ bond_option_priced option alpha times.now factors.now bond_option.t bond_option.bond bond_option.strike sigma }
+    ensures { result ≡ bond_option_priced option alpha times.now factors.now bond_option.t bond_option.bond bond_option.strike sigma }
 {
     let parts = hullwhite_formulas::volatility_parts(alpha, bond_option.t, bond_option.bond);
-    let Found::At(p_t) = curve::factor(times, factors, bond_option.t) else {
-        return Price::Refused(Refusal::OffCurve);
+    let Some(p_t) = curve::factor(times, factors, bond_option.t) else {
+        return Err(Refusal::OffCurve);
     };
-    let Found::At(p_bond) = curve::factor(times, factors, bond_option.bond) else {
-        return Price::Refused(Refusal::OffCurve);
+    let Some(p_bond) = curve::factor(times, factors, bond_option.bond) else {
+        return Err(Refusal::OffCurve);
     };
     let strike_value = bond_option.strike * p_t;
     let moneyness = hullwhite_formulas::moneyness_of(p_bond, strike_value);
@@ -184,16 +177,16 @@ fn optionlet_priced(
     factors: &[f64],
     optionlet: Optionlet,
     sigma: f64,
-) -> Price
+) -> Result<f64, Refusal>
     requires { in_order true times.now ≡ true }
-    ensures { outcome_of result ≡ optionlet_priced option alpha times.now factors.now optionlet.strike optionlet.start optionlet.end sigma }
+    ensures { result ≡ optionlet_priced option alpha times.now factors.now optionlet.strike optionlet.start optionlet.end sigma }
 {
     let parts = hullwhite_formulas::volatility_parts(alpha, optionlet.start, optionlet.end);
-    let Found::At(p_t) = curve::factor(times, factors, optionlet.start) else {
-        return Price::Refused(Refusal::OffCurve);
+    let Some(p_t) = curve::factor(times, factors, optionlet.start) else {
+        return Err(Refusal::OffCurve);
     };
-    let Found::At(p_end) = curve::factor(times, factors, optionlet.end) else {
-        return Price::Refused(Refusal::OffCurve);
+    let Some(p_end) = curve::factor(times, factors, optionlet.end) else {
+        return Err(Refusal::OffCurve);
     };
     let growth = hullwhite_formulas::growth_of(optionlet.end - optionlet.start, optionlet.strike);
     let strike_value = 1.0 / growth * p_t;

@@ -3,11 +3,18 @@ ghost use Rattle.std.specs.Prelude.{◌≡◌};
 ghost use Rattle.refusals.specs.Refusals.{first_of};
 ghost use Rattle.hullwhite_options.specs.Rules.{option_rules};
 
-use refusals::{Answer, Faults, Refusal};
+use refusals::{Faults, Refusal};
 
 // Calls with an option time t and a bond or end time; `other` is a further number that the call uses, 0
 // where there is none.
-pub fn option_rules(curve: Faults, alpha: f64, t: f64, end: f64, sigma: f64, other: f64) -> Answer
+pub fn option_rules(
+    curve: Faults,
+    alpha: f64,
+    t: f64,
+    end: f64,
+    sigma: f64,
+    other: f64,
+) -> Result<(), Refusal>
     ensures { result ≡ first_of (option_rules curve alpha t end sigma other) }
 {
     let finite = math_elementary::is_finite(alpha)
@@ -15,10 +22,12 @@ pub fn option_rules(curve: Faults, alpha: f64, t: f64, end: f64, sigma: f64, oth
         & math_elementary::is_finite(end)
         & math_elementary::is_finite(sigma)
         & math_elementary::is_finite(other);
-    let mut answer = refusals::and_rule(Answer::Served, Refusal::Size, curve.size);
-    answer = refusals::and_rule(answer, Refusal::NotFinite, curve.not_finite | !finite);
-    answer = refusals::and_rule(answer, Refusal::MeanReversion, alpha <= 0.0);
-    answer = refusals::and_rule(answer, Refusal::Order, curve.order);
-    answer = refusals::and_rule(answer, Refusal::Times, (t < 0.0) | (end <= t));
-    refusals::and_rule(answer, Refusal::Domain, (sigma < 0.0) | curve.domain)
+    refusals::first_of(&[
+        Refusal::Size.when(curve.size),
+        Refusal::NotFinite.when(curve.not_finite | !finite),
+        Refusal::MeanReversion.when(alpha <= 0.0),
+        Refusal::Order.when(curve.order),
+        Refusal::Times.when((t < 0.0) | (end <= t)),
+        Refusal::Domain.when((sigma < 0.0) | curve.domain),
+    ])
 }

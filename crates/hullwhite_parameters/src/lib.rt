@@ -7,7 +7,6 @@ mod rules;
 mod variance;
 
 pub use parameters::{
-    Reached, hull_white_piecewise_variance, pillars_reached, reached_answer, reached_part,
-    volatility,
+    hull_white_piecewise_variance, pillars_reached, reached_answer, reached_part, volatility,
 };
 pub use variance::hull_white_piecewise_variance_of;

@@ -14,15 +14,10 @@ pub fn hull_white_piecewise_variance_of(
     ensures { result ≡ piecewise_variance_of alpha times.now sigmas.now start end }
 {
     let mut variance = 0.0;
-    let mut i = 0;
-    while i < times.len() {
-        if sigmas.len() <= i {
-            return variance;
-        }
-        let lower = piece_lower(i == 0, start, times[i]);
+    for (i, (time, sigma)) in times.iter().zip(sigmas).enumerate() {
+        let lower = piece_lower(i == 0, start, *time);
         let upper = piece_upper(times, i + 1, end);
-        variance = piece(alpha, end, lower, upper, sigmas[i], variance);
-        i += 1;
+        variance = piece(alpha, end, lower, upper, *sigma, variance);
     }
     variance
 }

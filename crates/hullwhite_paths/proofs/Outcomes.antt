@@ -1,4 +1,5 @@
 -- What a path that its rules let through knows: its lengths, and that the times of its pillars and of its curve rise. Assumes nothing.
+use Rattle.std.specs.Prelude.{Ok, Err}
 use mathlib.Core.Path.{◌≡◌, refl, sym, ◌∙◌}
 use mathlib.Core.Bool.{Bool, true, false, not, ◌||◌}
 use mathlib.Core.List.{List}
@@ -10,9 +11,7 @@ use lib.ListN.{length}
 use lib.Ieee.{Float}
 use Rattle.refusals.specs.declared.curves.Faults.{Faults}
 use Rattle.refusals.specs.declared.refusals.Refusal.{Refusal}
-use Rattle.refusals.specs.declared.refusals.Answer.{Answer}
-use Rattle.refusals.specs.declared.refusals.Answer.TheVariants as A
-use Rattle.refusals.specs.Refusals.{Outcome, served, refused, answer_of, first_of}
+use Rattle.refusals.specs.Refusals.{Outcome, answer_of, first_of, Answer}
 use Rattle.refusals.specs.Order.{none_applies}
 use Rattle.refusals.specs.Checks.{in_order}
 use Rattle.refusals.specs.Faults.{curve_faults, pillar_faults, grid_faults, seeded_grid_faults}
@@ -23,19 +22,14 @@ use Rattle.hullwhite_paths.specs.Generate.{path_rules}
 use Rattle.hullwhite_paths.specs.Seeded.{seeded_rules}
 
 -- ---- a path's rules on the faults as they were worked
-pub rules_of : {schedule schedule' curve curve' points points' : Faults} (empty : Bool) {several several' below below' : Bool} (short : Bool) (alpha : Float) {answer : Answer}
-    → schedule ≡ schedule' → curve ≡ curve' → points ≡ points' → several ≡ several' → below ≡ below'
-    → answer ≡ first_of (path_rules schedule curve points empty several below short alpha) → answer ≡ first_of (path_rules schedule' curve' points' empty several' below' short alpha)
-rules_of empty short alpha p q r s t h = rw (← p, ← q, ← r, ← s, ← t) h
-
-pub seeded_rules_of : {schedule schedule' curve curve' points points' : Faults} (zero_seed empty : Bool) {several several' below below' : Bool} (short : Bool) (alpha : Float) {answer : Answer}
-    → schedule ≡ schedule' → curve ≡ curve' → points ≡ points' → several ≡ several' → below ≡ below'
-    → answer ≡ first_of (seeded_rules schedule curve points zero_seed empty several below short alpha) → answer ≡ first_of (seeded_rules schedule' curve' points' zero_seed empty several' below' short alpha)
-seeded_rules_of zero_seed empty short alpha p q r s t h = rw (← p, ← q, ← r, ← s, ← t) h
+pub seeded_rules_of : {schedule schedule' curve curve' points points' : Faults} (zero_seed empty several below short : Bool) (alpha : Float) {answer : Answer}
+    → schedule ≡ schedule' → curve ≡ curve' → points ≡ points'
+    → answer ≡ first_of (seeded_rules schedule curve points zero_seed empty several below short alpha) → answer ≡ first_of (seeded_rules schedule' curve' points' zero_seed empty several below short alpha)
+seeded_rules_of zero_seed empty several below short alpha p q r h = rw (← p, ← q, ← r) h
 
 -- ---- rules 1 and 4 did not apply, whatever gives the draws
 pub behind : (ps ss ts fs grid : List Float) (points : Faults) (empty several below : Bool) (room : ℕ) (alpha : Float)
-    → first_of (path_rules (pillar_faults ps ss) (curve_faults ts fs) points empty several below (ltb room (length grid)) alpha) ≡ A.Served
+    → first_of (path_rules (pillar_faults ps ss) (curve_faults ts fs) points empty several below (ltb room (length grid)) alpha) ≡ Ok tt
     → (points.size ≡ false) × (in_order true ts ≡ true) × (in_order true ps ≡ true) × (length grid ≤ room)
 behind ps ss ts fs grid points empty several below room alpha e =
     let schedule = pillar_faults ps ss in
@@ -56,7 +50,7 @@ pub seeded_sized : (grid : List Float) → (seeded_grid_faults grid).size ≡ fa
 seeded_sized grid e = ltb-false 1024 (length grid) e
 
 pub grid_fits : (ps ss ts fs grid draws : List Float) (empty several below : Bool) (room : ℕ) (alpha : Float) {answer : Answer}
-    → answer ≡ A.Served → answer ≡ first_of (path_rules (pillar_faults ps ss) (curve_faults ts fs) (grid_faults grid draws) empty several below (ltb room (length grid)) alpha)
+    → answer ≡ Ok tt → answer ≡ first_of (path_rules (pillar_faults ps ss) (curve_faults ts fs) (grid_faults grid draws) empty several below (ltb room (length grid)) alpha)
     → (length grid ≤ 1024) × (length draws ≡ length grid) × (in_order true ts ≡ true) × (in_order true ps ≡ true) × (length grid ≤ room)
 grid_fits ps ss ts fs grid draws empty several below room alpha e h =
     let b = behind ps ss ts fs grid (grid_faults grid draws) empty several below room alpha (sym h ∙ e) in
@@ -69,26 +63,33 @@ pub same_rules : (schedule curve points : Faults) (empty several below short : B
 unfolding first_of
 same_rules schedule curve points empty several below short alpha = refl
 
+-- what the code asks of listed draws, on the faults as they were worked
+pub listed_rules_of : {schedule schedule' curve curve' points points' : Faults} (empty several below short : Bool) (alpha : Float) {answer : Answer}
+    → schedule ≡ schedule' → curve ≡ curve' → points ≡ points'
+    → answer ≡ first_of (seeded_rules schedule curve points false empty several below short alpha) → answer ≡ first_of (path_rules schedule' curve' points' empty several below short alpha)
+unfolding first_of
+listed_rules_of empty several below short alpha p q r h = rw (← p, ← q, ← r) h
+
 pub unseeded : (schedule curve points : Faults) (zero_seed empty several below short : Bool) (alpha : Float)
-    → first_of (seeded_rules schedule curve points zero_seed empty several below short alpha) ≡ A.Served → first_of (path_rules schedule curve points empty several below short alpha) ≡ A.Served
+    → first_of (seeded_rules schedule curve points zero_seed empty several below short alpha) ≡ Ok tt → first_of (path_rules schedule curve points empty several below short alpha) ≡ Ok tt
 unseeded schedule curve points zero_seed empty several below short alpha e =
     let n = (none_applies (seeded_rules schedule curve points zero_seed empty several below short alpha)).0 e in
     (none_applies (path_rules schedule curve points empty several below short alpha)).1 (n.0, (n.1.0, (n.1.1.0, (n.1.1.1.0, (n.1.1.1.1.0, (n.1.1.1.1.1.0, n.1.1.1.1.1.1.1))))))
 
 pub seeded_fits : (ps ss ts fs grid : List Float) {schedule curve points : Faults} (zero_seed empty several below : Bool) (room : ℕ) (alpha : Float) {answer : Answer}
     → schedule ≡ pillar_faults ps ss → curve ≡ curve_faults ts fs → points ≡ seeded_grid_faults grid
-    → answer ≡ A.Served → answer ≡ first_of (seeded_rules schedule curve points zero_seed empty several below (ltb room (length grid)) alpha)
+    → answer ≡ Ok tt → answer ≡ first_of (seeded_rules schedule curve points zero_seed empty several below (ltb room (length grid)) alpha)
     → (length grid ≤ 1024) × (in_order true ts ≡ true) × (in_order true ps ≡ true) × (length grid ≤ room)
 seeded_fits ps ss ts fs grid zero_seed empty several below room alpha p q r e h =
-    let rules = seeded_rules_of zero_seed empty (ltb room (length grid)) alpha p q r refl refl h in
+    let rules = seeded_rules_of zero_seed empty several below (ltb room (length grid)) alpha p q r h in
     let b = behind ps ss ts fs grid (seeded_grid_faults grid) empty several below room alpha (unseeded (pillar_faults ps ss) (curve_faults ts fs) (seeded_grid_faults grid) zero_seed empty several below (ltb room (length grid)) alpha (sym rules ∙ e)) in
     (seeded_sized grid b.0, b.1, b.2, b.3)
 
 -- ---- the state that is told beside what a path came to
-pub not_reached : (o : Outcome (List Float)) (state : ℕ) {answer : Answer} {r : Refusal} → answer ≡ A.Refused r → answer ≡ answer_of o → refused r ≡ reaching o state
-not_reached (served xs) state e h = absurd (let z : ◌≡◌ {A = ℕ} 0 1 = cc in omega arith)
-not_reached (refused q) state e h = cc
+pub not_reached : (o : Outcome (List Float)) (state : ℕ) {answer : Answer} {r : Refusal} → answer ≡ Err r → answer ≡ answer_of o → Err r ≡ reaching o state
+not_reached (Ok xs) state e h = absurd (let z : ◌≡◌ {A = ℕ} 0 1 = cc in omega arith)
+not_reached (Err q) state e h = cc
 
-pub reached : (o : Outcome (List Float)) (state : ℕ) {answer : Answer} → answer ≡ A.Served → answer ≡ answer_of o → served state ≡ reaching o state
-reached (served xs) state e h = refl
-reached (refused q) state e h = absurd (let z : ◌≡◌ {A = ℕ} 0 1 = cc in omega arith)
+pub reached : (o : Outcome (List Float)) (state : ℕ) {answer : Answer} → answer ≡ Ok tt → answer ≡ answer_of o → Ok state ≡ reaching o state
+reached (Ok xs) state e h = refl
+reached (Err q) state e h = absurd (let z : ◌≡◌ {A = ℕ} 0 1 = cc in omega arith)

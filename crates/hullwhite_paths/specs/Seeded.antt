@@ -5,7 +5,8 @@ use Rattle.std.specs.Float.Ieee.Scale.{finite}
 use Rattle.ieee.specs.Numbers.{zero}
 use Rattle.refusals.specs.declared.curves.Faults.{Faults}
 use Rattle.refusals.specs.declared.refusals.Refusal.TheVariants as R
-use Rattle.refusals.specs.Refusals.{Outcome, Rule, rule, unless, following}
+use Rattle.refusals.specs.declared.refusals.Rule.{Rule}
+use Rattle.refusals.specs.Refusals.{Outcome, rule, unless, following}
 use Rattle.refusals.specs.Faults.{curve_faults, pillar_faults, seeded_grid_faults}
 use Rattle.draws.specs.Draws.{draws_of}
 use Rattle.hullwhite_points.specs.declared.walk.Centre.{Centre}

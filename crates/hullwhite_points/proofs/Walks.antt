@@ -1,4 +1,5 @@
 -- One turn and the end of each walk along a grid: the decays, and the points of a path. Assumes nothing.
+use Rattle.std.specs.Prelude.{Option, Some, None, Ok, Err}
 use mathlib.Core.Path.{◌≡◌, refl, sym, ap, ◌∙◌}
 use mathlib.Core.List.{List, [], ◌∷◌, ◌++◌, append-nil}
 use Prim.Native.Nat.{ℕ, zero, suc, ◌+◌, ◌≤◌, ◌<◌}
@@ -9,8 +10,8 @@ use lib.Seq.{take_all}
 use lib.Ieee.{Float, nan}
 use Rattle.ieee.specs.Rounded.{◌⊕◌}
 use Rattle.refusals.specs.declared.refusals.Refusal.TheVariants as R
-use Rattle.refusals.specs.Refusals.{Outcome, served, refused, prepend}
-use Rattle.curve.specs.Lookups.{Maybe, just, nothing, factor_at, needing, volatility_at}
+use Rattle.refusals.specs.Refusals.{Outcome, prepend}
+use Rattle.curve.specs.Lookups.{factor_at, needing, volatility_at}
 use Rattle.hullwhite_formulas.specs.HullWhite.{h, forward_of}
 use Rattle.refusals.proofs.Walks.{next, longer}
 use Rattle.hullwhite_points.specs.declared.walk.State.{State}
@@ -50,49 +51,35 @@ decays_two alpha before grid out i h same d e p q =
     decays_turn alpha before grid out i k l d p ∙ rw z at second
 
 -- ---- the forward, from both factors
-module _ (ts fs : List Float) (t : Float) where
-  pub no_first : factor_at ts fs t ≡ nothing → forward_at ts fs t ≡ nothing
-  unfolding forward_at
-  no_first e = rw e
-
-  module _ (p : Float) (found : factor_at ts fs t ≡ just p) where
-    pub no_second : factor_at ts fs (t ⊕ h) ≡ nothing → forward_at ts fs t ≡ nothing
-    unfolding forward_at
-    no_second e = rw (found, e)
-
-    pub both_found : (p_plus : Float) → factor_at ts fs (t ⊕ h) ≡ just p_plus → forward_at ts fs t ≡ just (forward_of p p_plus)
-    unfolding forward_at
-    both_found p_plus e = rw (found, e)
-
-needing_both : {B : Type 0} (p q : Maybe) (rest : Float → Outcome B) → needing p (λ x. needing q (λ y. rest (forward_of x y))) ≡ needing (forward_of_both p q) rest
-needing_both (just x) (just y) rest = refl
-needing_both (just x) nothing rest = refl
-needing_both nothing q rest = refl
+needing_both : {B : Type 0} (p q : Option Float) (rest : Float → Outcome B) → needing p (λ x. needing q (λ y. rest (forward_of x y))) ≡ needing (forward_of_both p q) rest
+needing_both (Some x) (Some y) rest = refl
+needing_both (Some x) None rest = refl
+needing_both None q rest = refl
 
 -- ---- the points of the grid from place i on, behind those worked: a refusal of any refuses all
 abbrev pub prepend_all : List Float → Outcome (List Float) → Outcome (List Float)
-prepend_all xs (served ys) = served (xs ++ ys)
-prepend_all xs (refused r) = refused r
+prepend_all xs (Ok ys) = Ok (xs ++ ys)
+prepend_all xs (Err r) = Err r
 
 pub prepend_none : (o : Outcome (List Float)) → prepend_all [] o ≡ o
-prepend_none (served ys) = refl
-prepend_none (refused r) = refl
+prepend_none (Ok ys) = refl
+prepend_none (Err r) = refl
 
 prepend_longer : (out : List Float) (i : ℕ) (v : Float) (rest : Outcome (List Float)) → i < length out → prepend_all (take i out) (prepend v rest) ≡ prepend_all (take (i + 1) (set out i v)) rest
-prepend_longer out i v (served ys) h = ap served (longer out i v ys h)
-prepend_longer out i v (refused r) h = refl
+prepend_longer out i v (Ok ys) h = ap Ok (longer out i v ys h)
+prepend_longer out i v (Err r) h = refl
 
 module _ (centre : Centre) (alpha : Float) (ps ss ts fs : List Float) (s : State) (grid draws out : List Float) (i : ℕ) where
-  pub path_end : length grid ≤ i → length out ≤ i → prepend_all (take i out) (path_from centre alpha ps ss ts fs s (drop i grid) (drop i draws)) ≡ served out
+  pub path_end : length grid ≤ i → length out ≤ i → prepend_all (take i out) (path_from centre alpha ps ss ts fs s (drop i grid) (drop i draws)) ≡ Ok out
   unfolding path_from
   path_end h k = rw (drop_of_length-le grid h, append-nil, take_all i out k)
 
   module _ (in_grid : i < length grid) (in_draws : i < length draws) where
-    pub no_volatility : volatility_at ps ss (get_or grid i nan) ≡ nothing → path_from centre alpha ps ss ts fs s (drop i grid) (drop i draws) ≡ refused R.Empty
+    pub no_volatility : volatility_at ps ss (get_or grid i nan) ≡ None → path_from centre alpha ps ss ts fs s (drop i grid) (drop i draws) ≡ Err R.Empty
     unfolding path_from
     no_volatility e = rw (next grid i in_grid, next draws i in_draws, e)
 
-    module _ (sigma : Float) (found : volatility_at ps ss (get_or grid i nan) ≡ just sigma) where
+    module _ (sigma : Float) (found : volatility_at ps ss (get_or grid i nan) ≡ Some sigma) where
       from_forward : let after = state_after alpha sigma (get_or grid i nan) (get_or draws i nan) s in
           path_from centre alpha ps ss ts fs s (drop i grid) (drop i draws)
           ≡ needing (forward_at ts fs (get_or grid i nan)) (λ f. prepend (after.x ⊕ shift_of centre alpha sigma (get_or grid i nan) after.variance f) (path_from centre alpha ps ss ts fs after (drop (i + 1) grid) (drop (i + 1) draws)))
@@ -102,10 +89,10 @@ module _ (centre : Centre) (alpha : Float) (ps ss ts fs : List Float) (s : State
           let after = state_after alpha sigma t (get_or draws i nan) s in
           rw (next grid i in_grid, next draws i in_draws, found) (needing_both (factor_at ts fs t) (factor_at ts fs (t ⊕ h)) (λ f. prepend (after.x ⊕ shift_of centre alpha sigma (get_or grid i nan) after.variance f) (path_from centre alpha ps ss ts fs after (drop (i + 1) grid) (drop (i + 1) draws))))
 
-      pub no_forward : forward_at ts fs (get_or grid i nan) ≡ nothing → path_from centre alpha ps ss ts fs s (drop i grid) (drop i draws) ≡ refused R.OffCurve
+      pub no_forward : forward_at ts fs (get_or grid i nan) ≡ None → path_from centre alpha ps ss ts fs s (drop i grid) (drop i draws) ≡ Err R.OffCurve
       no_forward e = from_forward ∙ rw e
 
-      pub path_turn : (f : Float) → forward_at ts fs (get_or grid i nan) ≡ just f → i < length out
+      pub path_turn : (f : Float) → forward_at ts fs (get_or grid i nan) ≡ Some f → i < length out
           → (after : State) → after ≡ state_after alpha sigma (get_or grid i nan) (get_or draws i nan) s
           → (shift : Float) → shift ≡ shift_of centre alpha sigma (get_or grid i nan) after.variance f
           → prepend_all (take i out) (path_from centre alpha ps ss ts fs s (drop i grid) (drop i draws))

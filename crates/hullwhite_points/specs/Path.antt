@@ -1,5 +1,5 @@
 -- hullwhitemodel.rs, `generate`: the points of a short-rate path, centred as the Rust has it (document 01, kind 12) or as published (document 02, A.6, kind 13). Pillars have times ps and volatilities ss, the curve times ts and factors fs.
-use Rattle.std.specs.Prelude.{List, [], ◌∷◌, Float}
+use Rattle.std.specs.Prelude.{List, [], ◌∷◌, Float, Ok}
 use Rattle.std.specs.Float.Ieee.{neg}
 use Rattle.ieee.specs.Rounded.{◌⊕◌, ◌⊖◌, ◌⊗◌, ◌⊘◌}
 use Rattle.ieee.specs.Numbers.{zero, half, one, two}
@@ -7,7 +7,7 @@ use Rattle.ieee.specs.Fused.{fused_of}
 use Rattle.ieee.specs.Sqrt.{sqrt_of}
 use Rattle.math_exponential.specs.Exp.{exp_of}
 use Rattle.refusals.specs.declared.refusals.Refusal.TheVariants as R
-use Rattle.refusals.specs.Refusals.{Outcome, served, prepend}
+use Rattle.refusals.specs.Refusals.{Outcome, prepend}
 use Rattle.curve.specs.Lookups.{factor_at, needing, required, volatility_at}
 use Rattle.hullwhite_formulas.specs.HullWhite.{h, forward_of}
 use Rattle.hullwhite_points.specs.declared.walk.State.{State}
@@ -44,8 +44,8 @@ shift_of C.Published alpha sigma t variance forward = published_shift_of alpha s
 
 -- the points of the grid that is left, from the state s: each wants the volatility at its time (there is none without a pillar, rule 7) and the factors at t and t + h; the rate at a point is x and the shift
 unfoldable pub path_from : Centre → Float → List Float → List Float → List Float → List Float → State → List Float → List Float → Outcome (List Float)
-path_from centre alpha ps ss ts fs s [] draws = served []
-path_from centre alpha ps ss ts fs s (t ∷ grid) [] = served []
+path_from centre alpha ps ss ts fs s [] draws = Ok []
+path_from centre alpha ps ss ts fs s (t ∷ grid) [] = Ok []
 path_from centre alpha ps ss ts fs s (t ∷ grid) (draw ∷ draws) =
     required R.Empty (volatility_at ps ss t) (λ sigma.
     needing (factor_at ts fs t) (λ p.

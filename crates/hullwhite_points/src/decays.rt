@@ -11,6 +11,7 @@ pub fn write_decays(alpha: f64, grid: &[f64], out: &mut [f64])
     requires { length out.old ≡ length grid.now }
     ensures { out.new ≡ decays_from alpha zero grid.now }
 {
+    // Two places a turn, for the exps of a pair are worked side by side, and the last by itself where their number is odd.
     let mut before = 0.0;
     let mut i = 0;
     while i + 1 < grid.len() {

@@ -1,15 +1,13 @@
 // The points of a short-rate path, over a grid of times, from one standard-normal draw a point.
-ghost use Rattle.std.specs.Prelude.{◌≡◌, true, length};
+ghost use Rattle.std.specs.Prelude.{◌≡◌, true, length, Ok};
 ghost use Rattle.ieee.specs.Numbers.{zero};
 ghost use Rattle.refusals.specs.Checks.{in_order};
-ghost use Rattle.refusals.specs.Refusals.{served, after};
-ghost use Rattle.curve.specs.Lookups.{found_of};
+ghost use Rattle.refusals.specs.Refusals.{after};
 ghost use Rattle.hullwhite_points.specs.Path.{state_after, published_shift_of, shift_of, path_from, start_state};
 ghost use Rattle.hullwhite_points.specs.Walk.{step_decay, decays_from, forward_at};
 
 use super::decays;
-use curve::{Found, FoundNear};
-use refusals::{Answer, Refusal};
+use refusals::Refusal;
 
 // What a path's rates are centred on: the forward plus half the state variance, as the Rust has it (kind 12), or as
 // Brigo and Mercurio have published it (kind 13).
@@ -63,24 +61,13 @@ fn shift_of(centre: Centre, alpha: f64, sigma: f64, t: f64, variance: f64, forwa
 
 // The forward at t, from the factors at t and a day later, looked for at `hint` first. A caller behind the
 // rules has a curve whose times strictly rise.
-fn forward_near(times: &[f64], factors: &[f64], hint: usize, t: f64) -> FoundNear
+fn forward_near(times: &[f64], factors: &[f64], hint: &mut usize, t: f64) -> Option<f64>
     requires { in_order true times.now ≡ true }
-    ensures { found_of result.found ≡ forward_at times.now factors.now t }
+    ensures { result ≡ forward_at times.now factors.now t }
 {
-    let first = curve::factor_near(times, factors, hint, t);
-    let found = first.found;
-    let Found::At(p) = found else {
-        return first;
-    };
-    let second = curve::factor_near(times, factors, first.next, t + hullwhite_formulas::day());
-    let found_plus = second.found;
-    let Found::At(p_plus) = found_plus else {
-        return second;
-    };
-    FoundNear {
-        found: Found::At(hullwhite_formulas::forward_of(p, p_plus)),
-        next: second.next,
-    }
+    let p = curve::factor_near(times, factors, hint, t)?;
+    let p_plus = curve::factor_near(times, factors, hint, t + hullwhite_formulas::day())?;
+    Some(hullwhite_formulas::forward_of(p, p_plus))
 }
 
 // Works every point of the grid into `out`, or says why one cannot be worked. A caller that has asked the rules
@@ -95,9 +82,9 @@ pub fn walk_grid(
     grid: &[f64],
     draws: &[f64],
     out: &mut [f64],
-) -> Answer
+) -> Result<(), Refusal>
     requires { (length out.old ≡ length grid.now) × (length draws.now ≡ length grid.now) × (in_order true times.now ≡ true) × (in_order true pillars.now ≡ true) }
-    ensures { path_from centre alpha pillars.now sigmas.now times.now factors.now start_state grid.now draws.now ≡ after result (served out.new) }
+    ensures { path_from centre alpha pillars.now sigmas.now times.now factors.now start_state grid.now draws.now ≡ after result (Ok out.new) }
 {
     decays::write_decays(alpha, grid, out);
     walk_points(
@@ -118,9 +105,9 @@ fn walk_points(
     grid: &[f64],
     draws: &[f64],
     out: &mut [f64],
-) -> Answer
+) -> Result<(), Refusal>
     requires { (out.old ≡ decays_from alpha zero grid.now) × (length draws.now ≡ length grid.now) × (in_order true times.now ≡ true) × (in_order true pillars.now ≡ true) }
-    ensures { path_from centre alpha pillars.now sigmas.now times.now factors.now start_state grid.now draws.now ≡ after result (served out.new) }
+    ensures { path_from centre alpha pillars.now sigmas.now times.now factors.now start_state grid.now draws.now ≡ after result (Ok out.new) }
 {
     let mut s = State {
         x: 0.0,
@@ -129,24 +116,16 @@ fn walk_points(
     };
     let mut reached = 0;
     let mut place = 0;
-    let mut i = 0;
-    while i < grid.len() {
+    for i in 0..grid.len() {
         let t = grid[i];
-        let volatility = curve::volatility_near(pillars, sigmas, reached, t);
-        let found = volatility.found;
-        let Found::At(sigma) = found else {
-            return Answer::Refused(Refusal::Empty);
+        let Some(sigma) = curve::volatility_near(pillars, sigmas, &mut reached, t) else {
+            return Err(Refusal::Empty);
         };
-        let forward = forward_near(times, factors, place, t);
-        let found_forward = forward.found;
-        let Found::At(f) = found_forward else {
-            return Answer::Refused(Refusal::OffCurve);
+        let Some(forward) = forward_near(times, factors, &mut place, t) else {
+            return Err(Refusal::OffCurve);
         };
         s = state_after(alpha, sigma, t, draws[i], out[i], s);
-        out[i] = s.x + shift_of(centre, alpha, sigma, t, s.variance, f);
-        reached = volatility.next;
-        place = forward.next;
-        i += 1;
+        out[i] = s.x + shift_of(centre, alpha, sigma, t, s.variance, forward);
     }
-    Answer::Served
+    Ok(())
 }

@@ -1,17 +1,16 @@
 // hullwhitemodel.rs, swaption_price (kind 5).
-ghost use Rattle.std.specs.Prelude.{◌≡◌, true, ◌≤◌, length};
+ghost use Rattle.std.specs.Prelude.{◌≡◌, true, ◌≤◌, length, Ok};
 ghost use Rattle.refusals.specs.Checks.{in_order};
-ghost use Rattle.refusals.specs.Refusals.{served, reported, first_of, following};
+ghost use Rattle.refusals.specs.Refusals.{reported, first_of, following};
 ghost use Rattle.refusals.specs.Faults.{curve_faults};
-ghost use Rattle.hullwhite_jamshidian.specs.Price.{swaption_outcome, no_model_valued, finishing_swaption};
+ghost use Rattle.hullwhite_jamshidian.specs.Price.{no_swaption, finishing_swaption};
 ghost use Rattle.hullwhite_jamshidian.specs.Ahead.{price_on};
 ghost use Rattle.hullwhite_swaptions.specs.Model.{model_rules, model_priced, model_outcome};
 ghost use Rattle.hullwhite_swaptions.specs.Demand3.{ModelRootLocated, ModelNoBracketExactly};
 
-use hullwhite_jamshidian::{Root, Swaption};
-use hullwhite_terms::WorkedTerms;
-use refusals::{Answer, Faults, Refusal, Test};
-use search::Bracket;
+use hullwhite_jamshidian::Swaption;
+use hullwhite_terms::TermsAhead;
+use refusals::{Faults, Refusal, Test};
 
 // Kind 5: the coupons are payment times and accruals.
 pub fn swaption_price(
@@ -23,11 +22,11 @@ pub fn swaption_price(
     strike: f64,
     t: f64,
     sigma: f64,
-) -> Swaption
-    ensures answer { swaption_outcome result ≡ model_outcome alpha times.now factors.now payments.now accruals.now strike t sigma }
+) -> Result<Swaption, Refusal>
+    ensures answer { result ≡ model_outcome alpha times.now factors.now payments.now accruals.now strike t sigma }
     ensures rooted { ModelRootLocated alpha times.now factors.now payments.now accruals.now strike t sigma result }
     ensures bracket { ModelNoBracketExactly alpha times.now factors.now payments.now accruals.now strike t sigma result }
-    ensures report { reported no_model_valued (swaption_outcome result) ≡ reported no_model_valued (model_outcome alpha times.now factors.now payments.now accruals.now strike t sigma) }
+    ensures report { reported no_swaption result ≡ reported no_swaption (model_outcome alpha times.now factors.now payments.now accruals.now strike t sigma) }
 {
     let curve = refusals::curve_faults(times, factors);
     swaption_price_on(
@@ -47,21 +46,19 @@ pub fn swaption_price_on(
     strike: f64,
     t: f64,
     sigma: f64,
-) -> Swaption
+) -> Result<Swaption, Refusal>
     requires { curve ≡ curve_faults times.now factors.now }
-    ensures answer { swaption_outcome result ≡ model_outcome alpha times.now factors.now payments.now accruals.now strike t sigma }
+    ensures answer { result ≡ model_outcome alpha times.now factors.now payments.now accruals.now strike t sigma }
     ensures rooted { ModelRootLocated alpha times.now factors.now payments.now accruals.now strike t sigma result }
     ensures bracket { ModelNoBracketExactly alpha times.now factors.now payments.now accruals.now strike t sigma result }
-    ensures report { reported no_model_valued (swaption_outcome result) ≡ reported no_model_valued (model_outcome alpha times.now factors.now payments.now accruals.now strike t sigma) }
+    ensures report { reported no_swaption result ≡ reported no_swaption (model_outcome alpha times.now factors.now payments.now accruals.now strike t sigma) }
 {
     let coupons = refusals::coupon_faults(payments, accruals);
     let later = refusals::all(payments, Test::Above(t));
-    let answer = model_rules(curve, coupons, later, alpha, strike, t, sigma);
-    if let Answer::Refused(refusal) = answer {
-        return Swaption::Refused(refusal);
-    }
+    model_rules(curve, coupons, later, alpha, strike, t, sigma)?;
     if payments.len() == 0 {
-        return nothing();
+        // It is worth 0, and has no root.
+        return Ok(Swaption::default());
     }
     model_priced(alpha, times, factors, payments, accruals, strike, t, sigma)
 }
@@ -74,43 +71,21 @@ fn model_rules(
     strike: f64,
     t: f64,
     sigma: f64,
-) -> Answer
+) -> Result<(), Refusal>
     ensures { result ≡ first_of (model_rules curve coupons later alpha strike t sigma) }
 {
     let finite = math_elementary::is_finite(alpha)
         & math_elementary::is_finite(strike)
         & math_elementary::is_finite(t)
         & math_elementary::is_finite(sigma);
-    let mut answer = refusals::and_rule(Answer::Served, Refusal::Size, curve.size | coupons.size);
-    answer = refusals::and_rule(
-        answer,
-        Refusal::NotFinite,
-        curve.not_finite | coupons.not_finite | !finite,
-    );
-    answer = refusals::and_rule(answer, Refusal::MeanReversion, alpha <= 0.0);
-    answer = refusals::and_rule(answer, Refusal::Order, curve.order);
-    answer = refusals::and_rule(answer, Refusal::Times, (t < 0.0) | !later);
-    refusals::and_rule(answer, Refusal::Domain, (sigma < 0.0) | curve.domain)
-}
-
-// A swap without coupons is worth 0, and has no root.
-fn nothing() -> Swaption
-    ensures { swaption_outcome result ≡ served no_model_valued }
-{
-    Swaption::Served(
-        0.0,
-        Root {
-            rate: 0.0,
-            bracket: Bracket {
-                lower: 0.0,
-                upper: 0.0,
-                lower_sum: 0.0,
-                upper_sum: 0.0,
-            },
-            below: 0,
-            above: 0,
-        },
-    )
+    refusals::first_of(&[
+        Refusal::Size.when(curve.size | coupons.size),
+        Refusal::NotFinite.when(curve.not_finite | coupons.not_finite | !finite),
+        Refusal::MeanReversion.when(alpha <= 0.0),
+        Refusal::Order.when(curve.order),
+        Refusal::Times.when((t < 0.0) | !later),
+        Refusal::Domain.when((sigma < 0.0) | curve.domain),
+    ])
 }
 
 // The factors and the terms, then the price. A caller that has asked the rules has the coupons' lists of one
@@ -124,15 +99,15 @@ fn model_priced(
     strike: f64,
     t: f64,
     sigma: f64,
-) -> Swaption
+) -> Result<Swaption, Refusal>
     requires { (length payments.now ≤ 64) × (length accruals.now ≡ length payments.now) × (in_order true times.now ≡ true) }
-    ensures { swaption_outcome result ≡ model_priced alpha times.now factors.now payments.now accruals.now strike t sigma }
+    ensures { result ≡ model_priced alpha times.now factors.now payments.now accruals.now strike t sigma }
 {
     let n = payments.len();
     let mut c = [0.0; 64];
     let mut b = [0.0; 64];
     let mut p = [0.0; 64];
-    let worked = hullwhite_terms::swaption_terms(
+    let TermsAhead { p_t, forward } = hullwhite_terms::swaption_terms(
         alpha,
         times,
         factors,
@@ -143,13 +118,8 @@ fn model_priced(
         &mut c[..n],
         &mut b[..n],
         &mut p[..n],
-    );
-    match worked {
-        WorkedTerms::Refused(refusal) => Swaption::Refused(refusal),
-        WorkedTerms::Served { p_t, forward } => {
-            model_price_on_terms(alpha, t, sigma, p_t, forward, &c[..n], &b[..n], &p[..n])
-        }
-    }
+    )?;
+    model_price_on_terms(alpha, t, sigma, p_t, forward, &c[..n], &b[..n], &p[..n])
 }
 
 // The price on the terms. A caller that has worked them has the lists of one length of at most 64.
@@ -162,29 +132,24 @@ fn model_price_on_terms(
     c: &[f64],
     b: &[f64],
     p: &[f64],
-) -> Swaption
+) -> Result<Swaption, Refusal>
     requires { (length c.now ≤ 64) × (length b.now ≡ length c.now) × (length p.now ≡ length c.now) }
-    ensures { swaption_outcome result ≡ following (price_on alpha t (record { pt = p_t; forward = forward; coefficients = c.now; bs = b.now; factors = p.now }) sigma) finishing_swaption }
+    ensures { result ≡ following (price_on alpha t (record { pt = p_t; forward = forward; coefficients = c.now; bs = b.now; factors = p.now }) sigma) finishing_swaption }
 {
     let n = c.len();
     let mut curve_part = [0.0; 64];
     hullwhite_terms::curve_parts(forward, p_t, b, p, &mut curve_part[..n]);
     let ahead = hullwhite_jamshidian::ahead_of(alpha, t, p_t);
-    let swaption = hullwhite_jamshidian::price_at(ahead, sigma, c, b, &curve_part[..n], p);
-    finished(swaption)
+    finished(hullwhite_jamshidian::price_at(ahead, sigma, c, b, &curve_part[..n], p)?)
 }
 
 // Rule 13 looks at every float of the answer.
-fn finished(swaption: Swaption) -> Swaption
-    ensures { swaption_outcome result ≡ following (swaption_outcome swaption) finishing_swaption }
+fn finished(swaption: Swaption) -> Result<Swaption, Refusal>
+    ensures { result ≡ finishing_swaption swaption }
 {
-    let Swaption::Served(value, root) = swaption else {
-        return swaption;
-    };
-    let bracket = root.bracket;
-    if math_elementary::is_finite(value) & search::root_finite(root.rate, bracket) {
-        swaption
+    if math_elementary::is_finite(swaption.value) & swaption.root.is_finite() {
+        Ok(swaption)
     } else {
-        Swaption::Refused(Refusal::Overflow)
+        Err(Refusal::Overflow)
     }
 }

@@ -1,12 +1,13 @@
 -- For calls that end in a search on terms: whatever a call comes to beyond rules 1 to 8, its search was begun; and a search that is begun is what the call comes to. Assumes nothing.
+use Rattle.std.specs.Prelude.{Ok, Err}
 use mathlib.Core.Path.{◌≡◌, ap, ◌∙◌}
 use mathlib.Core.List.{List}
 use lib.Dec.{T}
 use lib.Ieee.{Float}
 use Rattle.ieee.specs.Rounded.{◌⊕◌}
 use Rattle.refusals.specs.declared.refusals.Refusal.{Refusal}
-use Rattle.refusals.specs.declared.refusals.Answer.TheVariants as A
-use Rattle.refusals.specs.Refusals.{Outcome, refused, Rule, first_of, after, unless}
+use Rattle.refusals.specs.declared.refusals.Rule.{Rule}
+use Rattle.refusals.specs.Refusals.{Outcome, first_of, after, unless}
 use Rattle.curve.specs.Lookups.{factor_at}
 use Rattle.hullwhite_formulas.specs.HullWhite.{h}
 use Rattle.hullwhite_terms.proofs.Callers.{early, all_early, Late, past_rules, past_lookups, through_lookups}
@@ -17,7 +18,7 @@ use Rattle.hullwhite_terms.proofs.Fetched.{off_curve}
 
 -- `on` is what the call comes to on the factors at t, t + h and the payment times
 module _ {B : Type 0} (rules : List Rule) (ts fs payments : List Float) (t : Float) (on : Float → Float → List Float → Outcome B) where
-  fetch_early : (q : Refusal) → factors_at ts fs payments ≡ refused q → T (early q)
+  fetch_early : (q : Refusal) → factors_at ts fs payments ≡ Err q → T (early q)
   fetch_early q e = rw (off_curve ts fs payments q e) tt
 
   abbrev looked_up : Outcome B
@@ -28,7 +29,7 @@ module _ {B : Type 0} (rules : List Rule) (ts fs payments : List Float) (t : Flo
     pub goes_on : on begun.pt begun.p_plus begun.ps ≡ o
 
   -- the lookups of a call that its rules let through
-  pub looked_up_lem : (o : Outcome B) → Late o → first_of rules ≡ A.Served → looked_up ≡ o → Searches o
+  pub looked_up_lem : (o : Outcome B) → Late o → first_of rules ≡ Ok tt → looked_up ≡ o → Searches o
   looked_up_lem o late p e =
       let r = past_lookups (factor_at ts fs t) (factor_at ts fs (t ⊕ h)) (factors_at ts fs payments) on o late fetch_early e in
       record {

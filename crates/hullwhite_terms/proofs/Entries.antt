@@ -1,4 +1,5 @@
 -- The length and the entries of each list of the terms. Callers cite the lengths.
+use Rattle.std.specs.Prelude.{Option, Some, None, Ok, Err}
 use mathlib.Core.Path.{◌≡◌, refl, sym, ap, ◌∙◌}
 use mathlib.Core.List.{List, [], ◌∷◌, map, zip_with}
 use Prim.Native.Nat.{ℕ, zero, suc, ◌+◌, ◌<◌}
@@ -8,13 +9,18 @@ use native.Mathlib.Numerals.{add-one}
 use lib.Dec.{eqb, eqb-suc-suc, eqb-zero-suc}
 use lib.ListN.{length, get_or, length-map}
 use lib.Ieee.{Float, nan}
+use Rattle.std.proofs.lemmas.List.{ext_get_or}
 use Rattle.ieee.specs.Rounded.{◌⊗◌}
 use Rattle.search_sum.specs.Sum.{weights_of}
-use Rattle.refusals.specs.Refusals.{Outcome, served, refused, prepend}
-use Rattle.curve.specs.Lookups.{Maybe, just, nothing, factor_at, needing}
+use Rattle.refusals.specs.Refusals.{Outcome, prepend}
+use Rattle.curve.specs.Lookups.{factor_at, needing}
 use Rattle.refusals.proofs.Outcomes.{not_both, served_is}
 use Rattle.hullwhite_formulas.specs.HullWhite.{b_of, curve_part_of, a_at}
 use Rattle.hullwhite_terms.specs.Terms.{coefficient_at, coefficients_of, bs_of, curve_parts_of, a_list_at, factors_at}
+
+-- ---- a lent list that is written entry by entry is the list that has them
+pub written : {out : List Float} {m n : ℕ} (target : List Float) → length out ≡ m → m ≡ n → length target ≡ n → ((i : ℕ) → i < m → i < n → get_or out i nan ≡ get_or target i nan) → out ≡ target
+written {out = out} target p q r h = ext_get_or nan out target (omega arith) (λ i l. h i (omega arith) (omega arith))
 
 -- ---- an entry of a list made from one list, and from two
 map_at : (f : Float → Float) (xs : List Float) (i : ℕ) → i < length xs → get_or (map f xs) i nan ≡ f (get_or xs i nan)
@@ -106,16 +112,16 @@ pub weights_at : (cs affines : List Float) (i : ℕ) → length affines ≡ leng
 weights_at cs affines i e h = rw (weights_zip cs affines) (zip_at _ cs affines i e h)
 
 -- ---- factors
-prepend_length : (p : Float) (o : Outcome (List Float)) (n : ℕ) → ((qs : List Float) → o ≡ served qs → length qs ≡ n) → (ps : List Float) → prepend p o ≡ served ps → length ps ≡ suc n
-prepend_length p (served qs) n h ps e = rw (sym (served_is e)) (ap suc (h qs refl))
-prepend_length p (refused r) n h ps e = absurd (not_both e)
+prepend_length : (p : Float) (o : Outcome (List Float)) (n : ℕ) → ((qs : List Float) → o ≡ Ok qs → length qs ≡ n) → (ps : List Float) → prepend p o ≡ Ok ps → length ps ≡ suc n
+prepend_length p (Ok qs) n h ps e = rw (sym (served_is e)) (ap suc (h qs refl))
+prepend_length p (Err r) n h ps e = absurd (not_both e)
 
-needing_length : (m : Maybe) (o : Outcome (List Float)) (n : ℕ) → ((qs : List Float) → o ≡ served qs → length qs ≡ n) → (ps : List Float) → needing m (λ p. prepend p o) ≡ served ps → length ps ≡ suc n
-needing_length (just p) o n h ps e = prepend_length p o n h ps e
-needing_length nothing o n h ps e = absurd (not_both e)
+needing_length : (m : Option Float) (o : Outcome (List Float)) (n : ℕ) → ((qs : List Float) → o ≡ Ok qs → length qs ≡ n) → (ps : List Float) → needing m (λ p. prepend p o) ≡ Ok ps → length ps ≡ suc n
+needing_length (Some p) o n h ps e = prepend_length p o n h ps e
+needing_length None o n h ps e = absurd (not_both e)
 
 -- there is a factor for each payment
-pub factors_length : (ts fs payments ps : List Float) → factors_at ts fs payments ≡ served ps → length ps ≡ length payments
+pub factors_length : (ts fs payments ps : List Float) → factors_at ts fs payments ≡ Ok ps → length ps ≡ length payments
 unfolding factors_at
 factors_length ts fs [] ps e = rw (sym (served_is e)) refl
 factors_length ts fs (payment ∷ payments) ps e = needing_length (factor_at ts fs payment) (factors_at ts fs payments) (length payments) (λ qs q. factors_length ts fs payments qs q) ps e

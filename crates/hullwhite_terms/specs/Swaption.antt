@@ -1,12 +1,11 @@
 -- A swaption's factors on a curve of times ts and factors fs, and the terms on them.
-use Rattle.std.specs.Prelude.{List, Float}
+use Rattle.std.specs.Prelude.{List, Float, Ok}
 use Rattle.ieee.specs.Rounded.{◌⊕◌}
-use Rattle.refusals.specs.Refusals.{Outcome, served, refused, following}
+use Rattle.refusals.specs.Refusals.{Outcome, following}
 use Rattle.curve.specs.Lookups.{factor_at, needing}
 use Rattle.hullwhite_formulas.specs.HullWhite.{h, forward_of}
-use Rattle.hullwhite_terms.specs.declared.swaption.WorkedTerms.{WorkedTerms}
-use Rattle.hullwhite_terms.specs.declared.swaption.WorkedTerms.TheVariants as T
 use Rattle.hullwhite_terms.specs.Terms.{coefficients_of, bs_of, factors_at}
+use Rattle.hullwhite_terms.specs.declared.swaption.TermsAhead.{TermsAhead}
 
 -- the factor pt at t, p_plus at t + h, and ps at the payment times, looked up in this order; then as the rest says of them
 abbrev pub with_factors : {A : Type 0} → List Float → List Float → List Float → Float → (Float → Float → List Float → Outcome A) → Outcome A
@@ -30,9 +29,8 @@ terms_on alpha payments accruals strike t pt p_plus ps = record { pt = pt; forwa
 
 -- the factors, then the terms
 unfoldable pub terms_of : Float → List Float → List Float → List Float → List Float → Float → Float → Outcome SwaptionTerms
-terms_of alpha ts fs payments accruals strike t = with_factors ts fs payments t (λ pt p_plus ps. served (terms_on alpha payments accruals strike t pt p_plus ps))
+terms_of alpha ts fs payments accruals strike t = with_factors ts fs payments t (λ pt p_plus ps. Ok (terms_on alpha payments accruals strike t pt p_plus ps))
 
 -- of an answer of the code, and the lists beside it
-abbrev pub terms_outcome : WorkedTerms → List Float → List Float → List Float → Outcome SwaptionTerms
-terms_outcome (T.Served pt forward) cs bs ps = served (record { pt = pt; forward = forward; coefficients = cs; bs = bs; factors = ps })
-terms_outcome (T.Refused r) cs bs ps = refused r
+abbrev pub terms_outcome : Outcome TermsAhead → List Float → List Float → List Float → Outcome SwaptionTerms
+terms_outcome ahead cs bs ps = following ahead (λ a. Ok (record { pt = a.p_t; forward = a.forward; coefficients = cs; bs = bs; factors = ps }))

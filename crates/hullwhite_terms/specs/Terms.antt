@@ -1,10 +1,10 @@
 -- The terms of a swaption on a swap with the strike K: coefficients, B, A and factors, a coupon at a time, as `HullWhite::swaption_price` makes them. (`swaption_value` has the same coefficients and B, and another A.)
-use Rattle.std.specs.Prelude.{◌≡◌, refl, Bool, true, false, List, [], ◌∷◌, Float}
+use Rattle.std.specs.Prelude.{◌≡◌, refl, Bool, true, false, List, [], ◌∷◌, Float, Ok}
 use Rattle.std.proofs.Common.{ap}
 use Rattle.ieee.specs.Rounded.{◌⊗◌}
 use Rattle.ieee.specs.Numbers.{one}
 use Rattle.ieee.specs.Fused.{fused_of}
-use Rattle.refusals.specs.Refusals.{Outcome, served, prepend}
+use Rattle.refusals.specs.Refusals.{Outcome, prepend}
 use Rattle.curve.specs.Lookups.{factor_at, needing}
 use Rattle.hullwhite_formulas.specs.HullWhite.{b_of, a_of, stationary_share_of, half_variance_of, curve_part_of, a_at, a_ahead}
 
@@ -31,7 +31,7 @@ a_list_of alpha t sigma forward pt (payment ∷ payments) (p ∷ ps) = a_of alph
 
 -- the factor at each payment time, or refusal 8
 unfoldable pub factors_at : List Float → List Float → List Float → Outcome (List Float)
-factors_at ts fs [] = served []
+factors_at ts fs [] = Ok []
 factors_at ts fs (payment ∷ payments) = needing (factor_at ts fs payment) (λ p. prepend p (factors_at ts fs payments))
 
 -- ---- worked ahead: what no sigma changes is worked once, and A of each term from it at each sigma

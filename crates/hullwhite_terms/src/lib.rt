@@ -9,4 +9,4 @@ mod swaption;
 
 pub use columns::{a_list_at, curve_parts};
 pub use rate::find_critical_rate_of;
-pub use swaption::{WorkedTerms, swaption_terms};
+pub use swaption::{TermsAhead, swaption_terms};

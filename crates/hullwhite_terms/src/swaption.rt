@@ -4,14 +4,13 @@ ghost use Rattle.refusals.specs.Checks.{in_order};
 ghost use Rattle.hullwhite_terms.specs.Swaption.{terms_of, terms_outcome};
 
 use super::{columns, factors};
-use curve::Found;
-use refusals::{Answer, Refusal};
+use refusals::Refusal;
 
 // The factor at the option time and the forward rate there; the lists stand in those that were lent.
 #[derive(Clone, Copy)]
-pub enum WorkedTerms {
-    Served { p_t: f64, forward: f64 },
-    Refused(Refusal),
+pub struct TermsAhead {
+    pub p_t: f64,
+    pub forward: f64,
 }
 
 // Looks up the factor at t, at t + h and at every payment time, in this order, and works the coefficients c and the
@@ -29,24 +28,21 @@ pub fn swaption_terms(
     c: &mut [f64],
     b: &mut [f64],
     p: &mut [f64],
-) -> WorkedTerms
+) -> Result<TermsAhead, Refusal>
     requires { (in_order true times.now ≡ true) × (length accruals.now ≡ length payments.now) × (length c.old ≡ length payments.now) × (length b.old ≡ length payments.now) × (length p.old ≡ length payments.now) }
     ensures { terms_outcome result c.new b.new p.new ≡ terms_of alpha times.now factors.now payments.now accruals.now strike t }
 {
-    let Found::At(p_t) = curve::factor(times, factors, t) else {
-        return WorkedTerms::Refused(Refusal::OffCurve);
+    let Some(p_t) = curve::factor(times, factors, t) else {
+        return Err(Refusal::OffCurve);
     };
-    let Found::At(p_plus) = curve::factor(times, factors, t + hullwhite_formulas::day()) else {
-        return WorkedTerms::Refused(Refusal::OffCurve);
+    let Some(p_plus) = curve::factor(times, factors, t + hullwhite_formulas::day()) else {
+        return Err(Refusal::OffCurve);
     };
-    let fetched = factors::fetch(times, factors, payments, p);
-    if let Answer::Refused(refusal) = fetched {
-        return WorkedTerms::Refused(refusal);
-    }
+    factors::fetch(times, factors, payments, p)?;
     columns::coefficients(strike, accruals, c);
     columns::bs(alpha, t, payments, b);
-    WorkedTerms::Served {
+    Ok(TermsAhead {
         p_t,
         forward: hullwhite_formulas::forward_of(p_t, p_plus),
-    }
+    })
 }

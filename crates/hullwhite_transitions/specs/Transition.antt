@@ -8,7 +8,8 @@ use Rattle.ieee.specs.Rounded.{◌⊕◌, ◌⊗◌}
 use Rattle.ieee.specs.Numbers.{zero}
 use Rattle.refusals.specs.declared.curves.Faults.{Faults}
 use Rattle.refusals.specs.declared.refusals.Refusal.TheVariants as R
-use Rattle.refusals.specs.Refusals.{Outcome, Rule, rule, unless}
+use Rattle.refusals.specs.declared.refusals.Rule.{Rule}
+use Rattle.refusals.specs.Refusals.{Outcome, rule, unless}
 use Rattle.refusals.specs.Faults.{pillar_faults}
 use Rattle.hullwhite_parameters.specs.Variance.{piecewise_variance_of}
 use Rattle.hullwhite_transitions.specs.Written.{finishing_list}

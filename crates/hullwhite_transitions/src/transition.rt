@@ -5,7 +5,7 @@ ghost use Rattle.hullwhite_transitions.specs.Written.{stored_of};
 ghost use Rattle.hullwhite_transitions.specs.Transition.{transition_rules, step_variance, variances_of, transition_outcome};
 
 use super::output;
-use refusals::{Answer, Faults, Refusal};
+use refusals::{Faults, Refusal};
 
 pub fn transition_variances(
     alpha: f64,
@@ -14,23 +14,20 @@ pub fn transition_variances(
     steps: usize,
     time_step: f64,
     out: &mut [f64],
-) -> Answer
+) -> Result<(), Refusal>
     ensures answer { result ≡ answer_of (transition_outcome alpha times.now sigmas.now steps time_step (length out.old)) }
     ensures output { out.new ≡ stored_of (transition_outcome alpha times.now sigmas.now steps time_step (length out.old)) out.old }
     ensures number { answer_number result ≡ (reported [] (transition_outcome alpha times.now sigmas.now steps time_step (length out.old))).answer }
 {
     let pillars = refusals::pillar_faults(times, sigmas);
-    let answer = transition_rules(
+    transition_rules(
         pillars,
         times.len() == 0,
         alpha,
         steps,
         out.len(),
         time_step,
-    );
-    if let Answer::Refused(refusal) = answer {
-        return Answer::Refused(refusal);
-    }
+    )?;
     let mut work = [0.0; 1024];
     variances(alpha, times, sigmas, time_step, &mut work[..steps]);
     output::finish(&work[..steps], out)
@@ -43,21 +40,19 @@ fn transition_rules(
     steps: usize,
     room: usize,
     time_step: f64,
-) -> Answer
+) -> Result<(), Refusal>
     ensures { result ≡ first_of (transition_rules pillars empty alpha steps room time_step) }
 {
     let finite = math_elementary::is_finite(alpha) & math_elementary::is_finite(time_step);
-    let mut answer = refusals::and_rule(
-        Answer::Served,
-        Refusal::Size,
-        pillars.size | (1024 < steps) | (room < steps),
-    );
-    answer = refusals::and_rule(answer, Refusal::NotFinite, pillars.not_finite | !finite);
-    answer = refusals::and_rule(answer, Refusal::MeanReversion, alpha <= 0.0);
-    answer = refusals::and_rule(answer, Refusal::Order, pillars.order);
-    answer = refusals::and_rule(answer, Refusal::Times, time_step <= 0.0);
-    answer = refusals::and_rule(answer, Refusal::Domain, pillars.domain);
-    refusals::and_rule(answer, Refusal::Empty, empty)
+    refusals::first_of(&[
+        Refusal::Size.when(pillars.size | (1024 < steps) | (room < steps)),
+        Refusal::NotFinite.when(pillars.not_finite | !finite),
+        Refusal::MeanReversion.when(alpha <= 0.0),
+        Refusal::Order.when(pillars.order),
+        Refusal::Times.when(time_step <= 0.0),
+        Refusal::Domain.when(pillars.domain),
+        Refusal::Empty.when(empty),
+    ])
 }
 
 // The variance over one step.
@@ -79,9 +74,7 @@ fn variances(alpha: f64, times: &[f64], sigmas: &[f64], time_step: f64, out: &mu
     requires { length out.old ≤ 1024 }
     ensures { out.new ≡ variances_of alpha times.now sigmas.now time_step 0 (length out.old) }
 {
-    let mut i = 0;
-    while i < out.len() {
-        out[i] = step_variance(alpha, times, sigmas, time_step, i as u32);
-        i += 1;
+    for (i, x) in out.iter_mut().enumerate() {
+        *x = step_variance(alpha, times, sigmas, time_step, i as u32);
     }
 }

@@ -2,13 +2,11 @@
 use mathlib.Core.Path.{◌≡◌, refl, sym, ap, ap₂, ◌∙◌, subst}
 use mathlib.Core.Bool.{Bool, false}
 use Prim.Native.Nat.{ℕ, ◌+◌, ◌-◌, ◌*◌, ◌/◌, ◌%◌, ◌^◌, ◌≤◌, ◌<◌, min}
-use native.Mathlib.Nat.{le_trans, le_of_eq, lt_of_lt_of_le, mul-pos, mul_assoc, mul_comm, mul-div_cancel, mul-le-mul_right, le_of_mul-le-mul_right, eq_of_mul-eq-mul_right, mod-eq_of_lt, le_of_lt, le-add_left, add-mul-div_right, add-mul-mod_self_right, div-le_of_le-mul}
+use native.Mathlib.Nat.{le_trans, le_of_eq, lt_of_lt_of_le, mul-pos, mul_assoc, mul_comm, mul-div_cancel, mul-le-mul_right, le_of_mul-le-mul_right, eq_of_mul-eq-mul_right, mod-eq_of_lt, le_of_lt, add-mul-div_right, add-mul-mod_self_right, div-le_of_le-mul}
 use native.Mathlib.Omega.{arith}
 use lib.Dec.{T, lit≤}
 use lib.Pow.{pow-add, pow_pos, pow_mono, shl_lt}
 use lib.Count.{count_leading_zeros}
-use mir.Syntax.{w64}
-use mir.Val.{Fits}
 use lib.Ieee.{Float, nan, inf, fin, binary64, down, round, fits, to_bits}
 use lib.Ieee.Exact.{HasValue}
 use lib.Ieee.Fits.{round-fits}
@@ -205,34 +203,17 @@ fixed_is x t l h =
     near : (f : ℕ) → f ≤ 1024 → f - 1 ≤ 2000
     near f h = omega arith
 
--- ---- the sum as the code has it: the product's words hi and lo, c added to the upper one, and of the lower one a sticky digit
+-- ---- the sum as the code has it: c added to the product's upper word, h, and of its lower word a sticky digit, s
 
-upper_below : (a y hi : ℕ) → y < 2 ^ 64 → hi ≡ a * y / 2 ^ 64 → hi ≤ a
-upper_below a y hi word H = le_trans (le_of_eq H) (div-le_of_le-mul (2 ^ 64) (le_trans (le_of_eq (mul_comm a y)) (mul-le-mul_right a (le_of_lt word))))
-
-module _ (a y c hi lo s : ℕ) (word : y < 2 ^ 64) (H : hi ≡ a * y / 2 ^ 64) (L : lo ≡ a * y % 2 ^ 64) (D : s ≡ min lo 1) (over : 2 ^ 53 ≤ c) (under : a + c < 2 ^ 62) where
-  pub upper_most : hi ≤ a
-  upper_most = upper_below a y hi word H
-
-  pub sum_range : (2 ^ 53 ≤ hi + c) × (hi + c < 2 ^ 62) × (s ≤ 1)
-  sum_range = (le_trans over (le-add_left c hi), go hi a c upper_most under, le_trans (le_of_eq D) (one lo))
-    where
-      go : (h m n : ℕ) → h ≤ m → m + n < 2 ^ 62 → h + n < 2 ^ 62
-      go h m n l u = omega arith
-
-      one : (n : ℕ) → min n 1 ≤ 1
-      one n = omega arith
-
-  pub sum_is : (g : ℕ) (x z k : Float) → g ≤ 60 → Held x a (g + 2) → Held z y 62 → Held k c g → settled_of (hi + c) s g ≡ fused_of x z k
-  sum_is g x z k few A Y C =
-      let S = a * y + c * 2 ^ 64 in
-      let upper : hi + c ≡ S / 2 ^ 64 = ap (λ (n : ℕ). n + c) H ∙ sym (add-mul-div_right (a * y) c (pow_pos 64)) in
-      ap₂ (λ (h d : ℕ). settled_of h d g) upper (D ∙ ap (λ (n : ℕ). min n 1) (L ∙ sym (add-mul-mod_self_right (a * y) c (2 ^ 64))))
-      ∙ sym (fused_held a y c g x z k few A Y C (le_trans sum_range.0 (le_of_eq upper)))
-
--- before the sticky digit is known
-pub upper_fits : (a y c hi : ℕ) → y < 2 ^ 64 → hi ≡ a * y / 2 ^ 64 → a + c < 2 ^ 62 → Fits w64 (hi + c)
-upper_fits a y c hi word H under = go hi a c (upper_below a y hi word H) under
+pub upper_most : (a y c h : ℕ) → y < 2 ^ 64 → h ≡ a * y / 2 ^ 64 + c → h ≤ a + c
+upper_most a y c h word H = le_trans (le_of_eq H) (go (div-le_of_le-mul (2 ^ 64) (le_trans (le_of_eq (mul_comm a y)) (mul-le-mul_right a (le_of_lt word)))))
   where
-    go : (h m n : ℕ) → h ≤ m → m + n < 2 ^ 62 → Fits w64 (h + n)
-    go h m n l u = omega arith
+    go : {u : ℕ} → u ≤ a → u + c ≤ a + c
+    go h = omega arith
+
+pub sum_is : (a y c h s : ℕ) → h ≡ a * y / 2 ^ 64 + c → s ≡ min (a * y % 2 ^ 64) 1 → 2 ^ 53 ≤ h → (g : ℕ) (x z k : Float) → g ≤ 60 → Held x a (g + 2) → Held z y 62 → Held k c g → settled_of h s g ≡ fused_of x z k
+sum_is a y c h s H D over g x z k few A Y C =
+    let S = a * y + c * 2 ^ 64 in
+    let upper : h ≡ S / 2 ^ 64 = H ∙ sym (add-mul-div_right (a * y) c (pow_pos 64)) in
+    ap₂ (λ (h d : ℕ). settled_of h d g) upper (D ∙ ap (λ (n : ℕ). min n 1) (sym (add-mul-mod_self_right (a * y) c (2 ^ 64))))
+    ∙ sym (fused_held a y c g x z k few A Y C (le_trans over (le_of_eq upper)))

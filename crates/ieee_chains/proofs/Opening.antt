@@ -3,18 +3,17 @@ use mathlib.Core.Path.{◌≡◌, refl, sym, ap, ap₂, ◌∙◌, subst}
 use mathlib.Core.Logic.{inl, inr}
 use mathlib.Core.Bool.{false}
 use Prim.Native.Nat.{ℕ, zero, suc, ◌+◌, ◌-◌, ◌*◌, ◌/◌, ◌%◌, ◌^◌, ◌≤◌, ◌<◌, min}
-use native.Mathlib.Nat.{le_trans, le_of_eq, lt_of_lt_of_le, lt_of_le_of_lt, mul-pos, mul-le-mul, mul-le-mul_right, div-le_self, le-add_right, suc-mul, pow-succ'}
+use native.Mathlib.Nat.{le_refl, le_of_suc-le-suc, div-lt_iff_lt-mul, le-div_iff_mul-le, mul-lt-mul_of_pos_right, mul_assoc, le_trans, le_of_eq, lt_of_lt_of_le, lt_of_le_of_lt, mul-pos, mul-le-mul, mul-le-mul_right, div-le_self, le-add_right, suc-mul, pow-succ'}
 use native.Mathlib.Omega.{arith}
 use lib.Dec.{T, lit<, lit≤}
-use lib.Pow.{pow-add, pow_pos, pow_mono}
+use lib.Pow.{pow-add, pow_pos, pow_mono, shr-shr, shl-shr}
 use lib.Count.{count_leading_zeros, leading_top}
 use lib.Ieee.{Float, binary64, size, round, fits, to_bits, of_bits, nan_bits}
 use lib.Ieee.Bits.{of_bits-to_bits}
 use lib.Ieee.Exact.{HasValue, units_val}
-use Rattle.ieee_words.specs.Words.{words, jammed}
+use Rattle.ieee_words.specs.Words.{jammed}
 use Rattle.ieee_significands.proofs.Rounding.{Close, round_close, jam_close, size_gt, pow_lt_back}
 use Rattle.ieee_significands.proofs.Packing.{Whole, limit, magnitude_low, pattern_no_nan, pattern_is, full_whole, full_is, zeros_pos, raised_full, raised_exact}
-use Rattle.ieee_words.proofs.Words.{far_quotient, shifted_in}
 use Rattle.ieee.specs.Fused.{fused_of}
 use Rattle.ieee_chains.specs.Open.{value_of, field, Digits}
 use Rattle.ieee.proofs.Sums.{sum_like, sum_same}
@@ -294,7 +293,10 @@ module _ (q i y j k l : ℕ) (O : Operands q i y j k l) where
       placed : (k A P L : ℕ) → k * A * L * (2 ^ 20 * P * (L * L)) ≡ 4 * k * (A * (2 ^ 18 * P * L)) * (L * L)
       placed k A P L = omega arith
 
-  -- the size of the product
+  -- the size of the product, and of an upper word
+  upper_le : (n m : ℕ) → n ≤ m * 2 ^ 64 → n / 2 ^ 64 ≤ m
+  upper_le n m h = le_of_suc-le-suc ((div-lt_iff_lt-mul (pow_pos 64)).1 (lt_of_le_of_lt h (mul-lt-mul_of_pos_right (le_refl (suc m)) (pow_pos 64))))
+
   product_le : v ≤ 2 ^ 61 * 2 ^ 64
   product_le = le_trans (mul-le-mul (at_most q 53 9 O.first.1) (at_most y 53 10 O.second.1)) (le_of_eq split)
     where
@@ -313,154 +315,139 @@ module _ (q i y j k l : ℕ) (O : Operands q i y j k l) where
       at_least : (n a b : ℕ) → 2 ^ a ≤ n → 2 ^ (a + b) ≤ n * 2 ^ b
       at_least n a b h = le_trans (le_of_eq (pow-add 2 a b)) (mul-le-mul_right (2 ^ b) h)
 
-  -- the upper and the lower word of the product
-  module _ (vh vl : ℕ) (L : vl < 2 ^ 64) (e : words vh vl ≡ v) where
-    pub upper_le : vh ≤ 2 ^ 61
-    upper_le = go vh vl (le_trans (le_of_eq e) product_le)
+  -- the product shifted to the place of the third operand: a is what is left of it, and b the sticky digit
+  module _ (le : i + j ≤ l + 1027) (a b : ℕ) (is : 2 * a + b ≡ jammed v (64 + (l + 1027 - (i + j)))) where
+    abbrev d : ℕ
+    d = l + 1027 - (i + j)
+
+    near_le : 2 * a + b ≤ 2 ^ 62 + 1
+    near_le =
+        le_trans (le_of_eq is)
+        (go (v / 2 ^ (64 + d)) (v % 2 ^ (64 + d)) (le_trans (le_of_eq (sym (shr-shr v 64 d))) (le_trans (div-le_self (v / 2 ^ 64) (2 ^ d)) (upper_le v (2 ^ 61) product_le))))
       where
-        go : (h l : ℕ) → h * 2 ^ 64 + l ≤ 2 ^ 61 * 2 ^ 64 → h ≤ 2 ^ 61
-        go h l g = omega arith
+        go : (q r : ℕ) → q ≤ 2 ^ 61 → 2 * q + min r 1 ≤ 2 ^ 62 + 1
+        go q r h = omega arith
 
-    pub upper_ge : 2 ^ 59 ≤ vh
-    upper_ge = go vh vl L (le_trans product_ge (le_of_eq (sym e)))
+    pub near_bounds : (2 ^ 54 ≤ k * 4 + a) × (k * 4 + a < 2 ^ 62)
+    near_bounds = go k a b O.third.0 O.third.1 near_le
       where
-        go : (h l : ℕ) → l < 2 ^ 64 → 2 ^ 59 * 2 ^ 64 ≤ h * 2 ^ 64 + l → 2 ^ 59 ≤ h
-        go h l b g = omega arith
+        go : (k a b : ℕ) → 2 ^ 52 ≤ k → k ≤ 2 ^ 53 → 2 * a + b ≤ 2 ^ 62 + 1 → (2 ^ 54 ≤ k * 4 + a) × (k * 4 + a < 2 ^ 62)
+        go k a b x y z = (omega arith, omega arith)
 
-    -- the product shifted to the place of the third operand: a is what is left of it, and b the sticky digit
-    module _ (le : i + j ≤ l + 1027) (a b : ℕ) (is : 2 * a + b ≡ jammed (words vh vl) (64 + (l + 1027 - (i + j)))) where
-      abbrev d : ℕ
-      d = l + 1027 - (i + j)
+    pub near_step : round binary64 false ((2 * (k * 4 + a) + b) * 2 ^ (l + 8 + 1192)) (2 ^ 2277) ≡ asked
+    near_step =
+        let N = l + 1200 in
+        let A = v / 2 ^ (64 + d) in
+        let x = 2 * v * 2 ^ (i + j + 109) in
+        let r = jammed v (64 + d) in
+        let C : Close (suc N) A x (r * 2 ^ N) = subst (λ (n : ℕ). Close (suc n) A x (r * 2 ^ n)) (join i j l le) (jam_close v (64 + d) (i + j + 109)) in
+        ap₂ (λ (t n : ℕ). round binary64 false (t * 2 ^ n) (2 ^ 2277)) (regroup k a b ∙ ap (λ (t : ℕ). 8 * k + t) is) (same l)
+        ∙ ap (λ (t : ℕ). round binary64 false t (2 ^ 2277)) (spread k r (2 ^ N) ∙ ap (λ (t : ℕ). 4 * k * t + r * 2 ^ N) (sym (pow-succ' 2 N)))
+        ∙ sym (round_close binary64 false 1203 (suc N) (4 * k + A) (4 * k * 2 ^ suc N + x) (4 * k * 2 ^ suc N + r * 2 ^ N) (digits A) (more (suc N) A x (r * 2 ^ N) C))
+        ∙ ap (λ (t : ℕ). round binary64 false t (2 ^ 2277)) (swap (4 * k * 2 ^ suc N) x ∙ ap (λ (n : ℕ). x + 4 * k * 2 ^ n) (next l))
+        ∙ sym fused_exact
+      where
+        join : (i j l : ℕ) → i + j ≤ l + 1027 → i + j + 109 + (64 + (l + 1027 - (i + j))) ≡ l + 1200
+        join i j l h = omega arith
 
-      near_le : 2 * a + b ≤ 2 ^ 62 + 1
-      near_le =
-          le_trans (le_of_eq is)
-          (go (words vh vl / 2 ^ (64 + d)) (words vh vl % 2 ^ (64 + d)) (le_trans (le_of_eq (far_quotient vh vl d L)) (le_trans (div-le_self vh (2 ^ d)) upper_le)))
+        regroup : (k a b : ℕ) → 2 * (k * 4 + a) + b ≡ 8 * k + (2 * a + b)
+        regroup k a b = omega arith
+
+        same : (l : ℕ) → l + 8 + 1192 ≡ l + 1200
+        same l = omega arith
+
+        next : (l : ℕ) → suc (l + 1200) ≡ l + 1201
+        next l = omega arith
+
+        swap : (a b : ℕ) → a + b ≡ b + a
+        swap a b = omega arith
+
+        spread : (k r p : ℕ) → (8 * k + r) * p ≡ 4 * k * (2 * p) + r * p
+        spread k r p = omega arith
+
+        digits : (A : ℕ) → 53 < size (4 * k + A)
+        digits A = size_gt (4 * k + A) 53 (go k A O.third.0)
+          where
+            go : (k A : ℕ) → 2 ^ 52 ≤ k → 2 ^ 53 ≤ 4 * k + A
+            go k A h = omega arith
+
+        more : (n A a b : ℕ) → Close n A a b → Close n (4 * k + A) (4 * k * 2 ^ n + a) (4 * k * 2 ^ n + b)
+        more n A a b (inl s) = inl (ap (λ (x : ℕ). 4 * k * 2 ^ n + x) s)
+        more n A a b (inr t) = inr (plus_inside n (4 * k) A a t.0, plus_inside n (4 * k) A b t.1)
+
+  -- the third operand shifted to the place of the product
+  module _ (lt : l + 1027 < i + j) (close : i + j < l + 1091) where
+    abbrev D : ℕ
+    D = i + j - (l + 1027)
+
+    -- the third operand at that place
+    abbrev w : ℕ
+    w = k * 4 * 2 ^ 64 / 2 ^ D
+
+    abbrev s : ℕ
+    s = v + w
+
+    D-lt : D < 64
+    D-lt = go i j l close
+      where
+        go : (i j l : ℕ) → i + j < l + 1091 → i + j - (l + 1027) < 64
+        go i j l h = omega arith
+
+    w_is : w ≡ k * 4 * 2 ^ (64 - D)
+    w_is = ap (λ (x : ℕ). k * 4 * x / 2 ^ D) (sym (ap (λ (x : ℕ). 2 ^ x) (join D D-lt)) ∙ pow-add 2 (64 - D) D) ∙ ap (λ (x : ℕ). x / 2 ^ D) (sym (mul_assoc (k * 4) (2 ^ (64 - D)) (2 ^ D))) ∙ shl-shr (k * 4 * 2 ^ (64 - D)) D
+      where
+        join : (d : ℕ) → d < 64 → 64 - d + d ≡ 64
+        join d h = omega arith
+
+    w_le : w ≤ 2 ^ 55 * 2 ^ 64
+    w_le = le_trans (div-le_self (k * 4 * 2 ^ 64) (2 ^ D)) (mul-le-mul_right (2 ^ 64) (go k O.third.1))
+      where
+        go : (k : ℕ) → k ≤ 2 ^ 53 → k * 4 ≤ 2 ^ 55
+        go k h = omega arith
+
+    s_le : s ≤ (2 ^ 61 + 2 ^ 55) * 2 ^ 64
+    s_le = both (2 ^ 61) (2 ^ 55) (2 ^ 64) v w product_le w_le
+      where
+        both : (a b p x y : ℕ) → x ≤ a * p → y ≤ b * p → x + y ≤ (a + b) * p
+        both a b p x y h g = omega arith
+
+    sum_ge : 2 ^ 59 ≤ s / 2 ^ 64
+    sum_ge = (le-div_iff_mul-le (pow_pos 64)).1 (le_trans product_ge (le-add_right v w))
+
+    sum_le : s / 2 ^ 64 ≤ 2 ^ 61 + 2 ^ 55
+    sum_le = upper_le s (2 ^ 61 + 2 ^ 55) s_le
+
+    -- a is the upper word of the sum, and b the sticky digit
+    module _ (a b : ℕ) (is : 2 * a + b ≡ jammed s 64) (digit : b ≤ 1) where
+      pub far_bounds : (2 ^ 54 ≤ a) × (a < 2 ^ 62)
+      far_bounds = go (s / 2 ^ 64) a b (s % 2 ^ 64) is digit sum_ge sum_le
         where
-          go : (q r : ℕ) → q ≤ 2 ^ 61 → 2 * q + min r 1 ≤ 2 ^ 62 + 1
-          go q r h = omega arith
+          go : (h a b t : ℕ) → 2 * a + b ≡ 2 * h + min t 1 → b ≤ 1 → 2 ^ 59 ≤ h → h ≤ 2 ^ 61 + 2 ^ 55 → (2 ^ 54 ≤ a) × (a < 2 ^ 62)
+          go h a b t e d x y = (omega arith, omega arith)
 
-      pub near_bounds : (2 ^ 54 ≤ k * 4 + a) × (k * 4 + a < 2 ^ 62)
-      near_bounds = go k a b O.third.0 O.third.1 near_le
-        where
-          go : (k a b : ℕ) → 2 ^ 52 ≤ k → k ≤ 2 ^ 53 → 2 * a + b ≤ 2 ^ 62 + 1 → (2 ^ 54 ≤ k * 4 + a) × (k * 4 + a < 2 ^ 62)
-          go k a b x y z = (omega arith, omega arith)
-
-      pub near_step : round binary64 false ((2 * (k * 4 + a) + b) * 2 ^ (l + 8 + 1192)) (2 ^ 2277) ≡ asked
-      near_step =
-          let N = l + 1200 in
-          let A = v / 2 ^ (64 + d) in
-          let x = 2 * v * 2 ^ (i + j + 109) in
-          let r = jammed v (64 + d) in
-          let C : Close (suc N) A x (r * 2 ^ N) = subst (λ (n : ℕ). Close (suc n) A x (r * 2 ^ n)) (join i j l le) (jam_close v (64 + d) (i + j + 109)) in
-          ap₂ (λ (t n : ℕ). round binary64 false (t * 2 ^ n) (2 ^ 2277)) (regroup k a b ∙ ap (λ (t : ℕ). 8 * k + t) (is ∙ ap (λ (t : ℕ). jammed t (64 + d)) e)) (same l)
-          ∙ ap (λ (t : ℕ). round binary64 false t (2 ^ 2277)) (spread k r (2 ^ N) ∙ ap (λ (t : ℕ). 4 * k * t + r * 2 ^ N) (sym (pow-succ' 2 N)))
-          ∙ sym (round_close binary64 false 1203 (suc N) (4 * k + A) (4 * k * 2 ^ suc N + x) (4 * k * 2 ^ suc N + r * 2 ^ N) (digits A) (more (suc N) A x (r * 2 ^ N) C))
-          ∙ ap (λ (t : ℕ). round binary64 false t (2 ^ 2277)) (swap (4 * k * 2 ^ suc N) x ∙ ap (λ (n : ℕ). x + 4 * k * 2 ^ n) (next l))
+      pub far_step : round binary64 false ((2 * a + b) * 2 ^ (i + j - 1019 + 1192)) (2 ^ 2277) ≡ asked
+      far_step =
+          let E = i + j + 109 in
+          ap₂ (λ (x n : ℕ). round binary64 false (x * 2 ^ n) (2 ^ 2277)) is (same i j l lt)
+          ∙ sym (round_close binary64 false 1203 (suc (E + 64)) (s / 2 ^ 64) (2 * s * 2 ^ E) (jammed s 64 * 2 ^ (E + 64)) digits (jam_close s 64 E))
+          ∙ ap (λ (x : ℕ). round binary64 false x (2 ^ 2277)) value
           ∙ sym fused_exact
         where
-          join : (i j l : ℕ) → i + j ≤ l + 1027 → i + j + 109 + (64 + (l + 1027 - (i + j))) ≡ l + 1200
-          join i j l h = omega arith
+          same : (i j l : ℕ) → l + 1027 < i + j → i + j - 1019 + 1192 ≡ i + j + 109 + 64
+          same i j l h = omega arith
 
-          regroup : (k a b : ℕ) → 2 * (k * 4 + a) + b ≡ 8 * k + (2 * a + b)
-          regroup k a b = omega arith
+          digits : 53 < size (s / 2 ^ 64)
+          digits = size_gt (s / 2 ^ 64) 53 (le_trans (lit≤ tt) sum_ge)
 
-          same : (l : ℕ) → l + 8 + 1192 ≡ l + 1200
-          same l = omega arith
-
-          next : (l : ℕ) → suc (l + 1200) ≡ l + 1201
-          next l = omega arith
-
-          swap : (a b : ℕ) → a + b ≡ b + a
-          swap a b = omega arith
-
-          spread : (k r p : ℕ) → (8 * k + r) * p ≡ 4 * k * (2 * p) + r * p
-          spread k r p = omega arith
-
-          digits : (A : ℕ) → 53 < size (4 * k + A)
-          digits A = size_gt (4 * k + A) 53 (go k A O.third.0)
+          value : 2 * s * 2 ^ (i + j + 109) ≡ exact
+          value =
+              let U = 2 ^ (i + j + 109) in
+              ap (λ (x : ℕ). 2 * (v + x) * U) w_is
+              ∙ spread v k (2 ^ (64 - D)) U
+              ∙ ap (λ (x : ℕ). 2 * v * U + 4 * k * x) (sym (pow-succ' 2 (64 - D + (i + j + 109)) ∙ ap (λ (x : ℕ). 2 * x) (pow-add 2 (64 - D) (i + j + 109))) ∙ ap (λ (n : ℕ). 2 ^ n) (place i j l lt close))
             where
-              go : (k A : ℕ) → 2 ^ 52 ≤ k → 2 ^ 53 ≤ 4 * k + A
-              go k A h = omega arith
+              spread : (v k p u : ℕ) → 2 * (v + k * 4 * p) * u ≡ 2 * v * u + 4 * k * (2 * (p * u))
+              spread v k p u = omega arith
 
-          more : (n A a b : ℕ) → Close n A a b → Close n (4 * k + A) (4 * k * 2 ^ n + a) (4 * k * 2 ^ n + b)
-          more n A a b (inl s) = inl (ap (λ (x : ℕ). 4 * k * 2 ^ n + x) s)
-          more n A a b (inr t) = inr (plus_inside n (4 * k) A a t.0, plus_inside n (4 * k) A b t.1)
-
-    -- the third operand shifted to the place of the product
-    module _ (lt : l + 1027 < i + j) (close : i + j < l + 1091) where
-      abbrev D : ℕ
-      D = i + j - (l + 1027)
-
-      abbrev wh : ℕ
-      wh = k * 4 / 2 ^ D
-
-      abbrev wl : ℕ
-      wl = k * 4 * 2 ^ (64 - D) % 2 ^ 64
-
-      D-lt : D < 64
-      D-lt = go i j l close
-        where
-          go : (i j l : ℕ) → i + j < l + 1091 → i + j - (l + 1027) < 64
-          go i j l h = omega arith
-
-      wh_le : wh ≤ 2 ^ 55
-      wh_le = le_trans (div-le_self (k * 4) (2 ^ D)) (go k O.third.1)
-        where
-          go : (k : ℕ) → k ≤ 2 ^ 53 → k * 4 ≤ 2 ^ 55
-          go k h = omega arith
-
-      pub far_room : wl < 2 ^ 64 → words vh vl + words wh wl < 2 ^ 128
-      far_room h = lt_of_lt_of_le (go vh vl wh wl upper_le L wh_le h) (lit≤ tt)
-        where
-          go : (a b c d : ℕ) → a ≤ 2 ^ 61 → b < 2 ^ 64 → c ≤ 2 ^ 55 → d < 2 ^ 64 → words a b + words c d < 2 ^ 126
-          go a b c d p q r s = omega arith
-
-      module _ (sh sl : ℕ) (W : wl < 2 ^ 64) (total : words sh sl ≡ words vh vl + words wh wl) where
-        sum_ge : 2 ^ 59 ≤ words sh sl / 2 ^ 64
-        sum_ge = go (words sh sl) vh vl wh wl total upper_ge
-          where
-            go : (s a b c d : ℕ) → s ≡ words a b + words c d → 2 ^ 59 ≤ a → 2 ^ 59 ≤ s / 2 ^ 64
-            go s a b c d e g = omega arith
-
-        sum_le : words sh sl / 2 ^ 64 ≤ 2 ^ 61 + 2 ^ 55 + 1
-        sum_le = go (words sh sl) vh vl wh wl L W total upper_le wh_le
-          where
-            go : (s a b c d : ℕ) → b < 2 ^ 64 → d < 2 ^ 64 → s ≡ words a b + words c d → a ≤ 2 ^ 61 → c ≤ 2 ^ 55 → s / 2 ^ 64 ≤ 2 ^ 61 + 2 ^ 55 + 1
-            go s a b c d h k e g f = omega arith
-
-        -- a is the upper word of the sum, and b the sticky digit
-        module _ (a b : ℕ) (is : 2 * a + b ≡ jammed (words sh sl) 64) (digit : b ≤ 1) where
-          pub far_bounds : (2 ^ 54 ≤ a) × (a < 2 ^ 62)
-          far_bounds = go (words sh sl / 2 ^ 64) a b (words sh sl % 2 ^ 64) is digit sum_ge sum_le
-            where
-              go : (h a b t : ℕ) → 2 * a + b ≡ 2 * h + min t 1 → b ≤ 1 → 2 ^ 59 ≤ h → h ≤ 2 ^ 61 + 2 ^ 55 + 1 → (2 ^ 54 ≤ a) × (a < 2 ^ 62)
-              go h a b t e d x y = (omega arith, omega arith)
-
-          pub far_step : round binary64 false ((2 * a + b) * 2 ^ (i + j - 1019 + 1192)) (2 ^ 2277) ≡ asked
-          far_step =
-              let s = words sh sl in
-              let E = i + j + 109 in
-              ap₂ (λ (x n : ℕ). round binary64 false (x * 2 ^ n) (2 ^ 2277)) is (same i j l lt)
-              ∙ sym (round_close binary64 false 1203 (suc (E + 64)) (s / 2 ^ 64) (2 * s * 2 ^ E) (jammed s 64 * 2 ^ (E + 64)) digits (jam_close s 64 E))
-              ∙ ap (λ (x : ℕ). round binary64 false x (2 ^ 2277)) value
-              ∙ sym fused_exact
-            where
-              same : (i j l : ℕ) → l + 1027 < i + j → i + j - 1019 + 1192 ≡ i + j + 109 + 64
-              same i j l h = omega arith
-
-              digits : 53 < size (words sh sl / 2 ^ 64)
-              digits = size_gt (words sh sl / 2 ^ 64) 53 (le_trans (lit≤ tt) sum_ge)
-
-              value : 2 * words sh sl * 2 ^ (i + j + 109) ≡ exact
-              value =
-                  let U = 2 ^ (i + j + 109) in
-                  ap (λ (x : ℕ). 2 * x * U) (total ∙ ap₂ ◌+◌ e (shifted_in (k * 4) D D-lt))
-                  ∙ spread v k (2 ^ (64 - D)) U
-                  ∙ ap (λ (x : ℕ). 2 * v * U + 4 * k * x) (sym (pow-succ' 2 (64 - D + (i + j + 109)) ∙ ap (λ (x : ℕ). 2 * x) (pow-add 2 (64 - D) (i + j + 109))) ∙ ap (λ (n : ℕ). 2 ^ n) (place i j l lt close))
-                where
-                  spread : (v k p u : ℕ) → 2 * (v + k * 4 * p) * u ≡ 2 * v * u + 4 * k * (2 * (p * u))
-                  spread v k p u = omega arith
-
-                  place : (i j l : ℕ) → l + 1027 < i + j → i + j < l + 1091 → suc (64 - (i + j - (l + 1027)) + (i + j + 109)) ≡ l + 1201
-                  place i j l h g = omega arith
+              place : (i j l : ℕ) → l + 1027 < i + j → i + j < l + 1091 → suc (64 - (i + j - (l + 1027)) + (i + j + 109)) ≡ l + 1201
+              place i j l h g = omega arith

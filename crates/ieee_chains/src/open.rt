@@ -6,10 +6,10 @@ ghost use Rattle.std.specs.Float.Ieee.{is_nan};
 ghost use Rattle.ieee.specs.Fused.{fused_of};
 ghost use Rattle.ieee_chains.specs.Open.{value_of, field, Digits};
 
-use super::rounding;
+use super::rounding::Sum;
 
 // sig * 2^exp in units of 2^-1074, with a significand of 53 digits or of 2^53.
-#[derive(Clone, Copy)]
+#[derive(Clone, Copy, Debug, PartialEq, Eq)]
 pub struct Open {
     pub sig: u64,
     pub exp: u64,
@@ -30,6 +30,7 @@ pub fn opened(x: f64) -> Open
 // q * 2^i times y * 2^j, plus c: the exact value, rounded once. The sum is taken at the place of c, with what
 // the product has below it as a sticky digit; a product that is far larger keeps its own place, and c loses no
 // digit there. The two are less than 64 places apart, as a caller shows of its argument and coefficients.
+// It takes four numbers and not two `Open`, as `math_hart` calls it.
 pub fn step(q: u64, i: u64, y: u64, j: u64, c: f64) -> Open
     requires { Digits q × Digits y × (i ≤ 2000) × (j ≤ 2000) × T (not (is_nan c)) × (62 ≤ field c) × (field c ≤ 2000) × (field c + 1026 < i + j + 64) × (i + j < field c + 1090) }
     ensures { (value_of result.sig result.exp ≡ fused_of (value_of q i) (value_of y j) c) × Digits result.sig × (field c ≤ result.exp + 1) × (result.exp ≤ max (field c + 6) (i + j - 1020)) }
@@ -39,27 +40,28 @@ pub fn step(q: u64, i: u64, y: u64, j: u64, c: f64) -> Open
     let p = i + j;
     let l = o.exp + 1027;
     if p <= l {
-        let w = ieee_words::jam_below(v.hi, v.lo, l - p);
-        rounded(o.sig * 4 + w.hi, w.lo, o.exp + 8)
+        let w = ieee_words::jam_below(v, l - p);
+        let s = Sum {
+            whole: o.sig * 4 + w.left,
+            sticky: w.sticky,
+        };
+        rounded(s, o.exp + 8)
     } else {
-        let s = ieee_words::plus(
-            v.hi,
-            v.lo,
-            (o.sig * 4) >> (p - l),
-            (o.sig * 4) << (64 - (p - l)),
-        );
-        let w = ieee_words::jam_below(s.hi, s.lo, 0);
-        rounded(w.hi, w.lo, p - 1019)
+        let t = ieee_words::jam_below(v + (ieee_words::above(o.sig * 4) >> (p - l)), 0);
+        let s = Sum {
+            whole: t.left,
+            sticky: t.sticky,
+        };
+        rounded(s, p - 1019)
     }
 }
 
-// h * 2^place in units of 2^-1084, and a little more where the sticky digit s is 1, to 53 digits. A caller has
-// the bounds from the larger term of a step.
-fn rounded(h: u64, s: u64, place: u64) -> Open
-    requires { (2 ^ 54 ≤ h) × (h < 2 ^ 62) × (s ≤ 1) × (62 ≤ place) × (place < 2 ^ 13) }
-    ensures { (value_of result.sig result.exp ≡ Ieee.round binary64 false ((2 * h + s) * 2 ^ (place + 1192)) (2 ^ 2277)) × Digits result.sig × (place ≤ result.exp + 8) × (result.exp + 1 ≤ place) }
+// A sum in units of 2^(place - 1084), to 53 digits. A caller has the bounds from the larger term of a step.
+fn rounded(s: Sum, place: u64) -> Open
+    requires { (2 ^ 54 ≤ s.whole) × (62 ≤ place) × (place < 2 ^ 13) }
+    ensures { (value_of result.sig result.exp ≡ Ieee.round binary64 false ((2 * s.whole + s.sticky) * 2 ^ (place + 1192)) (2 ^ 2277)) × Digits result.sig × (place ≤ result.exp + 8) × (result.exp + 1 ≤ place) }
 {
-    let k = rounding::kept(h, s);
+    let k = s.rounded();
     Open {
         sig: k.digits,
         exp: place - k.up,

@@ -7,7 +7,7 @@ use native.Mathlib.Nat.{le_refl, le_trans, le_of_eq, lt_of_lt_of_le, lt_of_le_of
 use native.Mathlib.Omega.{arith}
 use native.Mathlib.Numerals.{sub-one}
 use lib.Dec.{T, lit<, lit≤, ltb, ltb→lt, nltb→le, lt→ltb}
-use lib.Arith.{lt-one, digits_div}
+use lib.Arith.{lt-one}
 use lib.Pow.{pow-add, pow_pos, pow_mono, pow-lt, shl_lt, shl-shr, shr-shr}
 use lib.Count.{count_leading_zeros, leading_top}
 use lib.Ieee.{Float, nan, inf, fin, Format, binary64, prec, low, down, size, nearest, odd, units, round, is_nan, fits, nan_bits, hid, top, to_bits, of_bits, emax}
@@ -15,7 +15,7 @@ use lib.Ieee.Fits.{down_pos, odd-fits, nearest-le, inf-fits}
 use lib.Ieee.Bits.{of_bits-to_bits, nan_bits_is}
 use lib.Ieee.Exact.{HasValue, units_val}
 use lib.Ieee.Nearest.{closest, closest_same, nearest-ge}
-use Rattle.ieee_words.specs.Words.{words, jammed, Width}
+use Rattle.ieee_words.specs.Words.{jammed, Width}
 use Rattle.ieee_significands.proofs.Rounding.{Drops, dropped, round_int, round_close, jam_close, closest_close, pow_lt_back, size_gt, compare_lt, compare_gt, order}
 
 -- ---- a quarter, to the nearest
@@ -85,25 +85,21 @@ kept_small m e t h l =
     go : (q r : ℕ) → q < 2 ^ 54 → 2 * q + min r 1 < 2 ^ 55
     go q r h = omega arith
 
--- a number of two words that is below 2 ^ 55 is its lower word
-pub lower_word : (hi lo n : ℕ) → words hi lo ≡ n → n < 2 ^ 55 → lo ≡ n
-lower_word hi lo n e h = omega arith
-
 -- v * 2 ^ exp has no digit below the last that is kept
-module _ (hi lo e t : ℕ) (P : 0 < words hi lo) (h : t ≤ e + 1) (l : words hi lo * 2 ^ e < 2 ^ (t + 53)) where
+module _ (v e t : ℕ) (P : 0 < v) (h : t ≤ e + 1) (l : v * 2 ^ e < 2 ^ (t + 53)) where
   abbrev up_by : ℕ
   up_by = e + 2 - t
 
-  scaled : words hi lo * 2 ^ up_by * 2 ^ t ≡ words hi lo * 2 ^ e * 4
+  scaled : v * 2 ^ up_by * 2 ^ t ≡ v * 2 ^ e * 4
   scaled =
-      mul_assoc (words hi lo) (2 ^ up_by) (2 ^ t)
-      ∙ ap (λ (x : ℕ). words hi lo * x) (sym (pow-add 2 up_by t) ∙ ap (λ (x : ℕ). 2 ^ x) (join e t h) ∙ pow-add 2 e 2)
-      ∙ sym (mul_assoc (words hi lo) (2 ^ e) 4)
+      mul_assoc (v) (2 ^ up_by) (2 ^ t)
+      ∙ ap (λ (x : ℕ). v * x) (sym (pow-add 2 up_by t) ∙ ap (λ (x : ℕ). 2 ^ x) (join e t h) ∙ pow-add 2 e 2)
+      ∙ sym (mul_assoc (v) (2 ^ e) 4)
     where
       join : (e t : ℕ) → t ≤ e + 1 → e + 2 - t + t ≡ e + 2
       join e t h = omega arith
 
-  small : words hi lo * 2 ^ up_by < 2 ^ 55
+  small : v * 2 ^ up_by < 2 ^ 55
   small =
       lt_of_mul-lt-mul_right (2 ^ t)
       (lt_of_le_of_lt (le_of_eq scaled)
@@ -116,16 +112,16 @@ module _ (hi lo e t : ℕ) (P : 0 < words hi lo) (h : t ≤ e + 1) (l : words hi
   pub shift_small : up_by < 64
   shift_small = lt_of_lt_of_le (pow_lt_back up_by 55 (lt_of_le_of_lt (le_trans (le_of_eq (sym (one-mul (2 ^ up_by)))) (mul-le-mul_right (2 ^ up_by) P)) small)) (lit≤ tt)
 
-  alone : words hi lo ≡ lo
-  alone = sym (lower_word hi lo (words hi lo) refl (lt_of_le_of_lt (le_trans (le_of_eq (sym (mul-one (words hi lo)))) (mul-le-mul_left (words hi lo) (pow_pos up_by))) small))
+  pub small_enough : v < 2 ^ 64
+  small_enough = lt_of_lt_of_le (lt_of_le_of_lt (le_trans (le_of_eq (sym (mul-one v))) (mul-le-mul_left v (pow_pos up_by))) small) (lit≤ tt)
 
-  exact : lo * 2 ^ up_by % 2 ^ 64 ≡ words hi lo * 2 ^ up_by
-  exact = ap (λ (x : ℕ). x * 2 ^ up_by % 2 ^ 64) (sym alone) ∙ mod-eq_of_lt (lt_of_lt_of_le small (lit≤ tt))
+  exact : v * 2 ^ up_by % 2 ^ 64 ≡ v * 2 ^ up_by
+  exact = mod-eq_of_lt (lt_of_lt_of_le small (lit≤ tt))
 
-  pub kept_left : (lo * 2 ^ up_by % 2 ^ 64 < 2 ^ 55) × (closest (lo * 2 ^ up_by % 2 ^ 64) 4 ≡ closest (words hi lo * 2 ^ e) (2 ^ t))
+  pub kept_left : (v * 2 ^ up_by % 2 ^ 64 < 2 ^ 55) × (closest (v * 2 ^ up_by % 2 ^ 64) 4 ≡ closest (v * 2 ^ e) (2 ^ t))
   kept_left = (
     subst (λ (x : ℕ). x < 2 ^ 55) (sym exact) small,
-    ap (λ (x : ℕ). closest x 4) exact ∙ closest_same (words hi lo * 2 ^ up_by) 4 (words hi lo * 2 ^ e) (2 ^ t) (zero-lt-suc 3) (pow_pos t) scaled,
+    ap (λ (x : ℕ). closest x 4) exact ∙ closest_same (v * 2 ^ up_by) 4 (v * 2 ^ e) (2 ^ t) (zero-lt-suc 3) (pow_pos t) scaled,
   )
 
 -- ---- the bit pattern of a finite value, by its size in units of the smallest value
@@ -468,20 +464,23 @@ module _ (n m e : ℕ) (P : 0 < n) (under : n < 2 ^ 63) (S : (j : ℕ) → 2 ^ j
       join : (u e : ℕ) → u ≤ 62 → 1255 ≤ e → u + (e - u) ≡ e
       join u e k h = omega arith
 
--- a number with 55 digits or more in its upper word: r is that word, with its last digit sticky
-module _ (hi lo e r : ℕ) (L : lo < 2 ^ 64) (over : 2 ^ 54 ≤ hi) (h : 1203 ≤ e) (j65 : r ≡ jammed (words hi lo) 65) where
-  half : words hi lo / 2 ^ 65 ≡ hi / 2
-  half = sym (shr-shr (words hi lo) 64 1) ∙ ap (λ (x : ℕ). x / 2) (digits_div hi L)
+pub upper_under : (v hi : ℕ) → hi ≡ v / 2 ^ 64 → v < 2 ^ 127 → hi < 2 ^ 63
+upper_under v hi e h = lt_of_le_of_lt (le_of_eq e) ((div-lt_iff_lt-mul (pow_pos 64)).1 (lt_of_lt_of_le h (le_of_eq (pow-add 2 63 64))))
 
-  -- it has as many digits as the word
+-- a number with 55 digits or more in its upper word: r is that word, with its last digit sticky
+module _ (v hi e r : ℕ) (H : hi ≡ v / 2 ^ 64) (over : 2 ^ 54 ≤ hi) (h : 1203 ≤ e) (j65 : r ≡ jammed v 65) where
+  half : v / 2 ^ 65 ≡ hi / 2
+  half = sym (shr-shr v 64 1) ∙ ap (λ (x : ℕ). x / 2) (sym H)
+
+  -- r has as many digits as the word
   pub word_digits : (j : ℕ) → 2 ^ j ≤ hi → hi < 2 ^ suc j → (2 ^ j ≤ r) × (r < 2 ^ suc j)
   word_digits j k l = (
     le_trans (first j k l) (le_of_eq (sym is)),
-    lt_of_le_of_lt (le_of_eq is) (lt_of_lt_of_le (second (2 ^ j) hi (words hi lo % 2 ^ 65) (lt_of_lt_of_le l (le_of_eq (pow-succ' 2 j)))) (le_of_eq (sym (pow-succ' 2 j)))),
+    lt_of_le_of_lt (le_of_eq is) (lt_of_lt_of_le (second (2 ^ j) hi (v % 2 ^ 65) (lt_of_lt_of_le l (le_of_eq (pow-succ' 2 j)))) (le_of_eq (sym (pow-succ' 2 j)))),
   )
     where
-      is : r ≡ 2 * (hi / 2) + min (words hi lo % 2 ^ 65) 1
-      is = j65 ∙ ap (λ (x : ℕ). 2 * x + min (words hi lo % 2 ^ 65) 1) half
+      is : r ≡ 2 * (hi / 2) + min (v % 2 ^ 65) 1
+      is = j65 ∙ ap (λ (x : ℕ). 2 * x + min (v % 2 ^ 65) 1) half
 
       lower : (p hi t : ℕ) → 2 * p ≤ hi → 2 * p ≤ 2 * (hi / 2) + min t 1
       lower p hi t h = omega arith
@@ -489,15 +488,15 @@ module _ (hi lo e r : ℕ) (L : lo < 2 ^ 64) (over : 2 ^ 54 ≤ hi) (h : 1203 �
       second : (p hi t : ℕ) → hi < 2 * p → 2 * (hi / 2) + min t 1 < 2 * p
       second p hi t h = omega arith
 
-      first : (j : ℕ) → 2 ^ j ≤ hi → hi < 2 ^ suc j → 2 ^ j ≤ 2 * (hi / 2) + min (words hi lo % 2 ^ 65) 1
+      first : (j : ℕ) → 2 ^ j ≤ hi → hi < 2 ^ suc j → 2 ^ j ≤ 2 * (hi / 2) + min (v % 2 ^ 65) 1
       first zero k l = absurd (not-le_of_lt l (le_trans (lit≤ tt) over))
-      first (suc i) k l = le_trans (le_of_eq (pow-succ' 2 i)) (lower (2 ^ i) hi (words hi lo % 2 ^ 65) (le_trans (le_of_eq (sym (pow-succ' 2 i))) k))
+      first (suc i) k l = le_trans (le_of_eq (pow-succ' 2 i)) (lower (2 ^ i) hi (v % 2 ^ 65) (le_trans (le_of_eq (sym (pow-succ' 2 i))) k))
 
-  pub word_rounds : (s : Bool) → round binary64 s (r * 2 ^ (e + 64)) (2 ^ 2277) ≡ round binary64 s (words hi lo * 2 ^ e) (2 ^ 2277)
+  pub word_rounds : (s : Bool) → round binary64 s (r * 2 ^ (e + 64)) (2 ^ 2277) ≡ round binary64 s (v * 2 ^ e) (2 ^ 2277)
   word_rounds s =
       ap₂ (λ (x y : ℕ). round binary64 s (x * 2 ^ y) (2 ^ 2277)) j65 (place e h)
-      ∙ sym (round_close binary64 s 1203 (suc (e - 1 + 65)) (words hi lo / 2 ^ 65) (2 * words hi lo * 2 ^ (e - 1)) (jammed (words hi lo) 65 * 2 ^ (e - 1 + 65)) digits (jam_close (words hi lo) 65 (e - 1)))
-      ∙ ap (λ (x : ℕ). round binary64 s x (2 ^ 2277)) (times_pred (words hi lo) (2 ^ (e - 1)) ∙ ap (λ (x : ℕ). words hi lo * x) (sym (pow-succ' 2 (e - 1)) ∙ ap (λ (x : ℕ). 2 ^ x) (pred e h)))
+      ∙ sym (round_close binary64 s 1203 (suc (e - 1 + 65)) (v / 2 ^ 65) (2 * v * 2 ^ (e - 1)) (jammed v 65 * 2 ^ (e - 1 + 65)) digits (jam_close v 65 (e - 1)))
+      ∙ ap (λ (x : ℕ). round binary64 s x (2 ^ 2277)) (times_pred v (2 ^ (e - 1)) ∙ ap (λ (x : ℕ). v * x) (sym (pow-succ' 2 (e - 1)) ∙ ap (λ (x : ℕ). 2 ^ x) (pred e h)))
     where
       place : (e : ℕ) → 1203 ≤ e → e + 64 ≡ e - 1 + 65
       place e h = omega arith
@@ -511,5 +510,5 @@ module _ (hi lo e r : ℕ) (L : lo < 2 ^ 64) (over : 2 ^ 54 ≤ hi) (h : 1203 �
       large : (hi : ℕ) → 2 ^ 54 ≤ hi → 2 ^ 53 ≤ hi / 2
       large hi h = omega arith
 
-      digits : 53 < size (words hi lo / 2 ^ 65)
-      digits = size_gt (words hi lo / 2 ^ 65) 53 (le_trans (large hi over) (le_of_eq (sym half)))
+      digits : 53 < size (v / 2 ^ 65)
+      digits = size_gt (v / 2 ^ 65) 53 (le_trans (large hi over) (le_of_eq (sym half)))

@@ -1,33 +1,27 @@
 -- The tests, the fields and the normalisation of `unpack`: what they give of a finite f64 is its value at full width (`fields`, `unpacked`). Assumes nothing.
 use mathlib.Core.Path.{◌≡◌, refl, sym, ap, ◌∙◌, subst}
-use mathlib.Core.Bool.{Bool, true, false, not, cond, true≢false, false≢true}
+use mathlib.Core.Bool.{Bool, true, false, not, cond}
 use Prim.Native.Nat.{ℕ, zero, suc, ◌+◌, ◌-◌, ◌*◌, ◌/◌, ◌%◌, ◌^◌, ◌≤◌, ◌<◌}
-use native.Mathlib.Nat.{le_trans, le_of_eq, lt_of_lt_of_le, lt_of_le_of_lt, lt_irrefl, mul_assoc, mul_right_comm, mul-le-mul_right, mod-eq_of_lt, mul-mod_left, add_comm}
+use native.Mathlib.Nat.{le_trans, le_of_eq, lt_of_lt_of_le, lt_of_le_of_lt, lt_irrefl, mul_assoc, mul_right_comm, mul-le-mul_right, mod-eq_of_lt, mul-mod_left, add_comm, zero-lt-suc}
 use native.Mathlib.Omega.{arith}
 use lib.Dec.{T, lit<, lit≤, leb, eqb, eqb_refl, T_not}
 use lib.Pow.{pow-add, pow_pos, shl_lt}
 use lib.Count.{count_leading_zeros, leading_top}
-use lib.Ieee.{Float, nan, inf, fin, binary64, up, down, neg, lt, odd, fits, is_nan, of_fields, of_bits, to_bits}
+use lib.Ieee.{Float, nan, inf, fin, binary64, up, down, odd, fits, is_nan, of_fields, of_bits, to_bits}
 use lib.Ieee.Bits.{of_bits-to_bits}
 use lib.Ieee.Exact.{HasValue, odd_sign}
 use lib.Ieee.Scale.{finite}
+use Rattle.std.specs.Float.{float_is_finite}
 use Rattle.ieee_significands.specs.Parts.{Normal, Unpacked, Fields}
 use Rattle.ieee_significands.proofs.Rounding.{pow_lt_back}
 
 -- ---- finite
 
-pub below_infinity : (x : Float) → lt x (of_bits binary64 0x7ff0_0000_0000_0000) ≡ true → lt (neg (of_bits binary64 0x7ff0_0000_0000_0000)) x ≡ finite x
-unfolding of_bits neg lt
-below_infinity nan h = refl
-below_infinity (inf true) h = refl
-below_infinity (inf false) h = absurd (false≢true h)
-below_infinity (fin s m e) h = refl
-
-pub not_below_infinity : (x : Float) → lt x (of_bits binary64 0x7ff0_0000_0000_0000) ≡ false → false ≡ finite x
-unfolding of_bits lt
-not_below_infinity nan h = refl
-not_below_infinity (inf s) h = refl
-not_below_infinity (fin s m e) h = absurd (true≢false h)
+pub finite_is : (x : Float) → float_is_finite x ≡ finite x
+unfolding float_is_finite
+finite_is nan = refl
+finite_is (inf s) = refl
+finite_is (fin s m e) = refl
 
 pub finite_no_nan : (x : Float) → T (finite x) → T (not (is_nan x))
 unfolding is_nan
@@ -246,3 +240,13 @@ unpacked x s u v m e h p q n = record {
   value = subst (λ (t : Bool). HasValue x t (m * 2 ^ e) (2 ^ 1138)) (sym p) (subst (λ (k : ℕ). HasValue x s k (2 ^ 1138)) (sym q) h);
   normal = n;
 }
+
+-- a finite number has one sign
+same_sign : (x : Float) (s t : Bool) (a b d : ℕ) → HasValue x s a d → HasValue x t b d → s ≡ t
+same_sign nan s t a b d v w = absurd v
+same_sign (inf k) s t a b d v w = absurd v
+same_sign (fin k m e) s t a b d v w = sym v.0 ∙ w.0
+
+pub fields_sign : (x : Float) (s t : Bool) (e f m n : ℕ) → Fields x s e f → Unpacked x t m n → s ≡ t
+fields_sign x s t zero f m n F U = same_sign x s t (f * 2 ^ 64) (m * 2 ^ n) (2 ^ 1138) (F.low refl) U.value
+fields_sign x s t (suc e) f m n F U = same_sign x s t ((f + 2 ^ 52) * 2 ^ (suc e + 63)) (m * 2 ^ n) (2 ^ 1138) (F.high (zero-lt-suc e)) U.value

@@ -1,26 +1,22 @@
 // The f64 nearest to a number of 128 bits times a power of two. Every rounding is done here.
-ghost use Rattle.std.specs.Prelude.{◌≡◌, false, cond, ◌+◌, ◌-◌, ◌*◌, ◌^◌, ◌≤◌, ◌<◌, max};
+ghost use Rattle.std.specs.Prelude.{◌≡◌, false, cond, ◌+◌, ◌-◌, ◌*◌, ◌/◌, ◌^◌, ◌≤◌, ◌<◌, max};
 ghost use Rattle.std.specs.Float.Ieee as Ieee;
 ghost use Rattle.std.specs.Float.{binary64};
 ghost use Rattle.std.specs.Float.Ieee.{units, to_bits};
 ghost use Rattle.std.specs.Float.Ieee.Nearest.{closest};
-ghost use Rattle.ieee_words.specs.Words.{words};
 
 // ±v * 2^exp in units of 2^-2277, rounded to nearest, ties to even. A sum where little cancels has digits
 // enough in its upper word, and where it is far from the subnormals and from the infinities too, no case is
 // left. A caller has the bounds from a sum of terms below 2^125.
-pub fn round(sign: bool, hi: u64, lo: u64, exp: u64) -> f64
-    requires { (hi < 2 ^ 63) × (exp < 2 ^ 13) }
-    ensures { result ≡ Ieee.round binary64 sign (words hi lo * 2 ^ exp) (2 ^ 2277) }
+pub fn round(sign: bool, v: u128, exp: u64) -> f64
+    requires { (v < 2 ^ 127) × (exp < 2 ^ 13) }
+    ensures { result ≡ Ieee.round binary64 sign (v * 2 ^ exp) (2 ^ 2277) }
 {
-    if 0x40_0000_0000_0000 <= hi {
-        if 1203 <= exp {
-            if exp < 3000 {
-                return raised(sign, hi, lo, exp);
-            }
-        }
+    if 0x40_0000_0000_0000 <= ieee_words::upper(v) && 1203 <= exp && exp < 3000 {
+        raised(sign, v, exp)
+    } else {
+        any(sign, v, exp)
     }
-    any(sign, hi, lo, exp)
 }
 
 // ±m * 2^exp, rounded, for an m of 63 digits: the last that is kept has the weight 2^10 in m. A caller has
@@ -34,26 +30,27 @@ pub fn full(sign: bool, m: u64, exp: u64) -> f64
 
 // ±v * 2^exp, rounded, for a v whose upper word has 55 to 63 digits, as a caller has tested: that word, with
 // its last digit sticky, is brought to 63 digits by the count of its leading zeros.
-fn raised(sign: bool, hi: u64, lo: u64, exp: u64) -> f64
-    requires { (2 ^ 54 ≤ hi) × (hi < 2 ^ 63) × (1203 ≤ exp) × (exp < 2 ^ 13) }
-    ensures { result ≡ Ieee.round binary64 sign (words hi lo * 2 ^ exp) (2 ^ 2277) }
+fn raised(sign: bool, v: u128, exp: u64) -> f64
+    requires { (2 ^ 54 ≤ v / 2 ^ 64) × (v < 2 ^ 127) × (1203 ≤ exp) × (exp < 2 ^ 13) }
+    ensures { result ≡ Ieee.round binary64 sign (v * 2 ^ exp) (2 ^ 2277) }
 {
-    let up = u64::leading_zeros(hi) as u64 - 1;
-    full(sign, ieee_words::jam_far(hi, lo, 0) << up, exp + 64 - up)
+    let up = ieee_words::upper(v).leading_zeros() as u64 - 1;
+    let m = ieee_words::jam(v, 64) as u64;
+    full(sign, m << up, exp + 64 - up)
 }
 
 // ±v * 2^exp, rounded, whatever its size. The last digit that is kept has the weight 2^unit: `unit` leaves 53
 // digits, or drops those below 2^-1074. A caller has the bounds from a sum of terms.
-fn any(sign: bool, hi: u64, lo: u64, exp: u64) -> f64
-    requires { (hi < 2 ^ 63) × (exp < 2 ^ 13) }
-    ensures { result ≡ Ieee.round binary64 sign (words hi lo * 2 ^ exp) (2 ^ 2277) }
+fn any(sign: bool, v: u128, exp: u64) -> f64
+    requires { (v < 2 ^ 127) × (exp < 2 ^ 13) }
+    ensures { result ≡ Ieee.round binary64 sign (v * 2 ^ exp) (2 ^ 2277) }
 {
-    let n = ieee_words::width(hi, lo);
+    let n = ieee_words::width(v);
     if n == 0 {
         return assemble(sign, 0, 0);
     }
     let unit = unit_of(n + exp);
-    let q = nearest(kept(hi, lo, exp, unit));
+    let q = nearest(kept(v, exp, unit));
     assemble(sign, q, unit - 1203)
 }
 
@@ -67,15 +64,14 @@ fn unit_of(top: u64) -> u64
 // Four times v * 2^exp / 2^unit, so far as rounding that quotient to a whole number asks: two digits below the
 // last that is kept, of which the lower one is sticky. A caller shows that v is not 0 and that no more than 53
 // digits are kept.
-fn kept(hi: u64, lo: u64, exp: u64, unit: u64) -> u64
-    requires { (hi < 2 ^ 63) × (exp < 2 ^ 13) × (0 < words hi lo) × (words hi lo * 2 ^ exp < 2 ^ (unit + 53)) }
-    ensures { (result < 2 ^ 55) × (closest result 4 ≡ closest (words hi lo * 2 ^ exp) (2 ^ unit)) }
+fn kept(v: u128, exp: u64, unit: u64) -> u64
+    requires { (0 < v) × (exp < 2 ^ 13) × (v * 2 ^ exp < 2 ^ (unit + 53)) }
+    ensures { (result < 2 ^ 55) × (closest result 4 ≡ closest (v * 2 ^ exp) (2 ^ unit)) }
 {
     if exp + 1 < unit {
-        let r = ieee_words::jam(hi, lo, unit - 2 - exp);
-        r.lo
+        ieee_words::jam(v, unit - 2 - exp) as u64
     } else {
-        lo << (exp + 2 - unit)
+        (v as u64) << (exp + 2 - unit)
     }
 }
 

@@ -4,28 +4,21 @@ ghost use Rattle.std.specs.Float.Ieee.Scale as Scale;
 ghost use Rattle.ieee_significands.specs.Parts as Spec;
 ghost use Rattle.ieee_significands.specs.Parts.{Normal, Unpacked};
 
-// ±sig * 2^exp in units of 2^-1138, with the significand at full width: 61 digits.
-#[derive(Clone, Copy)]
+// ±sig * 2^exp in units of 2^-1138, with the significand at full width: 61 digits, or 0.
+#[derive(Clone, Copy, Debug, PartialEq, Eq)]
 pub struct Parts {
     pub sign: bool,
     pub sig: u64,
     pub exp: u64,
+    pub ghost normal: { Normal sig exp },
 }
 
 // The fields of a bit pattern: the sign, the exponent's field and the digits.
-#[derive(Clone, Copy)]
+#[derive(Clone, Copy, Debug, PartialEq, Eq)]
 pub struct Fields {
     pub sign: bool,
     pub exp: u64,
     pub digits: u64,
-}
-
-// Whether x is neither an infinity nor a NaN.
-pub fn finite(x: f64) -> bool
-    ensures { result ≡ Scale.finite x }
-{
-    let infinity = f64::from_bits(0x7ff0_0000_0000_0000);
-    if x < infinity { -infinity < x } else { false }
 }
 
 // The fields of the bit pattern of an x that a caller has found finite.
@@ -48,7 +41,7 @@ pub fn unpack(x: f64) -> Parts
 {
     let f = read(x);
     if 0 < f.exp {
-        return ordinary(f.sign, f.exp, f.digits);
+        return ordinary(f);
     }
     if f.digits == 0 {
         return Parts {
@@ -62,11 +55,11 @@ pub fn unpack(x: f64) -> Parts
 
 // ±(digits + 2^52) * 2^(exp + 63): a field of exp that is not 0 gives the significand its leading digit. A
 // caller has the bounds from `read`.
-pub fn ordinary(sign: bool, exp: u64, digits: u64) -> Parts
-    requires { (exp < 2 ^ 11) × (digits < 2 ^ 52) }
-    ensures { (result.sign ≡ sign) × (result.sig * 2 ^ result.exp ≡ (digits + 2 ^ 52) * 2 ^ (exp + 63)) × Normal result.sig result.exp × (0 < result.sig) }
+pub fn ordinary(f: Fields) -> Parts
+    requires { (f.exp < 2 ^ 11) × (f.digits < 2 ^ 52) }
+    ensures { (result.sign ≡ f.sign) × (result.sig * 2 ^ result.exp ≡ (f.digits + 2 ^ 52) * 2 ^ (f.exp + 63)) × (0 < result.sig) }
 {
-    normal(sign, exp, digits + 0x10_0000_0000_0000)
+    normal(f.sign, f.exp, f.digits + 0x10_0000_0000_0000)
 }
 
 // ±sig * 2^(exp + 63), with sig brought to full width by its count of leading zeros. A caller has the bounds
@@ -74,7 +67,7 @@ pub fn ordinary(sign: bool, exp: u64, digits: u64) -> Parts
 // costs nothing.
 fn normal(sign: bool, exp: u64, sig: u64) -> Parts
     requires { (exp < 2 ^ 11) × (0 < sig) × (sig < 2 ^ 53) }
-    ensures { (result.sign ≡ sign) × (result.sig * 2 ^ result.exp ≡ sig * 2 ^ (exp + 63)) × Normal result.sig result.exp × (0 < result.sig) }
+    ensures { (result.sign ≡ sign) × (result.sig * 2 ^ result.exp ≡ sig * 2 ^ (exp + 63)) × (0 < result.sig) }
 {
     let up = u64::leading_zeros(sig) as u64 - 3;
     Parts {

@@ -1,9 +1,5 @@
--- Numbers of 128 bits as two words of 64, and a shift to the right that leaves a sticky digit for what it drops.
+-- A shift to the right that leaves a sticky digit for what it drops, and how many digits a number has.
 use Rattle.std.specs.Prelude.{ℕ, ◌+◌, ◌-◌, ◌*◌, ◌/◌, ◌%◌, ◌^◌, ◌<◌, ◌≤◌, min}
-
--- the number whose upper and lower 64 bits are hi and lo
-abbrev pub words : ℕ → ℕ → ℕ
-words hi lo = hi * 2 ^ 64 + lo
 
 -- m shifted right by d, and below it the sticky digit: 1 where a digit 1 was shifted out
 abbrev pub jammed : ℕ → ℕ → ℕ

@@ -1,174 +1,91 @@
-// Numbers of 128 bits as two words: hi * 2^64 + lo.
+// Numbers of 128 bits: an exact product, and shifts to the right that leave a sticky digit for what they drop.
 #![tactic(auto)]
 
-ghost use Rattle.std.specs.Prelude.{◌≡◌, ◌+◌, ◌-◌, ◌*◌, ◌/◌, ◌%◌, ◌^◌, ◌<◌, ◌≤◌, min, nat_lt};
-ghost use Rattle.ieee_words.specs.Words.{words, jammed, Width};
+ghost use Rattle.std.specs.Prelude.{◌≡◌, ◌+◌, ◌*◌, ◌/◌, ◌%◌, ◌^◌, ◌<◌, ◌≤◌, min};
+ghost use Rattle.ieee_words.specs.Words.{jammed, Width};
 
-#[derive(Clone, Copy)]
-pub struct Pair {
-    pub hi: u64,
-    pub lo: u64,
+// a * b.
+pub fn product(a: u64, b: u64) -> u128
+    ensures { result ≡ a * b }
+{
+    a as u128 * b as u128
 }
 
-// a * b. Rattle multiplies no further than one word, so that each word of the product has its own
-// sum of the products of halves; the compiler knows both sums and makes one multiplication of them.
-pub fn product(a: u64, b: u64) -> Pair
-    ensures { (result.hi ≡ a * b / 2 ^ 64) × (result.lo ≡ a * b % 2 ^ 64) }
+// The upper word of v.
+pub fn upper(v: u128) -> u64
+    ensures { result ≡ v / 2 ^ 64 }
 {
-    Pair {
-        hi: upper(a, b),
-        lo: lower(a, b),
-    }
+    (v >> 64) as u64
 }
 
-// The upper word of a * b, by the four products of their halves of 32 bits.
-fn upper(a: u64, b: u64) -> u64
-    ensures { result ≡ a * b / 2 ^ 64 }
+// The lower word of v.
+pub fn lower(v: u128) -> u64
+    ensures { result ≡ v % 2 ^ 64 }
 {
-    let a1 = a / 0x1_0000_0000;
-    let a0 = a % 0x1_0000_0000;
-    let b1 = b / 0x1_0000_0000;
-    let b0 = b % 0x1_0000_0000;
-    let low = a0 * b0;
-    let mid = a1 * b0 + low / 0x1_0000_0000;
-    let next = a0 * b1 + mid % 0x1_0000_0000;
-    a1 * b1 + mid / 0x1_0000_0000 + next / 0x1_0000_0000
+    (v % 0x1_0000_0000_0000_0000) as u64
 }
 
-// The lower word of a * b: the product of the upper halves is not in it.
-fn lower(a: u64, b: u64) -> u64
-    ensures { result ≡ a * b % 2 ^ 64 }
+// The number whose upper word is m, and its lower word 0.
+pub fn above(m: u64) -> u128
+    ensures { result ≡ m * 2 ^ 64 }
 {
-    let a1 = a / 0x1_0000_0000;
-    let a0 = a % 0x1_0000_0000;
-    let b1 = b / 0x1_0000_0000;
-    let b0 = b % 0x1_0000_0000;
-    let cross = std::num::wrapping_add_u64(a1 * b0, a0 * b1);
-    std::num::wrapping_add_u64(cross << 32, a0 * b0)
-}
-
-// v + w. A caller shows that the sum fits two words.
-pub fn plus(vh: u64, vl: u64, wh: u64, wl: u64) -> Pair
-    requires { words vh vl + words wh wl < 2 ^ 128 }
-    ensures { words result.hi result.lo ≡ words vh vl + words wh wl }
-{
-    let lo = std::num::wrapping_add_u64(vl, wl);
-    if lo < vl {
-        Pair {
-            hi: vh + wh + 1,
-            lo,
-        }
-    } else {
-        Pair { hi: vh + wh, lo }
-    }
-}
-
-// v - w. A caller has compared them: w is at most v.
-pub fn minus(vh: u64, vl: u64, wh: u64, wl: u64) -> Pair
-    requires { words wh wl ≤ words vh vl }
-    ensures { words result.hi result.lo ≡ words vh vl - words wh wl }
-{
-    Pair {
-        hi: vh - wh - borrow(vl, wl),
-        lo: std::num::wrapping_sub_u64(vl, wl),
-    }
-}
-
-// What v - w borrows from the next word.
-fn borrow(v: u64, w: u64) -> u64
-    ensures { (v < w → result ≡ 1) × (w ≤ v → result ≡ 0) }
-{
-    if v < w { 1 } else { 0 }
-}
-
-// v < w. The upper words decide most often.
-pub fn less(vh: u64, vl: u64, wh: u64, wl: u64) -> bool
-    ensures { result ≡ nat_lt (words vh vl) (words wh wl) }
-{
-    if vh < wh {
-        return true;
-    }
-    if vh == wh { vl < wl } else { false }
-}
-
-// 0 for 0, and 1 for any other number.
-pub fn mark(x: u64) -> u64
-    ensures { result ≡ min x 1 }
-{
-    if x == 0 { 0 } else { 1 }
+    m as u128 * 0x1_0000_0000_0000_0000
 }
 
 // How many binary digits v has.
-pub fn width(hi: u64, lo: u64) -> u64
-    ensures { Width (words hi lo) result }
+pub fn width(v: u128) -> u64
+    ensures { Width v result }
 {
-    if hi == 0 {
-        64 - u64::leading_zeros(lo) as u64
-    } else {
-        128 - u64::leading_zeros(hi) as u64
-    }
+    128 - v.leading_zeros() as u64
 }
 
-// v shifted right by d, with the last digit sticky: 1 where it is 1 or a digit 1 was shifted out. A caller
-// shows that v is below 2^127.
-pub fn jam(hi: u64, lo: u64, d: u64) -> Pair
-    requires { hi < 2 ^ 63 }
-    ensures { words result.hi result.lo ≡ jammed (words hi lo) (d + 1) }
+// v shifted right by d, with the last digit sticky: 1 where it is 1 or a digit 1 was shifted out.
+pub fn jam(v: u128, d: u64) -> u128
+    ensures { result ≡ jammed v (d + 1) }
 {
     if d < 64 {
-        jam_near(hi, lo, d)
-    } else if d < 128 {
-        Pair {
-            hi: 0,
-            lo: jam_far(hi, lo, d - 64),
-        }
+        jam_near(v, d)
     } else {
-        Pair {
-            hi: 0,
-            lo: mark(mark(hi) + mark(lo)),
-        }
+        let c = jam_below(v, d.min(127) - 64);
+        stuck(c.left as u128, c.sticky)
     }
 }
 
-// The same, by less than a word, as a caller has tested.
-fn jam_near(hi: u64, lo: u64, d: u64) -> Pair
-    requires { (hi < 2 ^ 63) × (d < 64) }
-    ensures { words result.hi result.lo ≡ jammed (words hi lo) (d + 1) }
-{
-    let low = ((hi * 2) << (63 - d)) + (lo >> d);
-    let out = mark(lo - (lo >> d << d));
-    Pair {
-        hi: hi >> d,
-        lo: low / 2 * 2 + mark(low % 2 + out),
-    }
-}
-
-// The same, by a word and d more: a caller shifts by less than two words.
-pub fn jam_far(hi: u64, lo: u64, d: u64) -> u64
+// The same, by less than a word, as a caller has tested. Word by word: of `v >> d` the compiler does not know
+// that no word is shifted out whole, and would choose between the two words.
+fn jam_near(v: u128, d: u64) -> u128
     requires { d < 64 }
-    ensures { result ≡ jammed (words hi lo) (64 + d + 1) }
+    ensures { result ≡ jammed v (d + 1) }
 {
-    let high = hi >> d;
-    let out = mark(hi - (high << d)) + mark(lo);
-    high / 2 * 2 + mark(high % 2 + out)
+    let high = upper(v);
+    let low = lower(v);
+    let kept = (high << 1 << (63 - d)) + (low >> d);
+    stuck(above(high >> d) + kept as u128, low - (low >> d << d))
 }
 
-// v shifted right by a word and d more: what is left of it, and as the lower word the sticky digit, 1 where a
-// digit 1 was shifted out. A caller shifts by less than two words.
-pub fn jam_below(hi: u64, lo: u64, d: u64) -> Pair
+// n, with its last digit 1 where what is lost is not 0.
+fn stuck(n: u128, lost: u64) -> u128
+    ensures { result ≡ 2 * (n / 2) + min (n % 2 + min lost 1) 1 }
+{
+    if lost == 0 { n } else { n / 2 * 2 + 1 }
+}
+
+// What is left of a number that is shifted right, and the sticky digit: 1 where a digit 1 was shifted out.
+#[derive(Clone, Copy, Debug, PartialEq, Eq)]
+pub struct Cut {
+    pub left: u64,
+    pub sticky: u64,
+    ghost digit: { sticky ≤ 1 },
+}
+
+// v shifted right by a word and d more. A caller shifts by less than two words.
+pub fn jam_below(v: u128, d: u64) -> Cut
     requires { d < 64 }
-    ensures { (2 * result.hi + result.lo ≡ jammed (words hi lo) (64 + d)) × (result.lo ≤ 1) }
+    ensures { 2 * result.left + result.sticky ≡ jammed v (64 + d) }
 {
-    let high = hi >> d;
-    Pair {
-        hi: high,
-        lo: mark_both(hi - (high << d), lo),
-    }
-}
-
-// 0 where both words are 0, and 1 for any other number.
-fn mark_both(hi: u64, lo: u64) -> u64
-    ensures { result ≡ min (words hi lo) 1 }
-{
-    if lo == 0 { mark(hi) } else { 1 }
+    let high = upper(v);
+    let low = lower(v);
+    let left = high >> d;
+    let sticky = if left << d == high { low.min(1) } else { 1 };
+    Cut { left, sticky }
 }

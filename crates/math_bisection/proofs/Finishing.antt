@@ -1,29 +1,17 @@
--- Rule 13 of a fit that the code took apart, and ends that agree in every field. Assumes nothing.
+-- What rule 13 looks at in a fit, and ends that agree in every field. Assumes nothing.
 use mathlib.Core.Path.{◌≡◌, refl}
 use mathlib.Core.Bool.{Bool, true, false, ◌&&◌}
 use Prim.Native.Nat.{ℕ}
 use native.Mathlib.Omega.{arith}
 use lib.Ieee.Scale.{finite}
-use Rattle.refusals.specs.declared.refusals.Refusal.TheVariants as R
-use Rattle.refusals.specs.Refusals.{served, refused, following}
 use Rattle.math_bisection.specs.declared.halving.Ends.{Ends}
 use Rattle.math_bisection.specs.declared.result.Fit.{Fit}
-use Rattle.math_bisection.specs.declared.result.Fitted.{Fitted}
-use Rattle.math_bisection.specs.declared.result.Fitted.TheVariants as F
-use Rattle.math_bisection.specs.Result.{fitted_outcome, finishing_fit}
 
 -- what rule 13 looks at
 abbrev pub all_finite : Fit → Bool
 all_finite fit =
     let e = fit.ends in
     finite fit.sigma && finite fit.residual && finite e.low && finite e.high && finite e.low_residual && finite e.high_residual
-
-module _ (fitted : Fitted) (fit : Fit) (e : fitted ≡ F.Served fit) where
-  pub let_through : all_finite fit ≡ true → served fit ≡ following (fitted_outcome fitted) finishing_fit
-  let_through h = rw (e, h)
-
-  pub turned_down : all_finite fit ≡ false → refused R.Overflow ≡ following (fitted_outcome fitted) finishing_fit
-  turned_down h = rw (e, h)
 
 -- ---- four tests, all of them passed
 no_true : {A : Type 0} → false ≡ true → A

@@ -1,11 +1,11 @@
 -- Demand 3 of a fit, of any objective f: "An accepted fit is converged with |residual| < 1e-12 at its sigma, or unconverged with last ends that have no f64 between them and residuals of different sign."
-use Rattle.std.specs.Prelude.{◌≡◌, ◌⊎◌, ◌↔◌, true, false, not, cond, ℕ, suc, ◌+◌, ◌≤◌, T, length, get_or, Float}
+use Rattle.std.specs.Prelude.{◌≡◌, ◌⊎◌, ◌↔◌, true, false, not, cond, ℕ, suc, ◌+◌, ◌≤◌, T, length, get_or, Float, Ok, Err}
 use mathlib.Core.List.{Memᴰ}
 use Rattle.std.specs.Float.{binary64, nan}
 use Rattle.std.specs.Float.Ieee.{is_nan, le}
 use Rattle.math_elementary.specs.Simple.{midpoint_of}
 use Rattle.refusals.specs.declared.refusals.Refusal.TheVariants as R
-use Rattle.refusals.specs.Refusals.{Outcome, served, refused}
+use Rattle.refusals.specs.Refusals.{Outcome}
 use Rattle.search.specs.Line.{Neighbours}
 use Rattle.search.specs.Halving.{Halvings}
 use Rattle.math_bisection.specs.declared.result.Fit.{Fit}
@@ -35,14 +35,14 @@ entry_of fit = cond fit.converged (1 + fit.halvings) (2 + fit.halvings)
 -- a sigma at which the objective was served, and is no NaN
 pub record Served (f : Float → Outcome Float) (sigma : Float) : Type 0 where
   pub residual : Float
-  pub there : f sigma ≡ served residual
+  pub there : f sigma ≡ Ok residual
   pub number : T (not (is_nan residual))
 
 pub record Assured (f : Float → Outcome Float) (fit : Fit) : Type 0 where
   -- the residual reported "is that at the sigma returned", and those of the ends are those at the ends
-  pub at_sigma : f fit.sigma ≡ served fit.residual
-  pub at_low : f fit.ends.low ≡ served fit.ends.low_residual
-  pub at_high : f fit.ends.high ≡ served fit.ends.high_residual
+  pub at_sigma : f fit.sigma ≡ Ok fit.residual
+  pub at_low : f fit.ends.low ≡ Ok fit.ends.low_residual
+  pub at_high : f fit.ends.high ≡ Ok fit.ends.high_residual
   -- they are numbers, since a NaN's signum equals nothing; and they "differ in sign when their signums do"
   pub low_number : T (not (is_nan fit.ends.low_residual))
   pub high_number : T (not (is_nan fit.ends.high_residual))
@@ -62,11 +62,11 @@ pub record Assured (f : Float → Outcome Float) (fit : Fit) : Type 0 where
 pub record TriedUnbracketed (f : Float → Outcome Float) : Type 0 where
   pub sigma : Float
   pub tried : Memᴰ sigma (tried_of f)
-  pub there : f sigma ≡ refused R.NoBracket
+  pub there : f sigma ≡ Err R.NoBracket
 
 -- every fit, whatever its objective
 pub record FitDemand3 : Type 1 where
-  pub assured : (f : Float → Outcome Float) (fit : Fit) → solve_of f ≡ served fit → Assured f fit
-  pub no_bracket : (f : Float → Outcome Float) → (solve_of f ≡ refused R.NoBracket) ↔ TriedUnbracketed f
+  pub assured : (f : Float → Outcome Float) (fit : Fit) → solve_of f ≡ Ok fit → Assured f fit
+  pub no_bracket : (f : Float → Outcome Float) → (solve_of f ≡ Err R.NoBracket) ↔ TriedUnbracketed f
   -- a fit rests on the sigmas that it tries and on nothing else: an objective that agrees there has the same fit, and tries the same sigmas
   pub same : (f g : Float → Outcome Float) → ((sigma : Float) → Memᴰ sigma (tried_of f) → f sigma ≡ g sigma) → (solve_of f ≡ solve_of g) × (tried_of f ≡ tried_of g)

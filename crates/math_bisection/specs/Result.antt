@@ -1,16 +1,10 @@
 -- A fit's answer as an outcome. Document 01: "The status and the number of halvings (200 if unconverged) are returned too .. So are the last two ends with their residuals."
-use Rattle.std.specs.Prelude.{false, ◌&&◌, cond}
+use Rattle.std.specs.Prelude.{false, ◌&&◌, cond, Ok, Err}
 use Rattle.std.specs.Float.Ieee.Scale.{finite}
 use Rattle.ieee.specs.Numbers.{zero}
 use Rattle.refusals.specs.declared.refusals.Refusal.TheVariants as R
-use Rattle.refusals.specs.Refusals.{Outcome, served, refused}
+use Rattle.refusals.specs.Refusals.{Outcome}
 use Rattle.math_bisection.specs.declared.result.Fit.{Fit}
-use Rattle.math_bisection.specs.declared.result.Fitted.{Fitted}
-use Rattle.math_bisection.specs.declared.result.Fitted.TheVariants as F
-
-abbrev pub fitted_outcome : Fitted → Outcome Fit
-fitted_outcome (F.Served fit) = served fit
-fitted_outcome (F.Refused r) = refused r
 
 -- beside a refusal's number
 abbrev pub no_fit : Fit
@@ -20,4 +14,4 @@ no_fit = record { sigma = zero; converged = false; halvings = 0; residual = zero
 abbrev pub finishing_fit : Fit → Outcome Fit
 finishing_fit fit =
     let e = fit.ends in
-    cond (finite fit.sigma && finite fit.residual && finite e.low && finite e.high && finite e.low_residual && finite e.high_residual) (served fit) (refused R.Overflow)
+    cond (finite fit.sigma && finite fit.residual && finite e.low && finite e.high && finite e.low_residual && finite e.high_residual) (Ok fit) (Err R.Overflow)

@@ -1,14 +1,14 @@
 -- The sigmas that a fit tries, in order: 1e-8, 2.0, and the midpoints, up to the one that converges or is refused; an unconverged fit tries the midpoint of its last ends besides.
-use Rattle.std.specs.Prelude.{ℕ, zero, suc, cond, List, [], ◌∷◌, Float}
+use Rattle.std.specs.Prelude.{ℕ, zero, suc, cond, List, [], ◌∷◌, Float, Ok, Err}
 use Rattle.math_elementary.specs.Simple.{midpoint_of}
-use Rattle.refusals.specs.Refusals.{Outcome, served, refused}
+use Rattle.refusals.specs.Refusals.{Outcome}
 use Rattle.math_bisection.specs.declared.halving.Ends.{Ends}
 use Rattle.math_bisection.specs.Solve.{lowest, highest, same_sign, close_enough, residual_at, ends_moved_to, ends_of}
 
 -- what is tried after a residual; nothing after a refusal
 abbrev pub onward : Outcome Float → (Float → List Float) → List Float
-onward (served v) rest = rest v
-onward (refused r) rest = []
+onward (Ok v) rest = rest v
+onward (Err r) rest = []
 
 unfoldable pub tried_from : (Float → Outcome Float) → ℕ → Ends → List Float
 tried_from f zero e = midpoint_of e.low e.high ∷ []

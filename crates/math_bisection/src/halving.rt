@@ -6,7 +6,7 @@ ghost use Rattle.math_bisection.specs.Solve.{same_sign, close_enough, ends_moved
 use math_elementary::surely_same;
 
 // The last two ends with their residuals.
-#[derive(Clone, Copy)]
+#[derive(Clone, Copy, Default)]
 pub struct Ends {
     pub low: f64,
     pub high: f64,

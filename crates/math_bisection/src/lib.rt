@@ -6,4 +6,4 @@ mod halving;
 mod result;
 
 pub use halving::{Ends, is_close, moved, same_sign, unmoved};
-pub use result::{Fit, Fitted, finished};
+pub use result::{Fit, finished};

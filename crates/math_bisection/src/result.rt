@@ -1,14 +1,13 @@
 // What a fit gives back.
 ghost use Rattle.std.specs.Prelude.{◌≡◌};
-ghost use Rattle.refusals.specs.Refusals.{following};
-ghost use Rattle.math_bisection.specs.Result.{fitted_outcome, finishing_fit};
+ghost use Rattle.math_bisection.specs.Result.{finishing_fit};
 
 use super::halving::Ends;
 use refusals::Refusal;
 
 // The volatility fitted, whether it converged, the halvings made (200 where it did not converge), the
 // residual at the volatility, and the last two ends with theirs.
-#[derive(Clone, Copy)]
+#[derive(Clone, Copy, Default)]
 pub struct Fit {
     pub sigma: f64,
     pub converged: bool,
@@ -17,20 +16,11 @@ pub struct Fit {
     pub ends: Ends,
 }
 
-#[derive(Clone, Copy)]
-pub enum Fitted {
-    Served(Fit),
-    Refused(Refusal),
-}
-
-// Rule 13 looks at every float of the answer. A fit has no root of a search in it, so `search::root_finite` does not
-// serve here: its ends bear residuals, not coupon sums.
-pub fn finished(fitted: Fitted) -> Fitted
-    ensures { fitted_outcome result ≡ following (fitted_outcome fitted) finishing_fit }
+// Rule 13 looks at every float of the answer. A fit has no root of a search in it, so `search::Root::is_finite` does
+// not serve here: its ends bear residuals, not coupon sums.
+pub fn finished(fit: Fit) -> Result<Fit, Refusal>
+    ensures { result ≡ finishing_fit fit }
 {
-    let Fitted::Served(fit) = fitted else {
-        return fitted;
-    };
     let ends = fit.ends;
     let finite = math_elementary::is_finite(fit.sigma)
         & math_elementary::is_finite(fit.residual)
@@ -39,8 +29,8 @@ pub fn finished(fitted: Fitted) -> Fitted
         & math_elementary::is_finite(ends.low_residual)
         & math_elementary::is_finite(ends.high_residual);
     if finite {
-        fitted
+        Ok(fit)
     } else {
-        Fitted::Refused(Refusal::Overflow)
+        Err(Refusal::Overflow)
     }
 }

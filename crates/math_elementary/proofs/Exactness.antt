@@ -9,7 +9,7 @@ use borrow.Author.Tests.{leb-true, leb-false, ltb-true, ltb-false}
 use lib.Dec.{T, leb, ltb, eqb, ltb→lt, lt→ltb}
 use lib.Pow.{pow-add}
 use lib.IntN.{ℤ, pos, negsuc, sub_ℕ, ◌+ℤ◌}
-use lib.Ieee.{Float, nan, inf, fin, binary64, up, down, minus, size, lt, le, eq, ne, of_bits}
+use lib.Ieee.{Float, nan, inf, fin, binary64, up, down, minus, size, lt, le, eq, is_nan, of_bits}
 use lib.Ieee.Digits.{size-lt}
 use lib.Ieee.Positive.{positive}
 use Rattle.ieee.specs.Decimal.{decimal}
@@ -69,8 +69,8 @@ split_exact (fin true n e) h = absurd h
 split_exact (fin false n e) h = exact_fin n e (ltb→lt 0 n h)
 
 -- ---- what is left after the tests of ln
-pub above_zero : (x : Float) → ne x x ≡ false → lt x (of_bits binary64 0) ≡ false → eq x (of_bits binary64 0) ≡ false → eq x (inf false) ≡ false → T (positive x)
-unfolding ne lt eq of_bits
+pub above_zero : (x : Float) → is_nan x ≡ false → lt x (of_bits binary64 0) ≡ false → eq x (of_bits binary64 0) ≡ false → eq x (inf false) ≡ false → T (positive x)
+unfolding is_nan lt eq of_bits
 above_zero nan a b c d = absurd (true≢false a)
 above_zero (inf true) a b c d = absurd (true≢false b)
 above_zero (inf false) a b c d = absurd (true≢false d)

@@ -15,20 +15,17 @@ pub fn ln(x: f64) -> f64
     ensures value { result ≡ ln_of x }
     ensures split { T (positive x) → ExactSplit x (significand_of x) (exponent_of x) }
 {
-    if x != x {
-        return x;
+    if x.is_nan() {
+        x
+    } else if x < 0.0 {
+        f64::NAN
+    } else if x == 0.0 {
+        f64::NEG_INFINITY
+    } else if x == f64::INFINITY {
+        x
+    } else {
+        joined(split(x))
     }
-    if x < 0.0 {
-        return 0.0 / 0.0;
-    }
-    if x == 0.0 {
-        return -1.0 / 0.0;
-    }
-    if x == 1.0 / 0.0 {
-        return x;
-    }
-    let p = split(x);
-    joined(p.m, p.k)
 }
 
 // x is m × 2^k, and 0.75 <= m < 1.5.
@@ -36,6 +33,7 @@ pub fn ln(x: f64) -> f64
 struct Halved {
     m: f64,
     k: i32,
+    ghost small: { mag k < 10000 },
 }
 
 // 1.5 at full width.
@@ -45,7 +43,7 @@ const ONE_AND_A_HALF: u64 = 0x18_0000_0000_0000;
 // the exponent's field. A caller has tested that x is finite and above 0.
 fn split(x: f64) -> Halved
     requires { T (positive x) }
-    ensures { (result.m ≡ significand_of x) × (result.k ≡ exponent_of x) × (mag result.k < 10000) }
+    ensures { (result.m ≡ significand_of x) × (result.k ≡ exponent_of x) }
 {
     let w = widen(x);
     let full = w.full;
@@ -76,11 +74,11 @@ fn widen(x: f64) -> Wide
     requires { T (positive x) }
     ensures { Widened x result.full result.size × (result.size < 5000) }
 {
-    let b = f64::to_bits(x);
+    let b = x.to_bits();
     let field = b / 0x10_0000_0000_0000;
     let digits = b % 0x10_0000_0000_0000;
     if field == 0 {
-        let zeros = u64::leading_zeros(digits);
+        let zeros = digits.leading_zeros();
         Wide {
             full: digits << (zeros - 11),
             size: (64 - zeros) as u64,
@@ -94,23 +92,23 @@ fn widen(x: f64) -> Wide
 }
 
 // k × ln 2 and the logarithm of m, each part rounded as it stands.
-fn joined(m: f64, k: i32) -> f64
-    ensures { result ≡ joined_of m k }
+fn joined(h: Halved) -> f64
+    ensures { result ≡ joined_of h.m h.k }
 {
-    let s = (m - 1.0) / (m + 1.0);
+    let s = (h.m - 1.0) / (h.m + 1.0);
     let t = odd_series(s * s);
-    let n = k as f64;
+    let n = h.k as f64;
     n * LN_2_HIGH + (2.0 * (s * t) + n * LN_2_LOW)
 }
+
+const TURNS: u32 = 13;
 
 // t starts at 0, and for n = 25, 23, .. 1 becomes 1/n + z × t.
 fn odd_series(z: f64) -> f64
     ensures { result ≡ odd_series_of z 13 zero }
 {
     let mut t = 0.0;
-    let mut k: u32 = 13;
-    while k > 0 {
-        k -= 1;
+    for k in (0..TURNS).rev() {
         let n = 2 * k + 1;
         t = 1.0 / (n as f64) + z * t;
     }

@@ -15,6 +15,9 @@ const TOP: f64 = 710.0;
 
 const BOTTOM: f64 = -746.0;
 
+// The turns of its series.
+const TURNS: u32 = 13;
+
 const LOG2_E: f64 = 1.4426950408889634;
 
 // 2^52 × 1.5, and the bits of the f64 that is 2048 less.
@@ -26,17 +29,16 @@ pub fn exp(x: f64) -> f64
     ensures value { result ≡ exp_of x }
     ensures exact { Gives exact_cases x result }
 {
-    if x != x {
-        return x;
+    if within_limits(x) {
+        let d = reduce(x);
+        d.scale(guessed(d.r))
+    } else if x > TOP {
+        f64::INFINITY
+    } else if x < BOTTOM {
+        0.0
+    } else {
+        x
     }
-    if x > TOP {
-        return 1.0 / 0.0;
-    }
-    if x < BOTTOM {
-        return 0.0;
-    }
-    let d = reduce(x);
-    scale(guessed(d.r), d.k)
 }
 
 #[derive(Clone, Copy)]
@@ -50,20 +52,19 @@ pub struct Two {
 pub fn exp_two(x: f64, y: f64) -> Two
     ensures { (result.first ≡ exp_of x) × (result.second ≡ exp_of y) }
 {
-    if within_limits(x) {
-        if within_limits(y) {
-            let d = reduce(x);
-            let e = reduce(y);
-            let p = series_two(d.r, e.r);
-            return Two {
-                first: scale(p.first, d.k),
-                second: scale(p.second, e.k),
-            };
+    if within_limits(x) && within_limits(y) {
+        let d = reduce(x);
+        let e = reduce(y);
+        let p = series_two(d.r, e.r);
+        Two {
+            first: d.scale(p.first),
+            second: e.scale(p.second),
         }
-    }
-    Two {
-        first: exp(x),
-        second: exp(y),
+    } else {
+        Two {
+            first: exp(x),
+            second: exp(y),
+        }
     }
 }
 
@@ -79,17 +80,11 @@ pub fn exp_m1(y: f64) -> f64
 
 // ---- The parts of exp, for whoever works its series beside other steps too.
 
-// Whether exp works x by its series.
+// Whether exp works x by its series: of a NaN both tests say no.
 pub fn within_limits(x: f64) -> bool
     ensures { result ≡ within_limits x }
 {
-    if x != x {
-        return false;
-    }
-    if x > TOP {
-        return false;
-    }
-    !(x < BOTTOM)
+    (BOTTOM <= x) & (x <= TOP)
 }
 
 // x = r + k × ln 2, but for roundings.
@@ -97,12 +92,24 @@ pub fn within_limits(x: f64) -> bool
 pub struct Reduced {
     pub r: f64,
     pub k: i32,
+    pub ghost small: { mag k < 2000 },
+}
+
+impl Reduced {
+    // p × 2^a × 2^b, a being k/2 toward zero and b = k - a.
+    pub fn scale(self, p: f64) -> f64
+        ensures { result ≡ scale_of p self.k }
+    {
+        let a = self.k / 2;
+        let b = self.k - a;
+        p * two_to(a) * two_to(b)
+    }
 }
 
 // The r and the k of an x that is within the limits, as a caller has tested.
 pub fn reduce(x: f64) -> Reduced
     requires { within_limits x ≡ true }
-    ensures { (result.r ≡ reduced_of x (k_of x)) × (result.k ≡ k_of x) × (mag result.k < 2000) }
+    ensures { (result.r ≡ reduced_of x (k_of x)) × (result.k ≡ k_of x) }
 {
     let w = nearest_whole(x * LOG2_E);
     let n = w.n;
@@ -131,17 +138,16 @@ fn nearest_whole(p: f64) -> Whole
     let m = p + ROUNDER;
     let n = m - ROUNDER;
     let d = p - n;
-    if d < 0.5 {
-        if d > -0.5 {
-            let up = f64::to_bits(m) - ROUNDER_LESS_2048;
-            return Whole {
-                n,
-                k: up as i32 - 2048,
-            };
+    if d < 0.5 && d > -0.5 {
+        let up = m.to_bits() - ROUNDER_LESS_2048;
+        Whole {
+            n,
+            k: up as i32 - 2048,
         }
+    } else {
+        let k = by_halves(p);
+        Whole { n: k as f64, k }
     }
-    let k = by_halves(p);
-    Whole { n: k as f64, k }
 }
 
 // The same for a tie too, by a conversion with many branches. Twice p is exact, and cutting it to a whole
@@ -169,24 +175,20 @@ fn series(x: f64, last: u32, turns: u32) -> f64
     ensures { result ≡ series_of x last turns one }
 {
     let mut p = 1.0;
-    let mut k = turns;
-    while k > 0 {
-        k -= 1;
-        let n = last + k;
-        p = turn(x, p, n as f64);
+    for k in (0..turns).rev() {
+        p = turn(x, p, (last + k) as f64);
     }
     p
 }
 
-// The series of exp for two numbers, in one loop.
+// The series of exp for two numbers, in one loop. It is written out beside `series`: a trait that is one number
+// or two would take more lines than this.
 fn series_two(x: f64, y: f64) -> Two
     ensures { (result.first ≡ series_of x 1 13 one) × (result.second ≡ series_of y 1 13 one) }
 {
     let mut p = 1.0;
     let mut q = 1.0;
-    let mut k: u32 = 13;
-    while k > 0 {
-        k -= 1;
+    for k in (0..TURNS).rev() {
         let n = (1 + k) as f64;
         p = turn(x, p, n);
         q = turn(y, q, n);
@@ -204,32 +206,19 @@ fn guessed(x: f64) -> f64
     ensures { result ≡ series_of x 1 13 one }
 {
     let mut p = 1.0;
-    let mut k: u32 = 13;
-    while k > 0 {
-        k -= 1;
+    for k in (0..TURNS).rev() {
         let n = (1 + k) as f64;
         let guess = 1.0 + (x * p) * (1.0 / n);
-        if surely_same(guess, turn(x, p, n)) {
-            p = guess;
-        } else {
-            return series(x, 1, 13);
+        if !surely_same(guess, turn(x, p, n)) {
+            return series(x, 1, TURNS);
         }
+        p = guess;
     }
     p
 }
 
-// p × 2^a × 2^b, a being k/2 toward zero and b = k - a. A caller has k from `reduce`, below 2000 in size.
-pub fn scale(p: f64, k: i32) -> f64
-    requires { mag k < 2000 }
-    ensures { result ≡ scale_of p k }
-{
-    let a = k / 2;
-    let b = k - a;
-    p * two_to(a) * two_to(b)
-}
-
-// 2^a exactly: its exponent's field is a + 1023, and it has no further digits. A caller has halved a k below
-// 2000 in size.
+// 2^a exactly: its exponent's field is a + 1023, and it has no further digits. A caller has halved the k of a
+// `Reduced`.
 fn two_to(a: i32) -> f64
     requires { mag a < 1022 }
     ensures { result ≡ two_to a }

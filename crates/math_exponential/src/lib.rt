@@ -9,4 +9,4 @@ pub use density::{SQRT_2PI, norm_pdf};
 pub use exponential::{Two, exp, exp_m1, exp_two};
 
 // The parts of exp, which are no calls: whoever works an exp from them shows what each requires.
-pub use exponential::{Reduced, reduce, scale, turn, within_limits};
+pub use exponential::{Reduced, reduce, turn, within_limits};

@@ -13,3 +13,4 @@ pub mod Reduce
 pub mod Between
 pub mod FusedSteps
 pub mod AsWritten
+pub mod Fraction

@@ -1,5 +1,5 @@
 -- Hart's polynomials in fixed point: the sums stay below 2 ^ 62 (`begins`, `goes_on`, `room`), and stand for the polynomials (`numerator_is`, `denominator_is`); the series of exp beside them (`thirteen`); an argument in fixed point is below the threshold (`near_limit`, `near_threshold`); what lies above it from all of these (`assembled`). Assumes nothing.
-use mathlib.Core.Path.{◌≡◌, refl, sym, ap, ◌∙◌, subst}
+use mathlib.Core.Path.{◌≡◌, refl, ap, ◌∙◌, subst}
 use mathlib.Core.Bool.{true, false, true≢false}
 use mathlib.Core.List.{List}
 use lib.ListN.{take}
@@ -10,10 +10,6 @@ use lib.Dec.{lit≤}
 use lib.IntN.{ℤ, pos}
 use lib.Ieee.{Float, nan, inf, fin, binary64, up, down, lt, neg, fits, of_int, of_bits}
 use borrow.Author.Tests.{le-ltb, lt-ltb}
-use mir.Syntax.{w32}
-use mir.Val.{to_z, of_z}
-use mir.ValLaws.{to_z-of_z}
-use lib.Signed.{mag}
 use lib.Pow.{pow_pos}
 use lib.Ieee.Fits.{down_pos}
 use Rattle.ieee.specs.Rounded.{◌⊗◌, ◌⊘◌}
@@ -127,41 +123,24 @@ abbrev pub den_most : ℕ → ℕ
 den_most zero = den_fixed 0 + den_fixed 1 + 512
 den_most (suc n) = den_most n + den_fixed (suc (suc n)) + 512
 
-abbrev Within : ℕ → ℕ → ℕ → Type 0
+abbrev pub Within : ℕ → ℕ → ℕ → Type 0
 Within n num den = (num ≤ num_most n) × (den ≤ den_most n)
 
--- of both arguments
-pub record Sizes (n num den num2 den2 : ℕ) : Type 0 where
-  pub first : Within n num den
-  pub second : Within n num2 den2
+pub begins : {y : ℕ} {r : Float} {num den : ℕ} {p : Float} → TurnsBegun y r num den p → Within 0 num den
+begins b = (le_of_eq b.numerator, b.denominator.most)
 
-begun_within : {y : ℕ} {r : Float} {num den : ℕ} {p : Float} → TurnsBegun y r num den p → Within 0 num den
-begun_within b = (le_of_eq b.numerator, b.denominator.most)
-
-pub begins : {y x : ℕ} {r q : Float} {num den num2 den2 : ℕ} {p p2 : Float} → TurnsBegun y r num den p → TurnsBegun x q num2 den2 p2 → Sizes 0 num den num2 den2
-begins b b2 = record { first = begun_within b; second = begun_within b2 }
-
-module _ (n : ℕ) {num den num2 den2 : ℕ} (s : Sizes n num den num2 den2) where
-  pub room : (c d : ℕ) → 2 ^ 53 ≤ c → num_most n + c < 2 ^ 62 → 2 ^ 53 ≤ d → den_most n + d < 2 ^ 62 → Room num den c d × Room num2 den2 c d
-  room c d lc uc ld ud = (
-    (lc, under num (num_most n) c s.first.0 uc, ld, under den (den_most n) d s.first.1 ud),
-    (lc, under num2 (num_most n) c s.second.0 uc, ld, under den2 (den_most n) d s.second.1 ud),
-  )
-    where
-      under : (n A c : ℕ) → n ≤ A → A + c < 2 ^ 62 → n + c < 2 ^ 62
-      under n A c l u = omega arith
+pub room : (n : ℕ) {num den : ℕ} → Within n num den → (c d : ℕ) → 2 ^ 53 ≤ c → num_most n + c < 2 ^ 62 → 2 ^ 53 ≤ d → den_most n + d < 2 ^ 62 → Room num den c d
+room n {num} {den} s c d lc uc ld ud = (lc, under num (num_most n) c s.0 uc, ld, under den (den_most n) d s.1 ud)
+  where
+    under : (n A c : ℕ) → n ≤ A → A + c < 2 ^ 62 → n + c < 2 ^ 62
+    under n A c l u = omega arith
 
 over : (n A c r : ℕ) → n ≤ A → r ≤ n + c + 512 → r ≤ A + c + 512
 over n A c r l u = omega arith
 
-turned_within : (n : ℕ) {num den : ℕ} {p : Float} {y : ℕ} {r k m : Float} {num' den' : ℕ} {p' : Float} → Within n num den
+pub goes_on : (n : ℕ) {num den : ℕ} {p : Float} {y : ℕ} {r k m : Float} {num' den' : ℕ} {p' : Float} → Within n num den
     → Turned num den p y r (num_fixed (suc n)) (den_fixed (suc (suc n))) k m num' den' p' → Within (suc n) num' den'
-turned_within n {num} {den} {p} {y} {r} {k} {m} {num'} {den'} w t = (over num (num_most n) (num_fixed (suc n)) num' w.0 t.numerator.most, over den (den_most n) (den_fixed (suc (suc n))) den' w.1 t.denominator.most)
-
-pub goes_on : (n : ℕ) {num den num2 den2 : ℕ} {p p2 : Float} {y x : ℕ} {r q k m : Float} {num' den' num2' den2' : ℕ} {p' p2' : Float} → Sizes n num den num2 den2
-    → Turned num den p y r (num_fixed (suc n)) (den_fixed (suc (suc n))) k m num' den' p' × Turned num2 den2 p2 x q (num_fixed (suc n)) (den_fixed (suc (suc n))) k m num2' den2' p2'
-    → Sizes (suc n) num' den' num2' den2'
-goes_on n s t = record { first = turned_within n s.first t.0; second = turned_within n s.second t.1 }
+goes_on n {num} {den} {p} {y} {r} {k} {m} {num'} {den'} w t = (over num (num_most n) (num_fixed (suc n)) num' w.0 t.numerator.most, over den (den_most n) (den_fixed (suc (suc n))) den' w.1 t.denominator.most)
 
 -- ---- the series
 
@@ -211,14 +190,6 @@ near_threshold (fin false m e) y word Z = lt-ltb (m * up e * 1125899906842624) (
     go : (a d : ℕ) → a ≤ 4 * d → 0 < d → a * 1125899906842624 < 7961314590657215 * d
     go a d h p = omega arith
 
--- ---- k, as it is read back from its bits
-
-pub k_back : (k : ℤ) → mag k < 2000 → to_z w32 (of_z w32 k) ≡ k
-k_back k h = to_z-of_z w32 k (record { sfits = omega arith })
-
-pub k_small : (k : ℤ) → mag k < 2000 → mag (to_z w32 (of_z w32 k)) < 2000
-k_small k h = subst (λ (j : ℤ). mag j < 2000) (sym (k_back k h)) h
-
 -- ---- one argument's work put together
 
 pub assembled : (z a r v : Float) (y : ℕ) (k : ℤ) {n0 d1 n1 d2 n2 d3 n3 d4 n4 d5 n5 d6 : ℕ} {p0 p1 p2 p3 p4 p5 : Float} → y < 2 ^ 64 → Held z y 62 → a ≡ neg z ⊗ z ⊗ half → within_limits a ≡ true
@@ -228,7 +199,7 @@ pub assembled : (z a r v : Float) (y : ℕ) (k : ℤ) {n0 d1 n1 d2 n2 d3 n3 d4 n
     → Turned n2 d3 p2 y r (num_fixed 3) (den_fixed 4) (lit 0x4020_0000_0000_0000) (lit 0x401c_0000_0000_0000) n3 d4 p3
     → Turned n3 d4 p3 y r (num_fixed 4) (den_fixed 5) (lit 0x4018_0000_0000_0000) (lit 0x4014_0000_0000_0000) n4 d5 p4
     → Turned n4 d5 p4 y r (num_fixed 5) (den_fixed 6) (lit 0x4010_0000_0000_0000) (lit 0x4008_0000_0000_0000) n5 d6 p5
-    → Ended n5 d6 p5 y r (to_z w32 (of_z w32 k)) v → v ≡ upper_of fused_of z
+    → Ended n5 d6 p5 y r k v → v ≡ upper_of fused_of z
 unfolding upper_of
 assembled z a r v y k {n0} {d1} {n1} {d2} {n2} {d3} {n3} {d4} {n4} {d5} {n5} {d6} {p0} {p1} {p2} {p3} {p4} {p5} word Z a-is w r_is k_is B t1 t2 t3 t4 t5 E =
     let N = numerator_is z y Z n1 n2 n3 n4 n5 (subst (λ (n : ℕ). Stepped n y (num_fixed 1) n1) B.numerator t1.numerator) t2.numerator t3.numerator t4.numerator t5.numerator in

@@ -1,4 +1,5 @@
 -- What a swaption comes to by its rules: turned down, or let through with lists that fit. Assumes nothing.
+use Rattle.std.specs.Prelude.{Ok, Err}
 use mathlib.Core.Path.{◌≡◌, sym, ◌∙◌}
 use mathlib.Core.Bool.{Bool, true, not, ◌||◌}
 use mathlib.Core.List.{List}
@@ -9,9 +10,7 @@ use lib.ListN.{length}
 use lib.Ieee.{Float}
 use Rattle.refusals.specs.declared.curves.Faults.{Faults}
 use Rattle.refusals.specs.declared.refusals.Refusal.{Refusal}
-use Rattle.refusals.specs.declared.refusals.Answer.{Answer}
-use Rattle.refusals.specs.declared.refusals.Answer.TheVariants as A
-use Rattle.refusals.specs.Refusals.{refused, first_of}
+use Rattle.refusals.specs.Refusals.{first_of, Answer}
 use Rattle.refusals.specs.Order.{none_applies}
 use Rattle.refusals.specs.Checks.{in_order}
 use Rattle.refusals.specs.Faults.{curve_faults, pillar_faults, coupon_faults}
@@ -31,16 +30,16 @@ same_rules empty alpha strike t notional side c s k o a r = rw (← c, ← s, �
 -- ---- they turn the call down, or let it through
 module _ (option : SwaptionType) (alpha : Float) (pls ss ts fs payments accruals owns : List Float) (strike t notional side : Float) {answer : Answer}
     (r : answer ≡ first_of (pricer_rules_on alpha pls ss ts fs payments accruals owns strike t notional side)) where
-  pub turned_down : {q : Refusal} → answer ≡ A.Refused q → refused q ≡ pricer_outcome option alpha pls ss ts fs payments accruals owns strike t notional side
+  pub turned_down : {q : Refusal} → answer ≡ Err q → Err q ≡ pricer_outcome option alpha pls ss ts fs payments accruals owns strike t notional side
   unfolding pricer_outcome
   turned_down e = rw (← r, e)
 
-  pub let_through : answer ≡ A.Served → swaption_priced option alpha pls ss ts fs payments accruals owns strike t notional side ≡ pricer_outcome option alpha pls ss ts fs payments accruals owns strike t notional side
+  pub let_through : answer ≡ Ok tt → swaption_priced option alpha pls ss ts fs payments accruals owns strike t notional side ≡ pricer_outcome option alpha pls ss ts fs payments accruals owns strike t notional side
   unfolding pricer_outcome
   let_through e = rw (← r, e)
 
   -- by rule 1 the coupons' lists are of one length of at most 64, by rule 4 the curve's times strictly rise
-  pub lists_fit : answer ≡ A.Served → (length payments ≤ 64) × (length accruals ≡ length payments) × (length owns ≡ length payments) × (in_order true ts ≡ true)
+  pub lists_fit : answer ≡ Ok tt → (length payments ≤ 64) × (length accruals ≡ length payments) × (length owns ≡ length payments) × (in_order true ts ≡ true)
   lists_fit e =
       let none = (none_applies (pricer_rules_on alpha pls ss ts fs payments accruals owns strike t notional side)).0 (sym r ∙ e) in
       let curve = curve_faults ts fs in

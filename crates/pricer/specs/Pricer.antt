@@ -6,11 +6,13 @@ use Rattle.ieee.specs.Numbers.{zero, one}
 use Rattle.refusals.specs.declared.curves.Faults.{Faults}
 use Rattle.refusals.specs.declared.checks.Test.TheVariants.{Finite, Zero, Above}
 use Rattle.refusals.specs.declared.refusals.Refusal.TheVariants as R
-use Rattle.refusals.specs.Refusals.{Outcome, Rule, rule, unless}
+use Rattle.refusals.specs.declared.refusals.Rule.{Rule}
+use Rattle.refusals.specs.Refusals.{Outcome, rule, unless}
 use Rattle.refusals.specs.Checks.{all_of}
 use Rattle.refusals.specs.Faults.{curve_faults, pillar_faults, coupon_faults}
 use Rattle.pricer_formulas.specs.declared.bond_option.SwaptionType.{SwaptionType}
-use Rattle.pricer_value.specs.Value.{PricerValued, swaption_priced}
+use Rattle.pricer_value.specs.declared.value.Valuation.{Valuation}
+use Rattle.pricer_value.specs.Value.{swaption_priced}
 
 -- ---- rules 1 to 7, a line a rule
 
@@ -47,6 +49,6 @@ pricer_rules_on alpha pls ss ts fs payments accruals owns strike t notional side
 
 -- ---- the rules, then the value
 
-unfoldable pub pricer_outcome : SwaptionType → Float → List Float → List Float → List Float → List Float → List Float → List Float → List Float → Float → Float → Float → Float → Outcome PricerValued
+unfoldable pub pricer_outcome : SwaptionType → Float → List Float → List Float → List Float → List Float → List Float → List Float → List Float → Float → Float → Float → Float → Outcome Valuation
 pricer_outcome option alpha pls ss ts fs payments accruals owns strike t notional side =
     unless (pricer_rules_on alpha pls ss ts fs payments accruals owns strike t notional side) (swaption_priced option alpha pls ss ts fs payments accruals owns strike t notional side)

@@ -2,13 +2,13 @@
 ghost use Rattle.std.specs.Prelude.{◌≡◌};
 ghost use Rattle.refusals.specs.Refusals.{reported, first_of};
 ghost use Rattle.refusals.specs.Faults.{curve_faults};
-ghost use Rattle.pricer_value.specs.Value.{valuation_outcome, no_pricer_valued};
+ghost use Rattle.pricer_value.specs.Value.{no_valuation};
 ghost use Rattle.pricer.specs.Pricer.{own_faults, pricer_rules, pricer_outcome};
 ghost use Rattle.pricer.specs.Demand3.{PricerRootLocated, PricerNoBracketExactly};
 
 use pricer_formulas::Trade;
 use pricer_value::Valuation;
-use refusals::{Answer, Faults, Refusal, Test};
+use refusals::{Faults, Refusal, Test};
 
 // Kinds 6 (payer) and 7 (receiver). Pillars are times and sigmas, and without any the state does not move; coupons
 // are payment times, accruals and own discount factors, all 0 where the curve's own serve.
@@ -22,11 +22,11 @@ pub fn swaption_value(
     payments: &[f64],
     accruals: &[f64],
     own_dfs: &[f64],
-) -> Valuation
-    ensures answer { valuation_outcome result ≡ pricer_outcome trade.option alpha pillars.now sigmas.now times.now factors.now payments.now accruals.now own_dfs.now trade.strike trade.t trade.notional trade.side }
+) -> Result<Valuation, Refusal>
+    ensures answer { result ≡ pricer_outcome trade.option alpha pillars.now sigmas.now times.now factors.now payments.now accruals.now own_dfs.now trade.strike trade.t trade.notional trade.side }
     ensures rooted { PricerRootLocated alpha pillars.now sigmas.now times.now factors.now payments.now accruals.now own_dfs.now trade.strike trade.t trade.notional trade.side result }
     ensures bracket { PricerNoBracketExactly alpha pillars.now sigmas.now times.now factors.now payments.now accruals.now own_dfs.now trade.strike trade.t trade.notional trade.side result }
-    ensures report { reported no_pricer_valued (valuation_outcome result) ≡ reported no_pricer_valued (pricer_outcome trade.option alpha pillars.now sigmas.now times.now factors.now payments.now accruals.now own_dfs.now trade.strike trade.t trade.notional trade.side) }
+    ensures report { reported no_valuation result ≡ reported no_valuation (pricer_outcome trade.option alpha pillars.now sigmas.now times.now factors.now payments.now accruals.now own_dfs.now trade.strike trade.t trade.notional trade.side) }
 {
     let curve = refusals::curve_faults(times, factors);
     swaption_value_on(
@@ -47,22 +47,19 @@ pub fn swaption_value_on(
     payments: &[f64],
     accruals: &[f64],
     own_dfs: &[f64],
-) -> Valuation
+) -> Result<Valuation, Refusal>
     requires { curve ≡ curve_faults times.now factors.now }
-    ensures answer { valuation_outcome result ≡ pricer_outcome trade.option alpha pillars.now sigmas.now times.now factors.now payments.now accruals.now own_dfs.now trade.strike trade.t trade.notional trade.side }
+    ensures answer { result ≡ pricer_outcome trade.option alpha pillars.now sigmas.now times.now factors.now payments.now accruals.now own_dfs.now trade.strike trade.t trade.notional trade.side }
     ensures rooted { PricerRootLocated alpha pillars.now sigmas.now times.now factors.now payments.now accruals.now own_dfs.now trade.strike trade.t trade.notional trade.side result }
     ensures bracket { PricerNoBracketExactly alpha pillars.now sigmas.now times.now factors.now payments.now accruals.now own_dfs.now trade.strike trade.t trade.notional trade.side result }
-    ensures report { reported no_pricer_valued (valuation_outcome result) ≡ reported no_pricer_valued (pricer_outcome trade.option alpha pillars.now sigmas.now times.now factors.now payments.now accruals.now own_dfs.now trade.strike trade.t trade.notional trade.side) }
+    ensures report { reported no_valuation result ≡ reported no_valuation (pricer_outcome trade.option alpha pillars.now sigmas.now times.now factors.now payments.now accruals.now own_dfs.now trade.strike trade.t trade.notional trade.side) }
 {
     let schedule = refusals::pillar_faults(pillars, sigmas);
     let coupons = refusals::coupon_faults(payments, accruals);
     let own = own_faults(payments, own_dfs);
     let later = refusals::all(payments, Test::Above(trade.t));
     let empty = payments.len() == 0;
-    let answer = pricer_rules(curve, schedule, coupons, own, later, empty, alpha, trade);
-    if let Answer::Refused(refusal) = answer {
-        return Valuation::Refused(refusal);
-    }
+    pricer_rules(curve, schedule, coupons, own, later, empty, alpha, trade)?;
     pricer_value::swaption_priced(
         trade, alpha, pillars, sigmas, times, factors, payments, accruals, own_dfs,
     )
@@ -89,7 +86,7 @@ fn pricer_rules(
     empty: bool,
     alpha: f64,
     trade: Trade,
-) -> Answer
+) -> Result<(), Refusal>
     ensures { result ≡ first_of (pricer_rules curve schedule coupons own later empty alpha trade.strike trade.t trade.notional trade.side) }
 {
     let finite = math_elementary::is_finite(alpha)
@@ -97,23 +94,20 @@ fn pricer_rules(
         & math_elementary::is_finite(trade.t)
         & math_elementary::is_finite(trade.notional)
         & math_elementary::is_finite(trade.side);
-    let mut answer = refusals::and_rule(
-        Answer::Served,
-        Refusal::Size,
-        curve.size | schedule.size | coupons.size | own.size,
-    );
-    answer = refusals::and_rule(
-        answer,
-        Refusal::NotFinite,
-        curve.not_finite | schedule.not_finite | coupons.not_finite | own.not_finite | !finite,
-    );
-    answer = refusals::and_rule(answer, Refusal::MeanReversion, alpha <= 0.0);
-    answer = refusals::and_rule(answer, Refusal::Order, curve.order | schedule.order);
-    answer = refusals::and_rule(answer, Refusal::Times, (trade.t < 0.0) | !later);
-    answer = refusals::and_rule(
-        answer,
-        Refusal::Domain,
-        schedule.domain | curve.domain | own.domain | ((trade.side != 1.0) & (trade.side != -1.0)),
-    );
-    refusals::and_rule(answer, Refusal::Empty, empty)
+    refusals::first_of(&[
+        Refusal::Size.when(curve.size | schedule.size | coupons.size | own.size),
+        Refusal::NotFinite.when(
+            curve.not_finite | schedule.not_finite | coupons.not_finite | own.not_finite | !finite,
+        ),
+        Refusal::MeanReversion.when(alpha <= 0.0),
+        Refusal::Order.when(curve.order | schedule.order),
+        Refusal::Times.when((trade.t < 0.0) | !later),
+        Refusal::Domain.when(
+            schedule.domain
+                | curve.domain
+                | own.domain
+                | ((trade.side != 1.0) & (trade.side != -1.0)),
+        ),
+        Refusal::Empty.when(empty),
+    ])
 }

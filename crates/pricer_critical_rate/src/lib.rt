@@ -6,5 +6,5 @@ mod find;
 mod implicit;
 mod rules;
 
-pub use find::{CriticalRate, find_critical_rate};
+pub use find::find_critical_rate;
 pub use implicit::{ImplicitRate, implicit_critical_rate};

@@ -1,5 +1,5 @@
 -- `implicit_critical_rate_of`: "adds one Newton step". Document 01: "Sums start at 0 (the Newton step's objective at -1) and run left to right."
-use Rattle.std.specs.Prelude.{cond, List, [], ◌∷◌, Float}
+use Rattle.std.specs.Prelude.{cond, List, [], ◌∷◌, Float, Ok, Err}
 use Rattle.std.specs.Float.Ieee.{neg, lt}
 use Rattle.ieee.specs.Rounded.{◌⊕◌, ◌⊖◌, ◌⊗◌, ◌⊘◌}
 use Rattle.ieee.specs.Decimal.{decimal}
@@ -7,10 +7,8 @@ use Rattle.ieee.specs.Numbers.{zero, one}
 use Rattle.math_elementary.specs.Simple.{abs_of}
 use Rattle.math_exponential.specs.Exp.{exp_of}
 use Rattle.refusals.specs.declared.refusals.Refusal.TheVariants as R
-use Rattle.refusals.specs.Refusals.{Outcome, served, refused}
+use Rattle.refusals.specs.Refusals.{Outcome}
 use Rattle.pricer_formulas.specs.declared.newton.Sums.{Sums}
-use Rattle.pricer_formulas.specs.declared.newton.Step.{Step}
-use Rattle.pricer_formulas.specs.declared.newton.Step.TheVariants as S
 
 -- a term's bond at a rate: A × exp(rate × -B)
 unfoldable pub bond_at : Float → Float → Float → Float
@@ -34,10 +32,6 @@ sums_of rate cs affs bs = sums_from rate (record { objective = neg one; derivati
 abbrev pub flat_limit : Float
 flat_limit = decimal 1 14
 
-abbrev pub step_outcome : Step → Outcome Float
-step_outcome (S.To r) = served r
-step_outcome S.Flat = refused R.FlatDerivative
-
 -- rule 11: "The critical-rate derivative is below 1e-14 in size"; else rate - objective/derivative
 unfoldable pub stepped : Float → Sums → Outcome Float
-stepped rate sums = cond (lt (abs_of sums.derivative) flat_limit) (refused R.FlatDerivative) (served (rate ⊖ sums.objective ⊘ sums.derivative))
+stepped rate sums = cond (lt (abs_of sums.derivative) flat_limit) (Err R.FlatDerivative) (Ok (rate ⊖ sums.objective ⊘ sums.derivative))

@@ -10,7 +10,7 @@ mod value;
 mod variance;
 
 pub use bond_option::SwaptionType;
-pub use newton::{Step, implicit_critical_rate_of};
+pub use newton::implicit_critical_rate_of;
 pub use trade::Trade;
 pub use value::{Decomposition, components};
 pub use variance::{affine_a_list, pricer_deviation};

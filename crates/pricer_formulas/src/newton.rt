@@ -1,19 +1,14 @@
 // implicit_critical_rate: one Newton step from the rate that was found.
 ghost use Rattle.std.specs.Prelude.{◌≡◌, length};
-ghost use Rattle.pricer_formulas.specs.Newton.{bond_at, sums_after, sums_of, step_outcome, stepped};
+ghost use Rattle.pricer_formulas.specs.Newton.{bond_at, sums_after, sums_of, stepped};
+
+use refusals::Refusal;
 
 // The coupon sum less 1, and its derivative by the rate.
 #[derive(Clone, Copy)]
 pub struct Sums {
     pub objective: f64,
     pub derivative: f64,
-}
-
-// The rate after the step, or a derivative too small to divide by.
-#[derive(Clone, Copy)]
-pub enum Step {
-    To(f64),
-    Flat,
 }
 
 // A term's bond at a rate.
@@ -43,24 +38,22 @@ fn newton_sums(rate: f64, c: &[f64], a: &[f64], b: &[f64]) -> Sums
         objective: -1.0,
         derivative: 0.0,
     };
-    let mut i = 0;
-    while i < c.len() {
+    for i in 0..c.len() {
         total = sums_after(rate, c[i], a[i], b[i], total);
-        i += 1;
     }
     total
 }
 
 // The step. A caller that has worked the terms, or has asked rule 1 of them, has an A and a B for each
 // coefficient.
-pub fn implicit_critical_rate_of(rate: f64, c: &[f64], a: &[f64], b: &[f64]) -> Step
+pub fn implicit_critical_rate_of(rate: f64, c: &[f64], a: &[f64], b: &[f64]) -> Result<f64, Refusal>
     requires { (length a.now ≡ length c.now) × (length b.now ≡ length c.now) }
-    ensures { step_outcome result ≡ stepped rate (sums_of rate c.now a.now b.now) }
+    ensures { result ≡ stepped rate (sums_of rate c.now a.now b.now) }
 {
     let total = newton_sums(rate, c, a, b);
     if math_elementary::abs(total.derivative) < 1e-14 {
-        Step::Flat
+        Err(Refusal::FlatDerivative)
     } else {
-        Step::To(rate - total.objective / total.derivative)
+        Ok(rate - total.objective / total.derivative)
     }
 }

@@ -52,12 +52,10 @@ pub fn components(
 {
     let own = !refusals::all(own_dfs, Test::Zero);
     let mut value = 0.0;
-    let mut i = 0;
-    while i < c.len() {
+    for i in 0..c.len() {
         let plain = component(common, a[i], b[i], p[i]);
         let due = discounted(own, plain, own_dfs[i], p[i]);
         value = value + due * c[i];
-        i += 1;
     }
     value
 }

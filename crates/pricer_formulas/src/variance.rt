@@ -25,9 +25,7 @@ pub fn affine_a_list(variance: f64, forward: f64, p_t: f64, b: &[f64], p: &[f64]
     requires { (length out.old ≡ length b.now) × (length p.now ≡ length b.now) }
     ensures { out.new ≡ affine_aList_of variance forward p_t b.now p.now }
 {
-    let mut i = 0;
-    while i < b.len() {
+    for i in 0..b.len() {
         out[i] = affine_a(variance, forward, p_t, b[i], p[i]);
-        i += 1;
     }
 }

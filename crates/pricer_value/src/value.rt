@@ -2,25 +2,20 @@
 ghost use Rattle.std.specs.Prelude.{◌≡◌, true, ◌≤◌, length};
 ghost use Rattle.refusals.specs.Checks.{in_order};
 ghost use Rattle.pricer_formulas.specs.Affine.{pricer_deviation_of, affine_aList_of};
-ghost use Rattle.pricer_value.specs.Value.{valuation_outcome, priced_by, swaption_priced, finishing_valuation};
+ghost use Rattle.pricer_value.specs.Value.{priced_by, swaption_priced, finishing_valuation};
 
-use hullwhite_terms::WorkedTerms;
-use pricer_formulas::{Decomposition, Step, Trade};
+use hullwhite_terms::TermsAhead;
+use pricer_formulas::{Decomposition, Trade};
 use refusals::Refusal;
-use search::{Bracket, Critical};
+use search::Root;
 
-// The value, the critical rate after and before the Newton step, the final bracket, and the rungs.
-#[derive(Clone, Copy)]
-pub enum Valuation {
-    Served {
-        value: f64,
-        stepped: f64,
-        rate: f64,
-        bracket: Bracket,
-        below: u64,
-        above: u64,
-    },
-    Refused(Refusal),
+// The value, the critical rate after the Newton step, and where the root lies: the rate before the step, the final bracket, and
+// the rungs.
+#[derive(Clone, Copy, Default)]
+pub struct Valuation {
+    pub value: f64,
+    pub after_step: f64,
+    pub root: Root,
 }
 
 // The factors and the terms, then the value. A caller that has asked the rules has the coupons' lists of one length
@@ -35,15 +30,15 @@ pub fn swaption_priced(
     payments: &[f64],
     accruals: &[f64],
     own_dfs: &[f64],
-) -> Valuation
+) -> Result<Valuation, Refusal>
     requires { (length payments.now ≤ 64) × (length accruals.now ≡ length payments.now) × (length own_dfs.now ≡ length payments.now) × (in_order true times.now ≡ true) }
-    ensures { valuation_outcome result ≡ swaption_priced trade.option alpha pillars.now sigmas.now times.now factors.now payments.now accruals.now own_dfs.now trade.strike trade.t trade.notional trade.side }
+    ensures { result ≡ swaption_priced trade.option alpha pillars.now sigmas.now times.now factors.now payments.now accruals.now own_dfs.now trade.strike trade.t trade.notional trade.side }
 {
     let n = payments.len();
     let mut c = [0.0; 64];
     let mut b = [0.0; 64];
     let mut p = [0.0; 64];
-    let worked = hullwhite_terms::swaption_terms(
+    let TermsAhead { p_t, forward } = hullwhite_terms::swaption_terms(
         alpha,
         times,
         factors,
@@ -54,25 +49,20 @@ pub fn swaption_priced(
         &mut c[..n],
         &mut b[..n],
         &mut p[..n],
+    )?;
+    let state_variance = hullwhite_parameters::hull_white_piecewise_variance_of(
+        alpha, pillars, sigmas, 0.0, trade.t,
     );
-    match worked {
-        WorkedTerms::Refused(refusal) => Valuation::Refused(refusal),
-        WorkedTerms::Served { p_t, forward } => {
-            let state_variance = hullwhite_parameters::hull_white_piecewise_variance_of(
-                alpha, pillars, sigmas, 0.0, trade.t,
-            );
-            terms_priced(
-                trade,
-                state_variance,
-                p_t,
-                forward,
-                &c[..n],
-                &b[..n],
-                &p[..n],
-                own_dfs,
-            )
-        }
-    }
+    terms_priced(
+        trade,
+        state_variance,
+        p_t,
+        forward,
+        &c[..n],
+        &b[..n],
+        &p[..n],
+        own_dfs,
+    )
 }
 
 // A of each term, then the value; the lists are of one length of at most 64.
@@ -85,9 +75,9 @@ fn terms_priced(
     b: &[f64],
     p: &[f64],
     own_dfs: &[f64],
-) -> Valuation
+) -> Result<Valuation, Refusal>
     requires { (length c.now ≤ 64) × (length b.now ≡ length c.now) × (length p.now ≡ length c.now) × (length own_dfs.now ≡ length c.now) }
-    ensures { valuation_outcome result ≡ priced_by trade.option (pricer_deviation_of state_variance) p_t c.now (affine_aList_of state_variance forward p_t b.now p.now) b.now p.now own_dfs.now trade.notional trade.side }
+    ensures { result ≡ priced_by trade.option (pricer_deviation_of state_variance) p_t c.now (affine_aList_of state_variance forward p_t b.now p.now) b.now p.now own_dfs.now trade.notional trade.side }
 {
     let n = c.len();
     let mut a = [0.0; 64];
@@ -107,62 +97,38 @@ fn priced_by(
     b: &[f64],
     p: &[f64],
     own_dfs: &[f64],
-) -> Valuation
+) -> Result<Valuation, Refusal>
     requires { (length c.now ≤ 64) × (length a.now ≡ length c.now) × (length b.now ≡ length c.now) × (length p.now ≡ length c.now) × (length own_dfs.now ≡ length c.now) }
-    ensures { valuation_outcome result ≡ priced_by trade.option deviation p_t c.now a.now b.now p.now own_dfs.now trade.notional trade.side }
+    ensures { result ≡ priced_by trade.option deviation p_t c.now a.now b.now p.now own_dfs.now trade.notional trade.side }
 {
-    let found = hullwhite_terms::find_critical_rate_of(c, a, b);
-    if let Critical::NotANumber = found {
-        return Valuation::Refused(Refusal::NanReached);
-    }
-    let Critical::Found {
-        bracket,
-        below,
-        above,
-        rate,
-    } = found
-    else {
-        return Valuation::Refused(Refusal::NoBracket);
-    };
-    let Step::To(stepped) = pricer_formulas::implicit_critical_rate_of(rate, c, a, b) else {
-        return Valuation::Refused(Refusal::FlatDerivative);
-    };
+    let root = hullwhite_terms::find_critical_rate_of(c, a, b)?;
+    let after_step = pricer_formulas::implicit_critical_rate_of(root.rate, c, a, b)?;
     let option = trade.option;
     let common = Decomposition {
         option,
         deviation,
         p_t,
-        rate: stepped,
+        rate: after_step,
     };
     let sum = pricer_formulas::components(common, c, a, b, p, own_dfs);
     let value = sum * trade.notional * trade.side;
-    finished(value, stepped, rate, bracket, below, above)
+    finished(Valuation {
+        value,
+        after_step,
+        root,
+    })
 }
 
 // Rule 13 looks at every float of the answer.
-fn finished(
-    value: f64,
-    stepped: f64,
-    rate: f64,
-    bracket: Bracket,
-    below: u64,
-    above: u64,
-) -> Valuation
-    ensures { valuation_outcome result ≡ finishing_valuation (record { value = value; after_step = stepped; root = record { rate = rate; bracket = bracket; low_rung = below; high_rung = above } }) }
+fn finished(valuation: Valuation) -> Result<Valuation, Refusal>
+    ensures { result ≡ finishing_valuation valuation }
 {
-    let finite = math_elementary::is_finite(value)
-        & math_elementary::is_finite(stepped)
-        & search::root_finite(rate, bracket);
+    let finite = math_elementary::is_finite(valuation.value)
+        & math_elementary::is_finite(valuation.after_step)
+        & valuation.root.is_finite();
     if finite {
-        Valuation::Served {
-            value,
-            stepped,
-            rate,
-            bracket,
-            below,
-            above,
-        }
+        Ok(valuation)
     } else {
-        Valuation::Refused(Refusal::Overflow)
+        Err(Refusal::Overflow)
     }
 }

@@ -1,5 +1,5 @@
 -- Document 01, "Cases proved", as one table under one computed check.
-use Rattle.std.specs.Prelude.{◌≡◌, ℕ, Bool, true, ◌&&◌, eqb, Float}
+use Rattle.std.specs.Prelude.{◌≡◌, ℕ, Bool, true, ◌&&◌, eqb, Float, Ok, Err}
 use mathlib.Core.List.{List, [], ◌∷◌}
 use Rattle.std.specs.Float.Ieee.{neg}
 use Rattle.ieee.specs.Decimal.{decimal}
@@ -11,7 +11,7 @@ use Rattle.math_elementary.specs.Simple.{signum_of}
 use Rattle.math_exponential.specs.Exp.{exp_of}
 use Rattle.math_elementary.specs.Ln.{ln_of}
 use Rattle.math_normal.specs.NormCdf.{norm_cdf_of, norm_cdf_dual_of}
-use Rattle.refusals.specs.Refusals.{Outcome, served, refused, following, number_of, answer_of, answer_number, value_or}
+use Rattle.refusals.specs.Refusals.{Outcome, following, number_of, answer_of, answer_number, value_or}
 use Rattle.pricer_critical_rate.specs.Find.{find_outcome}
 use Rattle.pricer_formulas.specs.Newton.{sums_of, stepped}
 
@@ -44,14 +44,14 @@ pub data Call : Type 0 where
 
 -- What the definitions answer; each public function is proved equal to its definition. A search is the call `find_critical_rate` of `pricer_critical_rate`. The Newton step is part of `swaption_value`.
 abbrev pub answer : Call → Outcome Float
-answer (N x) = served (norm_cdf_of x)
-answer (N-dual x) = served (norm_cdf_dual_of x)
-answer (exp x) = served (exp_of x)
-answer (ln x) = served (ln_of x)
-answer (sqrt x) = served (sqrt_of x)
-answer (signum x) = served (signum_of x)
-answer (fused a b c) = served (fused_of a b c)
-answer (critical cs affs bs) = following (find_outcome cs affs bs) (λ v. served v.rate)
+answer (N x) = Ok (norm_cdf_of x)
+answer (N-dual x) = Ok (norm_cdf_dual_of x)
+answer (exp x) = Ok (exp_of x)
+answer (ln x) = Ok (ln_of x)
+answer (sqrt x) = Ok (sqrt_of x)
+answer (signum x) = Ok (signum_of x)
+answer (fused a b c) = Ok (fused_of a b c)
+answer (critical cs affs bs) = following (find_outcome cs affs bs) (λ v. Ok v.rate)
 answer (newton rate cs affs bs) = stepped rate (sums_of rate cs affs bs)
 
 -- a row: document 01's number and the value
@@ -84,8 +84,8 @@ table =
 
 -- ---- the check, and the law of each row
 abbrev pub gives : Outcome Float → ℕ → Float → Bool
-gives (served v) number value = eqb 0 number && same v value
-gives (refused r) number value = eqb (number_of r) number && same zero value
+gives (Ok v) number value = eqb 0 number && same v value
+gives (Err r) number value = eqb (number_of r) number && same zero value
 
 abbrev pub right : Case → Bool
 right c = gives (answer c.asked) c.number c.value

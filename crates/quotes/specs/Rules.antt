@@ -5,7 +5,8 @@ use Rattle.std.specs.Float.Ieee.Scale.{finite}
 use Rattle.ieee.specs.Numbers.{zero}
 use Rattle.refusals.specs.declared.curves.Faults.{Faults}
 use Rattle.refusals.specs.declared.refusals.Refusal.TheVariants as R
-use Rattle.refusals.specs.Refusals.{Rule, rule}
+use Rattle.refusals.specs.declared.refusals.Rule.{Rule}
+use Rattle.refusals.specs.Refusals.{rule}
 
 -- a quoted volatility's formula: tau is a fit's option time, which is above 0; a Black strike is above 0, a normal one need not be
 abbrev pub quote_rules : Bool → Float → Float → Float → Float → List Rule

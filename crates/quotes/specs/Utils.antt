@@ -1,37 +1,27 @@
 -- utils.rs as calls: d1 and d2, Black's call and put, Bachelier's call, and the annuity over given coupons.
-use Rattle.std.specs.Prelude.{true, false, cond, ◌&&◌, List, [], ◌∷◌, Float}
+use Rattle.std.specs.Prelude.{true, false, cond, ◌&&◌, List, [], ◌∷◌, Float, Ok, Err}
 use Rattle.std.specs.Float.Ieee.Scale.{finite}
 use Rattle.ieee.specs.Numbers.{zero}
 use Rattle.refusals.specs.declared.refusals.Refusal.TheVariants as R
-use Rattle.refusals.specs.Refusals.{Outcome, served, refused, unless, finishing}
+use Rattle.refusals.specs.Refusals.{Outcome, unless, finishing}
 use Rattle.curve.specs.Lookups.{factor_at, needing}
 use Rattle.refusals.specs.Faults.{curve_faults, coupon_faults}
 use Rattle.quotes.specs.Formulas.{quote_d1_of, quote_d2_of, black_call_of, black_put_of, bachelier_call_of, annuity_step}
-use Rattle.quotes.specs.declared.utils.D1D2.{D1D2}
-use Rattle.quotes.specs.declared.utils.D1D2.TheVariants as P
 use Rattle.quotes.specs.Rules.{quote_rules, annuity_rules}
-
--- the outcome of a call with two values, from the code's answer
-pub record D1D2Values : Type 0 where
-  pub first : Float
-  pub second : Float
+use Rattle.quotes.specs.declared.utils.D1D2.{D1D2}
 
 -- beside a refusal's number
-abbrev pub no_d1_d2 : D1D2Values
-no_d1_d2 = record { first = zero; second = zero }
-
-abbrev pub d1d2_answer_of : D1D2 → Outcome D1D2Values
-d1d2_answer_of (P.Served x y) = served (record { first = x; second = y })
-d1d2_answer_of (P.Refused r) = refused r
+abbrev pub no_d1_d2 : D1D2
+no_d1_d2 = record { d1 = zero; d2 = zero }
 
 -- d1 and d2; rule 13 looks at both
-unfoldable pub d1d2_worked : Float → Float → Float → Float → Outcome D1D2Values
+unfoldable pub d1d2_worked : Float → Float → Float → Float → Outcome D1D2
 d1d2_worked fwd strike vol tau =
     let d1 = quote_d1_of fwd strike vol tau in
     let d2 = quote_d2_of vol tau d1 in
-    cond (finite d1 && finite d2) (served (record { first = d1; second = d2 })) (refused R.Overflow)
+    cond (finite d1 && finite d2) (Ok (record { d1 = d1; d2 = d2 })) (Err R.Overflow)
 
-unfoldable pub d1d2_outcome : Float → Float → Float → Float → Outcome D1D2Values
+unfoldable pub d1d2_outcome : Float → Float → Float → Float → Outcome D1D2
 d1d2_outcome fwd strike vol tau = unless (quote_rules true fwd strike vol tau) (d1d2_worked fwd strike vol tau)
 
 unfoldable pub black_call_outcome : Float → Float → Float → Float → Outcome Float

@@ -1,19 +1,19 @@
--- Document 01, "How a call is turned down". An outcome is what a call gives by document 01, a value or a refusal; each enum of the code has the definition here, or in its own crate, that turns its cases into an outcome.
-use Rattle.std.specs.Prelude.{◌≡◌, Bool, cond, List, [], ◌∷◌, ℕ, Float}
+-- Document 01, "How a call is turned down". An outcome is what a call gives by document 01, a value or a refusal: the code's own `Result`.
+use Rattle.std.specs.Prelude.{◌≡◌, Bool, cond, List, [], ◌∷◌, ℕ, Float, Result, Ok, Err}
 use Rattle.std.specs.Float.Ieee.Scale.{finite}
 use Rattle.ieee.specs.Numbers as Numbers
 use Rattle.refusals.specs.declared.refusals.Refusal.{Refusal}
 use Rattle.refusals.specs.declared.refusals.Refusal.TheVariants as R
-use Rattle.refusals.specs.declared.refusals.Answer.{Answer}
-use Rattle.refusals.specs.declared.refusals.Answer.TheVariants as A
-use Rattle.refusals.specs.declared.refusals.Price.{Price}
-use Rattle.refusals.specs.declared.refusals.Price.TheVariants as P
+use Rattle.refusals.specs.declared.refusals.Rule.{Rule}
 use Rattle.refusals.specs.declared.refusals.PriceReport.{PriceReport}
 
 -- what a call gives
-pub data Outcome (A : Type 0) : Type 0 where
-  served : A → Outcome A
-  refused : Refusal → Outcome A
+abbrev pub Outcome : Type 0 → Type 0
+Outcome A = Result A Refusal
+
+-- what its rules come to, or whether a lent list was filled: an outcome without values
+abbrev pub Answer : Type 0
+Answer = Outcome (Unit {0})
 
 -- ---- an outcome's number and values
 
@@ -55,18 +55,18 @@ place_of R.Overflow = 17
 
 -- "Answer 0 is served."
 abbrev pub answer_number : Answer → ℕ
-answer_number A.Served = 0
-answer_number (A.Refused r) = number_of r
+answer_number (Ok _) = 0
+answer_number (Err r) = number_of r
 
 -- an outcome without its values
 abbrev pub answer_of : {A : Type 0} → Outcome A → Answer
-answer_of (served v) = A.Served
-answer_of (refused r) = A.Refused r
+answer_of (Ok v) = Ok tt
+answer_of (Err r) = Err r
 
 -- "with value +0, every other result field 0 and any returned part empty": the values, or those of a refusal, `none`
 abbrev pub value_or : {A : Type 0} → A → Outcome A → A
-value_or none (served v) = v
-value_or none (refused r) = none
+value_or none (Ok v) = v
+value_or none (Err r) = none
 
 -- "A refused call returns zeros beside its number": what a call reports, its number and its values, which are `none` where it is refused
 pub record Report (A : Type 0) : Type 0 where
@@ -79,28 +79,24 @@ reported none o = record { answer = answer_number (answer_of o); values = value_
 -- ---- rules 1 to 7, 14 and 15: "the first number below that applies"
 
 -- a rule, and whether it applies to the call
-pub record Rule : Type 0 where
-  pub refusal : Refusal
-  pub applies : Bool
-
 abbrev pub rule : Refusal → Bool → Rule
 rule r b = record { refusal = r; applies = b }
 
 unfoldable pub first_of : List Rule → Answer
-first_of [] = A.Served
-first_of (x ∷ xs) = cond x.applies (A.Refused x.refusal) (first_of xs)
+first_of [] = Ok tt
+first_of (x ∷ xs) = cond x.applies (Err x.refusal) (first_of xs)
 
 -- the same, rule after rule: one more rule turns down what those before it have let through
 unfoldable pub and_rule : Answer → Rule → Answer
-and_rule A.Served x = cond x.applies (A.Refused x.refusal) A.Served
-and_rule (A.Refused r) x = A.Refused r
+and_rule (Ok _) x = cond x.applies (Err x.refusal) (Ok tt)
+and_rule (Err r) x = Err r
 
 -- ---- from one step of a call to the next
 
 -- refused as the answer says, or as the rest says
 abbrev pub after : {A : Type 0} → Answer → Outcome A → Outcome A
-after A.Served rest = rest
-after (A.Refused r) rest = refused r
+after (Ok _) rest = rest
+after (Err r) rest = Err r
 
 -- turned down by the first of the rules that applies, or as the rest says
 abbrev pub unless : {A : Type 0} → List Rule → Outcome A → Outcome A
@@ -108,32 +104,25 @@ unless rules rest = after (first_of rules) rest
 
 -- a refusal met on the way is the call's own
 abbrev pub following : {A B : Type 0} → Outcome A → (A → Outcome B) → Outcome B
-following (served v) rest = rest v
-following (refused r) rest = refused r
+following (Ok v) rest = rest v
+following (Err r) rest = Err r
 
 -- a list one value longer, where there is one
 abbrev pub prepend : Float → Outcome (List Float) → Outcome (List Float)
-prepend x (served xs) = served (x ∷ xs)
-prepend x (refused r) = refused r
+prepend x (Ok xs) = Ok (x ∷ xs)
+prepend x (Err r) = Err r
 
 -- rule 13: "A float of the answer .. is not finite"
 abbrev pub finishing : Float → Outcome Float
-finishing v = cond (finite v) (served v) (refused R.Overflow)
+finishing v = cond (finite v) (Ok v) (Err R.Overflow)
 
 -- ---- a call with one value
 
-abbrev pub outcome_of : Price → Outcome Float
-outcome_of (P.Served v) = served v
-outcome_of (P.Refused r) = refused r
-
--- what is told outside of an outcome, and of the code's answer
+-- what is told of an outcome outside
 abbrev pub reported_price : Outcome Float → PriceReport
 reported_price o = record { answer = answer_number (answer_of o); value = value_or Numbers.zero o }
 
-abbrev pub price_report_of : Price → PriceReport
-price_report_of p = reported_price (outcome_of p)
-
 -- "Where an answer is an enum, there is a definition that gives this paper's number and values for each of its cases. The promises use that definition": what a call with one value promises of its answer, given the outcome that it is to have
-pub record Priced (p : Price) (o : Outcome Float) : Type 0 where
-  pub outcome : outcome_of p ≡ o
-  pub report : price_report_of p ≡ reported_price o
+pub record Priced (p o : Outcome Float) : Type 0 where
+  pub outcome : p ≡ o
+  pub report : reported_price p ≡ reported_price o

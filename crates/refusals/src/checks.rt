@@ -26,11 +26,8 @@ fn passes(test: Test, x: f64) -> bool
 pub fn all(xs: &[f64], test: Test) -> bool
     ensures { result ≡ all_of test xs.now }
 {
-    let mut i = 0;
-    while i < xs.len() {
-        if passes(test, xs[i]) {
-            i += 1;
-        } else {
+    for x in xs {
+        if !passes(test, *x) {
             return false;
         }
     }
@@ -48,19 +45,16 @@ pub fn follows(strictly: bool, before: f64, x: f64) -> bool
 pub fn in_order(xs: &[f64], strictly: bool) -> bool
     ensures { result ≡ in_order strictly xs.now }
 {
-    if xs.len() == 0 {
+    if xs.is_empty() {
         return true;
     }
     let mut before = xs[0];
-    let mut i = 1;
-    while i < xs.len() {
+    for i in 1..xs.len() {
         let x = xs[i];
-        if follows(strictly, before, x) {
-            before = x;
-            i += 1;
-        } else {
+        if !follows(strictly, before, x) {
             return false;
         }
+        before = x;
     }
     true
 }

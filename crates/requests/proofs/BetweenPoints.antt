@@ -1,5 +1,5 @@
 -- Document 02, A.4, of specs/BetweenPoints.antt: what a time is given by its place on a curve, and what refusal 8 is left for.
-use Rattle.std.specs.Prelude.{◌≡◌, refl, Bool, true, false, not, List, [], ◌∷◌, ℕ, suc, ◌+◌, ◌-◌, ◌≤◌, ◌<◌, T, ltb, eqb, length, get_or, Float}
+use Rattle.std.specs.Prelude.{◌≡◌, refl, Bool, true, false, not, List, [], ◌∷◌, ℕ, suc, ◌+◌, ◌-◌, ◌≤◌, ◌<◌, T, ltb, eqb, length, get_or, Float, Some, None}
 use Rattle.std.proofs.Common.{sym, ap, ◌∙◌, true≢false, suc-le-suc, arith, zero-lt-suc, eqb-true}
 use Rattle.std.proofs.lemmas.Bool.{not-false}
 use Rattle.std.specs.Float.{nan, inf, fin}
@@ -10,7 +10,7 @@ use Rattle.refusals.specs.Faults.{curve_faults}
 use Rattle.refusals.specs.Checks.{all_of, in_order}
 use Rattle.refusals.proofs.Order.{both, holds, held, refuted, lt_le, le_of_eq, lt_unequal, lt_not_above, above_unequal, lt_otherwise}
 use Rattle.refusals.proofs.Outcomes.{neither}
-use Rattle.curve.specs.Lookups.{Front, just, nothing, if_finite, factor_at}
+use Rattle.curve.specs.Lookups.{Front, if_finite, factor_at}
 use Rattle.curve.proofs.Halves.{rises, front, back, back_none}
 use Rattle.curve.proofs.Laws.{none_found}
 use Rattle.curve.proofs.Factors as Factors
@@ -28,7 +28,7 @@ equal_not_below x t e = refuted (lt x t) (λ l. true≢false (sym e ∙ lt_unequ
 
 module _ (ts fs : List Float) (c : Curve ts fs) (t : Float) where
   -- "A time on the list keeps its stored factor."
-  pub on_the_list : (k : ℕ) → On ts t k → factor_at ts fs t ≡ just (get_or fs k nan)
+  pub on_the_list : (k : ℕ) → On ts t k → factor_at ts fs t ≡ Some (get_or fs k nan)
   on_the_list k o =
       let h = o.listed in
       let z : k ≤ length ts = omega arith in
@@ -48,7 +48,7 @@ module _ (ts fs : List Float) (c : Curve ts fs) (t : Float) where
       Factors.between_two ts fs t (suc k) c.rising (n, below, back true ts t (suc k) c.rising (lt_not_above t (get_or ts (suc k) nan) b.below)) z h (rw c.paired h) (above_unequal (get_or ts (suc k) nan) t b.below) ∙ rw r refl
 
   -- a factor between two points that is finite is the factor, and one that is not leaves none
-  pub found : (k : ℕ) → Between ts t k → finite (between ts fs t k) ≡ true → factor_at ts fs t ≡ just (between ts fs t k)
+  pub found : (k : ℕ) → Between ts t k → finite (between ts fs t k) ≡ true → factor_at ts fs t ≡ Some (between ts fs t k)
   found k b f = between_neighbours k b ∙ rw f refl
 
   -- refusal 8 "for a factor so found that is not finite"
@@ -56,11 +56,11 @@ module _ (ts fs : List Float) (c : Curve ts fs) (t : Float) where
   not_finite k b f = between_neighbours k b ∙ rw f refl
 
   -- "for times before the first"
-  pub before : Before ts t → factor_at ts fs t ≡ nothing
+  pub before : Before ts t → factor_at ts fs t ≡ None
   before l = Factors.before_first ts fs t c.rising (back true ts t 0 c.rising (lt_not_above t (get_or ts 0 nan) l)) (above_unequal (get_or ts 0 nan) t l)
 
   -- "or after the last point"
-  pub after : After ts t → factor_at ts fs t ≡ nothing
+  pub after : After ts t → factor_at ts fs t ≡ None
   after a =
       let h = a.some in
       let m : length ts - 1 < length ts = omega arith in
@@ -103,12 +103,12 @@ stands (x ∷ ts) t n f =
     go behind n false true p q = next_place x ts t behind (holds (lt x t) q)
     go behind n false false p q = before_first (lt_otherwise (inf true) x t (above_minus_infinity x n) (above_minus_infinity t f) q p)
 
-same : {p q : Float} → just p ≡ just q → p ≡ q
+same : {p q : Float} → Some p ≡ Some q → p ≡ q
 same h = cc
 
 module _ (ts fs : List Float) (c : Curve ts fs) (t : Float) (f : finite t ≡ true) where
   -- "Refusal 8 is left for" these and no others
-  pub left_alone : factor_at ts fs t ≡ nothing → Left ts fs t
+  pub left_alone : factor_at ts fs t ≡ None → Left ts fs t
   left_alone h = go (stands ts t c.numbers f)
     where
       judged : (k : ℕ) → Between ts t k → (b : Bool) → finite (between ts fs t k) ≡ b → Left ts fs t
@@ -122,14 +122,14 @@ module _ (ts fs : List Float) (c : Curve ts fs) (t : Float) (f : finite t ≡ tr
       go (before_first b) = for_before b
       go (after_last a) = for_after a
 
-  pub left : Left ts fs t → factor_at ts fs t ≡ nothing
+  pub left : Left ts fs t → factor_at ts fs t ≡ None
   left (for_no_points e) = rw e (no_points fs t)
   left (for_before b) = before ts fs c t b
   left (for_after a) = after ts fs c t a
   left (for_not_finite k b e) = not_finite ts fs c t k b e
 
   -- and a factor that is found is a stored one or one between two neighbours
-  pub given_alone : {factor : Float} → factor_at ts fs t ≡ just factor → Given ts fs t factor
+  pub given_alone : {factor : Float} → factor_at ts fs t ≡ Some factor → Given ts fs t factor
   given_alone {factor} h = go (stands ts t c.numbers f)
     where
       judged : (k : ℕ) → Between ts t k → (b : Bool) → finite (between ts fs t k) ≡ b → Given ts fs t factor

@@ -1,29 +1,29 @@
 -- Rules asked one behind the other: what one more of them comes to, in the middle or at the end. Assumes nothing.
-use Rattle.std.specs.Prelude.{◌≡◌, refl, Bool, true, false, cond, not, ◌&&◌, ◌||◌, List, [], ◌∷◌, ◌++◌, ℕ, T, ltb, eqb}
+use Rattle.std.specs.Prelude.{◌≡◌, refl, Bool, true, false, cond, not, ◌&&◌, ◌||◌, List, [], ◌∷◌, ◌++◌, ℕ, T, ltb, eqb, Ok, Err}
 use Rattle.std.proofs.Common.{ap, inl, inr, arith, ltb→lt}
 use Rattle.std.proofs.Math.Dec.{eqb_refl}
 use Rattle.std.specs.Float.Ieee.Fits.{and_l, and_r}
 use Rattle.refusals.specs.declared.refusals.Refusal.{Refusal}
-use Rattle.refusals.specs.declared.refusals.Answer.TheVariants as A
-use Rattle.refusals.specs.Refusals.{Outcome, refused, place_of, Rule, rule, first_of, unless}
+use Rattle.refusals.specs.declared.refusals.Rule.{Rule}
+use Rattle.refusals.specs.Refusals.{Outcome, place_of, rule, first_of, unless}
 use Rattle.refusals.specs.Order.{First, first_applies}
 
 -- a rule that applies, behind which no rule does: what those before it let through is refused by it
-pub asked_behind : {B : Type 0} (xs : List Rule) (q : Refusal) (ys zs : List Rule) (rest : Outcome B) → first_of zs ≡ A.Served → unless (xs ++ (rule q true ∷ ys)) rest ≡ unless (xs ++ (rule q false ∷ zs)) (refused q)
+pub asked_behind : {B : Type 0} (xs : List Rule) (q : Refusal) (ys zs : List Rule) (rest : Outcome B) → first_of zs ≡ Ok tt → unless (xs ++ (rule q true ∷ ys)) rest ≡ unless (xs ++ (rule q false ∷ zs)) (Err q)
 unfolding first_of
 asked_behind [] q ys zs rest none = rw none refl
 asked_behind (x ∷ xs) q ys zs rest none = go x.applies (asked_behind xs q ys zs rest none)
   where
-    go : (b : Bool) → unless (xs ++ (rule q true ∷ ys)) rest ≡ unless (xs ++ (rule q false ∷ zs)) (refused q) → unless (rule x.refusal b ∷ xs ++ (rule q true ∷ ys)) rest ≡ unless (rule x.refusal b ∷ xs ++ (rule q false ∷ zs)) (refused q)
+    go : (b : Bool) → unless (xs ++ (rule q true ∷ ys)) rest ≡ unless (xs ++ (rule q false ∷ zs)) (Err q) → unless (rule x.refusal b ∷ xs ++ (rule q true ∷ ys)) rest ≡ unless (rule x.refusal b ∷ xs ++ (rule q false ∷ zs)) (Err q)
     go true e = refl
     go false e = e
 
-pub silent : (q : Refusal) → first_of (rule q false ∷ []) ≡ A.Served
+pub silent : (q : Refusal) → first_of (rule q false ∷ []) ≡ Ok tt
 unfolding first_of
 silent q = refl
 
 -- and asked last
-pub asked_last : {B : Type 0} (xs : List Rule) (q : Refusal) (rest : Outcome B) → unless (xs ++ (rule q true ∷ [])) rest ≡ unless (xs ++ (rule q false ∷ [])) (refused q)
+pub asked_last : {B : Type 0} (xs : List Rule) (q : Refusal) (rest : Outcome B) → unless (xs ++ (rule q true ∷ [])) rest ≡ unless (xs ++ (rule q false ∷ [])) (Err q)
 unfolding first_of
 asked_last xs q rest = asked_behind xs q [] [] rest refl
 
@@ -31,15 +31,15 @@ asked_last xs q rest = asked_behind xs q [] [] rest refl
 pub silent_last : (xs : List Rule) (q : Refusal) → first_of (xs ++ (rule q false ∷ [])) ≡ first_of xs
 unfolding first_of
 silent_last [] q = refl
-silent_last (x ∷ xs) q = ap (cond x.applies (A.Refused x.refusal)) (silent_last xs q)
+silent_last (x ∷ xs) q = ap (cond x.applies (Err x.refusal)) (silent_last xs q)
 
 -- and what all before let through is left to the others
-pub let_through : (xs ys : List Rule) → first_of xs ≡ A.Served → first_of (xs ++ ys) ≡ first_of ys
+pub let_through : (xs ys : List Rule) → first_of xs ≡ Ok tt → first_of (xs ++ ys) ≡ first_of ys
 unfolding first_of
 let_through [] ys e = refl
 let_through (x ∷ xs) ys e = go (let_through xs ys) x.applies e
   where
-    go : (first_of xs ≡ A.Served → first_of (xs ++ ys) ≡ first_of ys) → (b : Bool) → cond b (A.Refused x.refusal) (first_of xs) ≡ A.Served → cond b (A.Refused x.refusal) (first_of (xs ++ ys)) ≡ first_of ys
+    go : (first_of xs ≡ Ok tt → first_of (xs ++ ys) ≡ first_of ys) → (b : Bool) → cond b (Err x.refusal) (first_of xs) ≡ Ok tt → cond b (Err x.refusal) (first_of (xs ++ ys)) ≡ first_of ys
     go later true k = absurd (let z : ◌≡◌ {A = ℕ} 1 0 = cc in omega arith)
     go later false k = later k
 
@@ -49,13 +49,13 @@ before q [] = true
 before q (x ∷ xs) = ltb (place_of x.refusal) (place_of q) && before q xs
 
 -- so that where q is met that is asked last, and all before it have other places, it applies and they let the call through
-pub asked_last_first : (xs : List Rule) (q : Refusal) (b : Bool) → T (before q xs) → first_of (xs ++ (rule q b ∷ [])) ≡ A.Refused q → (first_of xs ≡ A.Served) × (b ≡ true)
+pub asked_last_first : (xs : List Rule) (q : Refusal) (b : Bool) → T (before q xs) → first_of (xs ++ (rule q b ∷ [])) ≡ Err q → (first_of xs ≡ Ok tt) × (b ≡ true)
 unfolding first_of
 asked_last_first [] q true k e = (refl, refl)
 asked_last_first [] q false k e = absurd (let z : ◌≡◌ {A = ℕ} 0 1 = cc in omega arith)
 asked_last_first (x ∷ xs) q b k e = go (asked_last_first xs q b (and_r (ltb (place_of x.refusal) (place_of q)) (before q xs) k)) x.applies e
   where
-    go : (first_of (xs ++ (rule q b ∷ [])) ≡ A.Refused q → (first_of xs ≡ A.Served) × (b ≡ true)) → (c : Bool) → cond c (A.Refused x.refusal) (first_of (xs ++ (rule q b ∷ []))) ≡ A.Refused q → (cond c (A.Refused x.refusal) (first_of xs) ≡ A.Served) × (b ≡ true)
+    go : (first_of (xs ++ (rule q b ∷ [])) ≡ Err q → (first_of xs ≡ Ok tt) × (b ≡ true)) → (c : Bool) → cond c (Err x.refusal) (first_of (xs ++ (rule q b ∷ []))) ≡ Err q → (cond c (Err x.refusal) (first_of xs) ≡ Ok tt) × (b ≡ true)
     go later true w =
         let same : x.refusal ≡ q = cc in
         let places = ap place_of same in
@@ -68,7 +68,7 @@ abbrev pub absent : Refusal → List Rule → Bool
 absent q [] = true
 absent q (x ∷ xs) = (not (eqb (place_of x.refusal) (place_of q)) || not x.applies) && absent q xs
 
-pub never_asked : (xs : List Rule) (q : Refusal) → T (absent q xs) → first_of xs ≡ A.Refused q → ⊥
+pub never_asked : (xs : List Rule) (q : Refusal) → T (absent q xs) → first_of xs ≡ Err q → ⊥
 never_asked xs q k e = go xs k ((first_applies q xs).0 e)
   where
     other : (b c : Bool) → T (not b || not c) → T b → c ≡ true → ⊥

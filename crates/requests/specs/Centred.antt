@@ -1,5 +1,5 @@
 -- Document 02, A.6: "The shift in document 01 is the Rust's; Brigo and Mercurio have another. Kind 13 is a path whose shift is f + 0.5 × (g × g), with g = (sigma/alpha) × (1 - exp((-alpha) × t)) and f as before. It serves one pillar only. Kind 12 goes on as the Rust has it, and kind 13 is judged by this formula alone. No pillars meet rule 7; more than one in kind 13 is refused as 15, directly after it." That no pillars meet rule 7 in either kind: `path_wants_pillars` in NoPillars.
-use Rattle.std.specs.Prelude.{◌≡◌, ◌↔◌, Bool, true, false, cond, not, ◌||◌, ℕ, suc, ◌<◌, ltb, eqb}
+use Rattle.std.specs.Prelude.{◌≡◌, ◌↔◌, Bool, true, false, cond, not, ◌||◌, ℕ, suc, ◌<◌, ltb, eqb, Option, Some, None, Ok, Err}
 use Rattle.std.proofs.Math.Path.{refl}
 use Rattle.std.proofs.Common.{ap, ◌∙◌, arith}
 use Rattle.std.proofs.lemmas.Bool.{false≢true}
@@ -15,13 +15,12 @@ use Rattle.ieee.specs.Decimal.{decimal}
 use Rattle.ieee.specs.Fused.{fused_of}
 use Rattle.math_exponential.specs.Exp.{exp_of, nearest_whole, series_of}
 use Rattle.refusals.specs.declared.refusals.Refusal.TheVariants as R
-use Rattle.refusals.specs.declared.refusals.Answer.{Answer}
-use Rattle.refusals.specs.declared.refusals.Answer.TheVariants as A
-use Rattle.refusals.specs.Refusals.{Outcome, served, refused, place_of, Rule, rule, first_of, after, unless, following, prepend}
+use Rattle.refusals.specs.declared.refusals.Rule.{Rule}
+use Rattle.refusals.specs.Refusals.{Outcome, place_of, rule, first_of, after, unless, following, prepend, Answer}
 use Rattle.refusals.specs.Order.{none_applies}
 use Rattle.refusals.specs.Faults.{curve_faults, pillar_faults, grid_faults}
 use Rattle.refusals.proofs.Outcomes.{not_both, neither}
-use Rattle.curve.specs.Lookups.{Maybe, just, nothing, factor_at, needing, required, volatility_at, last_at}
+use Rattle.curve.specs.Lookups.{factor_at, needing, required, volatility_at, last_at}
 use Rattle.hullwhite_formulas.specs.HullWhite.{h, forward_of}
 use Rattle.hullwhite_transitions.specs.Written.{finishing_list}
 use Rattle.hullwhite_points.specs.declared.walk.State.{State}
@@ -41,13 +40,13 @@ pub record Point : Type 0 where
   pub forward : Float
 
 abbrev pub onto : Point → Outcome (List Point) → Outcome (List Point)
-onto point (served points) = served (point ∷ points)
-onto point (refused r) = refused r
+onto point (Ok points) = Ok (point ∷ points)
+onto point (Err r) = Err r
 
 -- the points of the grid that is left, from the state s, each with its draw: no centre has a part in them
 unfoldable pub points_from : Float → List Float → List Float → List Float → List Float → State → List Float → List Float → Outcome (List Point)
-points_from alpha ps ss ts fs s [] draws = served []
-points_from alpha ps ss ts fs s (t ∷ grid) [] = served []
+points_from alpha ps ss ts fs s [] draws = Ok []
+points_from alpha ps ss ts fs s (t ∷ grid) [] = Ok []
 points_from alpha ps ss ts fs s (t ∷ grid) (draw ∷ draws) =
     required R.Empty (volatility_at ps ss t) (λ sigma.
     needing (factor_at ts fs t) (λ p.
@@ -67,8 +66,8 @@ rates_of centre alpha (point ∷ points) = rate_at centre alpha point ∷ rates_
 
 -- "the shift is the forward plus half the state variance, as in `generate`"
 unfoldable pub generated_from : Float → List Float → List Float → List Float → List Float → State → List Float → List Float → Outcome (List Float)
-generated_from alpha ps ss ts fs s [] draws = served []
-generated_from alpha ps ss ts fs s (t ∷ grid) [] = served []
+generated_from alpha ps ss ts fs s [] draws = Ok []
+generated_from alpha ps ss ts fs s (t ∷ grid) [] = Ok []
 generated_from alpha ps ss ts fs s (t ∷ grid) (draw ∷ draws) =
     required R.Empty (volatility_at ps ss t) (λ sigma.
     needing (factor_at ts fs t) (λ p.
@@ -85,26 +84,26 @@ same_points alpha ps ss ts fs s (t ∷ grid) (draw ∷ draws) = found (volatilit
     rate : Float → Float → Float → Float
     rate sigma p p_plus = let next = state_after alpha sigma t draw s in next.x ⊕ fused_of half next.variance (forward_of p p_plus)
 
-    found : (v : Maybe) → ((sigma : Float) → path_from C.StateVariance alpha ps ss ts fs (state_after alpha sigma t draw s) grid draws ≡ generated_from alpha ps ss ts fs (state_after alpha sigma t draw s) grid draws)
+    found : (v : Option Float) → ((sigma : Float) → path_from C.StateVariance alpha ps ss ts fs (state_after alpha sigma t draw s) grid draws ≡ generated_from alpha ps ss ts fs (state_after alpha sigma t draw s) grid draws)
         → required R.Empty v (λ sigma. needing (factor_at ts fs t) (λ p. needing (factor_at ts fs (t ⊕ h)) (λ p_plus. prepend (rate sigma p p_plus) (path_from C.StateVariance alpha ps ss ts fs (state_after alpha sigma t draw s) grid draws))))
         ≡ required R.Empty v (λ sigma. needing (factor_at ts fs t) (λ p. needing (factor_at ts fs (t ⊕ h)) (λ p_plus. prepend (rate sigma p p_plus) (generated_from alpha ps ss ts fs (state_after alpha sigma t draw s) grid draws))))
-    found (just sigma) later = rw (later sigma)
-    found nothing later = refl
+    found (Some sigma) later = rw (later sigma)
+    found None later = refl
 
 -- ---- "It serves one pillar only.": kind 13 with one pillar, its sigma the volatility at every time
 
-pub one_sigma : (time sigma t : Float) → volatility_at (time ∷ []) (sigma ∷ []) t ≡ just sigma
+pub one_sigma : (time sigma t : Float) → volatility_at (time ∷ []) (sigma ∷ []) t ≡ Some sigma
 unfolding volatility_at last_at
 one_sigma time sigma t = either (le time t)
   where
-    either : (b : Bool) → just (cond b sigma sigma) ≡ just sigma
+    either : (b : Bool) → Some (cond b sigma sigma) ≡ Some sigma
     either true = refl
     either false = refl
 
 -- "a path whose shift is f + 0.5 × (g × g)", on one sigma
 unfoldable pub published_from : Float → Float → List Float → List Float → State → List Float → List Float → Outcome (List Float)
-published_from alpha sigma ts fs s [] draws = served []
-published_from alpha sigma ts fs s (t ∷ grid) [] = served []
+published_from alpha sigma ts fs s [] draws = Ok []
+published_from alpha sigma ts fs s (t ∷ grid) [] = Ok []
 published_from alpha sigma ts fs s (t ∷ grid) (draw ∷ draws) =
     needing (factor_at ts fs t) (λ p.
     needing (factor_at ts fs (t ⊕ h)) (λ p_plus.
@@ -122,9 +121,9 @@ one_listed [] e = absurd (let z : ⊥ = omega arith in z)
 one_listed (x ∷ []) e = (x, refl)
 one_listed (x ∷ y ∷ ys) e = absurd (let z : ⊥ = omega arith in z)
 
-passed : {B : Type 0} (a : Answer) (rest : Outcome B) (v : B) → after a rest ≡ served v → a ≡ A.Served
-passed A.Served rest v e = refl
-passed (A.Refused r) rest v e = absurd (not_both e)
+passed : {B : Type 0} (a : Answer) (rest : Outcome B) (v : B) → after a rest ≡ Ok v → a ≡ Ok tt
+passed (Ok tt) rest v e = refl
+passed (Err r) rest v e = absurd (not_both e)
 
 -- ---- the calls
 module _ (alpha : Float) (ps ss ts fs grid draws : List Float) (room : ℕ) where
@@ -148,7 +147,7 @@ module _ (alpha : Float) (ps ss ts fs grid draws : List Float) (room : ℕ) wher
       ∙ ap (λ (o : Outcome (List Float)). unless seven_rules (following o finishing_list)) (same_points alpha ps ss ts fs start_state grid draws)
 
   -- "It serves one pillar only.": what is served has one pillar, with one sigma
-  pub one_pillar : {v : List Float} → generate_outcome C.Published alpha ps ss ts fs grid draws room ≡ served v → (time : Float) × (sigma : Float) × (ps ≡ time ∷ []) × (ss ≡ sigma ∷ [])
+  pub one_pillar : {v : List Float} → generate_outcome C.Published alpha ps ss ts fs grid draws room ≡ Ok v → (time : Float) × (sigma : Float) × (ps ≡ time ∷ []) × (ss ≡ sigma ∷ [])
   unfolding generate_outcome
   one_pillar {v} e =
       let none = (none_applies (seven_rules ++ (rule R.SeveralPillars (ltb 1 (length ps)) ∷ []))).0 (passed _ _ v e) in
@@ -163,25 +162,25 @@ module _ (alpha : Float) (ps ss ts fs grid draws : List Float) (room : ℕ) wher
       (time.0, sigma.0, time.1, sigma.1)
 
   -- "more than one in kind 13 is refused as 15, directly after it": exactly where rules 1 to 7 let the call through
-  pub fifteen : (generate_outcome C.Published alpha ps ss ts fs grid draws room ≡ refused R.SeveralPillars) ↔ ((first_of seven_rules ≡ A.Served) × (1 < length ps))
+  pub fifteen : (generate_outcome C.Published alpha ps ss ts fs grid draws room ≡ Err R.SeveralPillars) ↔ ((first_of seven_rules ≡ Ok tt) × (1 < length ps))
   unfolding generate_outcome first_of
   fifteen = (there, back)
     where
-      there : generate_outcome C.Published alpha ps ss ts fs grid draws room ≡ refused R.SeveralPillars → (first_of seven_rules ≡ A.Served) × (1 < length ps)
+      there : generate_outcome C.Published alpha ps ss ts fs grid draws room ≡ Err R.SeveralPillars → (first_of seven_rules ≡ Ok tt) × (1 < length ps)
       there e =
           let both = asked_last_first seven_rules R.SeveralPillars (ltb 1 (length ps)) tt (((path_met C.Published alpha ps ss ts fs grid draws room).refused_at R.SeveralPillars).0 e) in
           (both.0, ltb-true 1 (length ps) both.1)
 
-      back : (first_of seven_rules ≡ A.Served) × (1 < length ps) → generate_outcome C.Published alpha ps ss ts fs grid draws room ≡ refused R.SeveralPillars
+      back : (first_of seven_rules ≡ Ok tt) × (1 < length ps) → generate_outcome C.Published alpha ps ss ts fs grid draws room ≡ Err R.SeveralPillars
       back e = ap (λ (a : Answer). after a (following (path_from C.Published alpha ps ss ts fs start_state grid draws) finishing_list))
-          (let_through seven_rules (rule R.SeveralPillars (ltb 1 (length ps)) ∷ []) e.0 ∙ ap (λ (b : Bool). cond b (A.Refused R.SeveralPillars) A.Served) (lt-ltb 1 (length ps) e.1))
+          (let_through seven_rules (rule R.SeveralPillars (ltb 1 (length ps)) ∷ []) e.0 ∙ ap (λ (b : Bool). cond b (Err R.SeveralPillars) (Ok tt)) (lt-ltb 1 (length ps) e.1))
 
   -- and never in kind 12
-  pub twelve_never : generate_outcome C.StateVariance alpha ps ss ts fs grid draws room ≡ refused R.SeveralPillars → ⊥
+  pub twelve_never : generate_outcome C.StateVariance alpha ps ss ts fs grid draws room ≡ Err R.SeveralPillars → ⊥
   twelve_never e = false≢true (asked_last_first seven_rules R.SeveralPillars false tt (((path_met C.StateVariance alpha ps ss ts fs grid draws room).refused_at R.SeveralPillars).0 e)).1
 
   -- more than 64 pillars are "over its limit" in both kinds, before anything else is asked
-  pub over_the_limit : (centre : Centre) → 64 < length ps → generate_outcome centre alpha ps ss ts fs grid draws room ≡ refused R.Size
+  pub over_the_limit : (centre : Centre) → 64 < length ps → generate_outcome centre alpha ps ss ts fs grid draws room ≡ Err R.Size
   unfolding generate_outcome first_of
   over_the_limit centre many = rw (lt-ltb 64 (length ps) many)
 

@@ -1,7 +1,7 @@
 -- Document 02, A.3: "However it is done now, in kinds 5, 10 and 11 we want factors fetched and A and B worked out ahead of each search's ladder, once a coupon. An evaluation of the coupon sum is then given the terms and a rate, and neither curve nor sigma. The order of work alone moves: bits, rungs and refusals are what they were."
-use Rattle.std.specs.Prelude.{◌≡◌, ◌↔◌, List, Float}
+use Rattle.std.specs.Prelude.{◌≡◌, ◌↔◌, List, Float, Err}
 use Rattle.refusals.specs.declared.refusals.Refusal.TheVariants as R
-use Rattle.refusals.specs.Refusals.{refused, Rule}
+use Rattle.refusals.specs.declared.refusals.Rule.{Rule}
 use Rattle.hullwhite_formulas.specs.HullWhite.{forward_of, stationary_share_of, half_variance_of}
 use Rattle.search_sum.specs.Sum.{weights_of}
 use Rattle.hullwhite_terms.specs.Terms.{bs_of, curve_parts_of, a_list_at}
@@ -25,4 +25,4 @@ module _ (rules : List Rule) (alpha : Float) (ts fs payments : List Float) (t : 
 -- a lookup misses exactly where every evaluation is refused by 8: so it is with a coupon or more and a coefficient for each
 module _ (alpha : Float) (ts fs payments : List Float) (t : Float) (coefficients : List Float) (sigma : Float) where
   abbrev pub MissingFirst : Type 0
-  MissingFirst = Misses ts fs payments t ↔ ((rate : Float) → evaluation_of alpha ts fs t sigma coefficients payments rate ≡ refused R.OffCurve)
+  MissingFirst = Misses ts fs payments t ↔ ((rate : Float) → evaluation_of alpha ts fs t sigma coefficients payments rate ≡ Err R.OffCurve)

@@ -1,5 +1,5 @@
 -- Document 02, A.5: "Two desks want the same scenario from a seed. The state is a nonzero u64; a step is Marsaglia's xorshift64, left 13, right 7, left 17. A draw adds the top 32 bits of the state after each of twelve steps, takes away 6 × 2^32 and divides by 2^32, all exactly. To be shown: the state never becomes 0, every draw is at least -6 and below 6, and the first n draws do not depend on how many follow. A library call for a path may name a seed in place of its list of draws; run files keep theirs. A zero seed is refused as 14, directly after rule 6."
-use Rattle.std.specs.Prelude.{◌≡◌, Bool, true, false, not, ◌&&◌, ◌||◌, ℕ, zero, suc, ◌+◌, ◌*◌, ◌^◌, ◌≤◌, ◌<◌, T, ltb, eqb, length, take, get_or, Float}
+use Rattle.std.specs.Prelude.{◌≡◌, Bool, true, false, not, ◌&&◌, ◌||◌, ℕ, zero, suc, ◌+◌, ◌*◌, ◌^◌, ◌≤◌, ◌<◌, T, ltb, eqb, length, take, get_or, Float, Ok, Err}
 use Rattle.std.proofs.Math.Path.{refl, ap}
 use Rattle.std.proofs.Common.{sym, ◌∙◌, arith, eq-eqb, ne_eqb, lt-ltb, le-ltb}
 use mathlib.Core.List.{List, [], ◌∷◌, ◌++◌}
@@ -11,8 +11,8 @@ use Rattle.ieee.specs.Decimal.{decimal}
 use Rattle.refusals.specs.declared.curves.Faults.{Faults}
 use Rattle.refusals.specs.declared.checks.Test.TheVariants.{Finite}
 use Rattle.refusals.specs.declared.refusals.Refusal.TheVariants as R
-use Rattle.refusals.specs.declared.refusals.Answer.{Answer}
-use Rattle.refusals.specs.Refusals.{served, refused, number_of, place_of, Rule, rule, first_of, after, unless, following}
+use Rattle.refusals.specs.declared.refusals.Rule.{Rule}
+use Rattle.refusals.specs.Refusals.{number_of, place_of, rule, first_of, after, unless, following, Answer}
 use Rattle.refusals.specs.Checks.{all_of, in_order}
 use Rattle.refusals.specs.Faults.{curve_faults, pillar_faults, grid_faults, seeded_grid_faults}
 use Rattle.draws.specs.Xorshift.{left_of, right_of, step_of, steps_of}
@@ -135,20 +135,20 @@ module _ (centre : Centre) (alpha : Float) (ps ss ts fs grid : List Float) (room
       ∷ []
 
   -- with a zero seed what rules 1 to 6 let through is refused by 14, whatever else there is: no pillars, several, an empty grid
-  pub zero_seed_lem : seeded_outcome centre alpha ps ss ts fs grid 0 room ≡ unless six_rules (refused R.ZeroSeed)
+  pub zero_seed_lem : seeded_outcome centre alpha ps ss ts fs grid 0 room ≡ unless six_rules (Err R.ZeroSeed)
   unfolding seeded_outcome first_of
   zero_seed_lem =
       asked_behind six_rules R.ZeroSeed (rule R.Empty (eqb (length ps) 0) ∷ rule R.SeveralPillars (several_for centre (length ps)) ∷ []) [] (following (path_from centre alpha ps ss ts fs start_state grid (draws_of (length grid) 0)) finishing_list) refl
-      ∙ ap (λ (a : Answer). after a (refused R.ZeroSeed)) (silent_last six_rules R.ZeroSeed)
+      ∙ ap (λ (a : Answer). after a (Err R.ZeroSeed)) (silent_last six_rules R.ZeroSeed)
 
   -- and with any other seed never
-  pub seed_let_through : (seed : ℕ) → (seed ≡ 0 → ⊥) → seeded_outcome centre alpha ps ss ts fs grid seed room ≡ refused R.ZeroSeed → ⊥
+  pub seed_let_through : (seed : ℕ) → (seed ≡ 0 → ⊥) → seeded_outcome centre alpha ps ss ts fs grid seed room ≡ Err R.ZeroSeed → ⊥
   seed_let_through seed s e =
       let rules : Bool → List Rule = λ zero_seed. seeded_rules (pillar_faults ps ss) (curve_faults ts fs) (seeded_grid_faults grid) zero_seed (eqb (length ps) 0) (several_for centre (length ps)) (starts_below grid) (ltb room (length grid)) alpha in
       never_asked (rules false) R.ZeroSeed tt (ap (λ (b : Bool). first_of (rules b)) (sym (ne_eqb seed 0 s)) ∙ ((seeded_met centre alpha ps ss ts fs grid seed room).refused_at R.ZeroSeed).0 e)
 
   -- "run files keep theirs": a path on listed draws is never refused so
-  pub listed_never : (draws : List Float) → generate_outcome centre alpha ps ss ts fs grid draws room ≡ refused R.ZeroSeed → ⊥
+  pub listed_never : (draws : List Float) → generate_outcome centre alpha ps ss ts fs grid draws room ≡ Err R.ZeroSeed → ⊥
   listed_never draws e = never_asked (path_rules_on centre alpha ps ss ts fs grid draws room) R.ZeroSeed tt (((path_met centre alpha ps ss ts fs grid draws room).refused_at R.ZeroSeed).0 e)
 
 -- "as 14, directly after rule 6": nothing stands between 6 and 14, and 7 is behind it
@@ -156,15 +156,15 @@ pub fourteen_behind_six : (number_of R.ZeroSeed ≡ 14) × (place_of R.ZeroSeed 
 fourteen_behind_six = (refl, refl, omega arith)
 
 -- ---- draws alone: more than 1,024 are over the limit, from any seed, then 14
-pub too_many : (seed n : ℕ) → 1024 < n → draws_outcome seed n ≡ refused R.Size
+pub too_many : (seed n : ℕ) → 1024 < n → draws_outcome seed n ≡ Err R.Size
 unfolding draws_outcome first_of
 too_many seed n h = rw (lt-ltb 1024 n h) refl
 
-pub drawn_alone : (seed n : ℕ) → n ≤ 1024 → Seed seed → draws_outcome seed n ≡ served (draws_of n seed)
+pub drawn_alone : (seed n : ℕ) → n ≤ 1024 → Seed seed → draws_outcome seed n ≡ Ok (draws_of n seed)
 unfolding draws_outcome first_of
 drawn_alone seed n h s = rw (le-ltb 1024 n h, ne_eqb seed 0 s.nonzero) refl
 
-pub no_draws : (n : ℕ) → n ≤ 1024 → draws_outcome 0 n ≡ refused R.ZeroSeed
+pub no_draws : (n : ℕ) → n ≤ 1024 → draws_outcome 0 n ≡ Err R.ZeroSeed
 unfolding draws_outcome first_of
 no_draws n h = rw (le-ltb 1024 n h) refl
 

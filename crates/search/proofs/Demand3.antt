@@ -1,4 +1,5 @@
 -- The facts of specs/Facts.antt hold of every accepted answer that is defined, whatever the sum. Assumes nothing.
+use Rattle.std.specs.Prelude.{Result, Some, None, Ok, Err}
 use mathlib.Core.Path.{◌≡◌, refl, sym, ap, ◌∙◌, subst}
 use Prim.Native.Nat.{ℕ, zero, suc, ◌+◌, ◌*◌, ◌≤◌, ◌<◌}
 use native.Mathlib.Nat.{mul-pos}
@@ -13,19 +14,18 @@ use lib.Ieee.Fits.{and_l, and_r, up_pos, down_pos, eq→eqb}
 use Rattle.ieee.specs.Numbers.{one}
 use Rattle.math_elementary.proofs.AtMost.{or_l}
 use Rattle.search.specs.declared.Bracket.{Bracket}
-use Rattle.search.specs.declared.Critical.{Critical}
-use Rattle.search.specs.declared.ladder.Ladder.{Ladder}
-use Rattle.search.specs.declared.halving.Halving.{Halving}
+use Rattle.search.specs.declared.Unfound.{Unfound}
+use Rattle.search.specs.declared.ladder.Rung.{Rung}
 use Rattle.search.specs.Halving.{raised, lowered, Halvings, none, one_more, Start}
-use Rattle.search.specs.Rate.{rate_at, good, rung_of, or_rung, ladder_of, bracket_moved_to, then_halve, halvings_of, finish, from_ladders, critical_of}
-use Rattle.refusals.specs.Refusals.{served}
+use Rattle.search.specs.Rate.{rate_at, good, Climbed, rung_of, or_rung, ladder_of, bracket_moved_to, then_halve, halvings_of, finish, from_ladders, critical_of}
 use Rattle.refusals.proofs.Outcomes.{not_both, served_is}
-use Rattle.search.specs.Values.{Values, critical_outcome}
+use Rattle.search.specs.declared.Root.{Root}
+use Rattle.search.specs.Values.{critical_outcome}
 use Rattle.search.specs.Facts.{FirstGood, Located}
 use Rattle.search.proofs.Every.{every, every_at}
 use Rattle.search.proofs.HalvingLaw.{halving_law}
-use Rattle.search.proofs.LadderSteps.{ladder_zero, ladder_suc}
-use Rattle.search.proofs.HalvingSteps.{mid, clash, onward, halvings_zero, halvings_suc}
+use Rattle.search.proofs.LadderSteps.{found_at, nan_met, nothing, ladder_zero, ladder_suc}
+use Rattle.search.proofs.HalvingSteps.{Halving, to, mid, clash, onward, halvings_zero, halvings_suc}
 
 -- ---- a number that is not above 1 is at most 1
 T_of : (b : Bool) → b ≡ true → T b
@@ -92,33 +92,36 @@ module _ (sum : Float → Float) (first : Bracket) where
         sides = record { lower_sum = r.sides.lower_sum; upper_sum = refl; enough = r.sides.enough; little = k tt };
       }
 
-  carry : Sides sum first → (n : ℕ) (b : Bracket) → halvings_of sum n first ≡ Halving.Next b → Carried sum n first b
+  carry : Sides sum first → (n : ℕ) (b : Bracket) → halvings_of sum n first ≡ to b → Carried sum n first b
   carry i zero b h = subst (λ (x : Bracket). Carried sum 0 first x) (same (sym (halvings_zero sum first) ∙ h)) (record { halved = none; sides = i })
     where
-      same : Halving.Next first ≡ Halving.Next b → first ≡ b
+      same : to first ≡ to b → first ≡ b
       same p = cc
   carry i (suc n) b h = go (halvings_of sum n first) refl (carry i n)
     where
-      go : (x : Halving) → halvings_of sum n first ≡ x → ((c : Bracket) → halvings_of sum n first ≡ Halving.Next c → Carried sum n first c) → Carried sum (suc n) first b
-      go Halving.Stopped e ih = clash b (sym (halvings_suc sum first n Halving.Stopped e ∙ (unfold then_halve in refl)) ∙ h)
-      go (Halving.Next c) e ih =
-          let o = onward sum c b (sym h ∙ halvings_suc sum first n (Halving.Next c) e ∙ (unfold then_halve in refl)) in
+      go : (x : Halving) → halvings_of sum n first ≡ x → ((c : Bracket) → halvings_of sum n first ≡ to c → Carried sum n first c) → Carried sum (suc n) first b
+      go (Err q) e ih = clash b (sym (halvings_suc sum first n (Err q) e ∙ (unfold then_halve in refl)) ∙ h)
+      go (Ok c) e ih =
+          let o = onward sum c b (sym h ∙ halvings_suc sum first n (to c) e ∙ (unfold then_halve in refl)) in
           subst (λ (x : Bracket). Carried sum (suc n) first x) o.is (moved n c o.number (ih c e))
 
 -- ---- the ladders
-at_inj : (i j : ℕ) (r s r' s' : Float) → Ladder.At i r s ≡ Ladder.At j r' s' → (i ≡ j) × (r ≡ r') × (s ≡ s')
-at_inj i j r s r' s' e = (cc, cc, cc)
+rung_is : {x y : Rung} → ◌≡◌ {A = Climbed} (Ok (Some x)) (Ok (Some y)) → x ≡ y
+rung_is e = cc
 
-nan_at : {A : Type 0} (j : ℕ) (r s : Float) → Ladder.NotANumber ≡ Ladder.At j r s → A
+at_inj : (i j : ℕ) (r s r' s' : Float) → found_at i r s ≡ found_at j r' s' → (i ≡ j) × (r ≡ r') × (s ≡ s')
+at_inj i j r s r' s' e = let p = rung_is e in (ap (λ (x : Rung). x.number) p, ap (λ (x : Rung). x.rate) p, ap (λ (x : Rung). x.sum) p)
+
+nan_at : {A : Type 0} (j : ℕ) (r s : Float) → nan_met ≡ found_at j r s → A
 nan_at j r s e = let z : ◌≡◌ {A = ℕ} 0 1 = cc in absurd (omega arith)
 
-nothing_at : {A : Type 0} (j : ℕ) (r s : Float) → Ladder.Nothing ≡ Ladder.At j r s → A
+nothing_at : {A : Type 0} (j : ℕ) (r s : Float) → nothing ≡ found_at j r s → A
 nothing_at j r s e = let z : ◌≡◌ {A = ℕ} 0 1 = cc in absurd (omega arith)
 
-at_nothing : {A : Type 0} (j : ℕ) (r s : Float) → Ladder.At j r s ≡ Ladder.Nothing → A
+at_nothing : {A : Type 0} (j : ℕ) (r s : Float) → found_at j r s ≡ nothing → A
 at_nothing j r s e = let z : ◌≡◌ {A = ℕ} 0 1 = cc in absurd (omega arith)
 
-nan_nothing : {A : Type 0} → Ladder.NotANumber ≡ Ladder.Nothing → A
+nan_nothing : {A : Type 0} → nan_met ≡ nothing → A
 nan_nothing e = let z : ◌≡◌ {A = ℕ} 0 1 = cc in absurd (omega arith)
 
 module _ (sum : Float → Float) (below : Bool) where
@@ -127,47 +130,47 @@ module _ (sum : Float → Float) (below : Bool) where
     number : T (not (is_nan (sum (rate_at below k))))
     bad : T (not (good below (sum (rate_at below k))))
 
-  passed : (k : ℕ) → rung_of sum below k ≡ Ladder.Nothing → Passed k
+  passed : (k : ℕ) → rung_of sum below k ≡ nothing → Passed k
   unfolding rung_of
   passed k = go (is_nan (sum (rate_at below k))) (good below (sum (rate_at below k))) refl refl
     where
       go : (a g : Bool) → is_nan (sum (rate_at below k)) ≡ a → good below (sum (rate_at below k)) ≡ g
-          → cond a Ladder.NotANumber (cond g (Ladder.At k (rate_at below k) (sum (rate_at below k))) Ladder.Nothing) ≡ Ladder.Nothing → Passed k
+          → cond a nan_met (cond g (found_at k (rate_at below k) (sum (rate_at below k))) nothing) ≡ nothing → Passed k
       go true g p q e = nan_nothing e
       go false true p q e = at_nothing k (rate_at below k) (sum (rate_at below k)) e
       go false false p q e = record { number = not_of (is_nan (sum (rate_at below k))) p; bad = not_of (good below (sum (rate_at below k))) q }
 
   -- where n rungs found nothing, none of them did
-  nothing_before : (n : ℕ) → ladder_of sum below n ≡ Ladder.Nothing → (k : ℕ) → k < n → Passed k
+  nothing_before : (n : ℕ) → ladder_of sum below n ≡ nothing → (k : ℕ) → k < n → Passed k
   nothing_before zero h k l = absurd (omega arith)
   nothing_before (suc n) h k l = go (ladder_of sum below n) refl (nothing_before n)
     where
       last : n ≤ k → n ≡ k
       last q = omega arith
 
-      go : (x : Ladder) → ladder_of sum below n ≡ x → (ladder_of sum below n ≡ Ladder.Nothing → (k : ℕ) → k < n → Passed k) → Passed k
-      go (Ladder.At i r s) e ih = at_nothing i r s (sym (ladder_suc sum below n (Ladder.At i r s) e ∙ (unfold or_rung in refl)) ∙ h)
-      go Ladder.NotANumber e ih = nan_nothing (sym (ladder_suc sum below n Ladder.NotANumber e ∙ (unfold or_rung in refl)) ∙ h)
-      go Ladder.Nothing e ih =
+      go : (x : Climbed) → ladder_of sum below n ≡ x → (ladder_of sum below n ≡ nothing → (k : ℕ) → k < n → Passed k) → Passed k
+      go (Ok (Some x)) e ih = at_nothing x.number x.rate x.sum (sym (ladder_suc sum below n (Ok (Some x)) e ∙ (unfold or_rung in refl)) ∙ h)
+      go (Err q) e ih = nan_nothing (sym (ladder_suc sum below n (Err q) e ∙ (unfold or_rung in refl)) ∙ h)
+      go (Ok None) e ih =
           elim (dec_lt k n) [
             | yes q ↦ ih e k q
-            | no q ↦ subst Passed (last (omega arith)) (passed n (sym (ladder_suc sum below n Ladder.Nothing e ∙ (unfold or_rung in refl)) ∙ h))
+            | no q ↦ subst Passed (last (omega arith)) (passed n (sym (ladder_suc sum below n nothing e ∙ (unfold or_rung in refl)) ∙ h))
           ]
 
   -- what a ladder's first n rungs found: the rung's number fixes its rate, and the sum is the one there
-  pub record Rung (n i : ℕ) (r s : Float) : Type 0 where
+  pub record FoundBy (n i : ℕ) (r s : Float) : Type 0 where
     pub rate_is : r ≡ rate_at below i
     pub sum_is : s ≡ sum r
     pub good_is : good below (sum (rate_at below i)) ≡ true
     pub under : i < n
-    pub before : ladder_of sum below i ≡ Ladder.Nothing
+    pub before : ladder_of sum below i ≡ nothing
 
-  pub rung_of_lem : (n i : ℕ) (r s : Float) → ladder_of sum below n ≡ Ladder.At i r s → Rung n i r s
-  rung_of_lem zero i r s h = nothing_at i r s (sym (ladder_zero sum below) ∙ h)
-  rung_of_lem (suc n) i r s h = go (ladder_of sum below n) refl (rung_of_lem n i r s)
+  pub found_by : (n i : ℕ) (r s : Float) → ladder_of sum below n ≡ found_at i r s → FoundBy n i r s
+  found_by zero i r s h = nothing_at i r s (sym (ladder_zero sum below) ∙ h)
+  found_by (suc n) i r s h = go (ladder_of sum below n) refl (found_by n i r s)
     where
-      found : (a g : Bool) → good below (sum (rate_at below n)) ≡ g → ladder_of sum below n ≡ Ladder.Nothing
-          → cond a Ladder.NotANumber (cond g (Ladder.At n (rate_at below n) (sum (rate_at below n))) Ladder.Nothing) ≡ Ladder.At i r s → Rung (suc n) i r s
+      found : (a g : Bool) → good below (sum (rate_at below n)) ≡ g → ladder_of sum below n ≡ nothing
+          → cond a nan_met (cond g (found_at n (rate_at below n) (sum (rate_at below n))) nothing) ≡ found_at i r s → FoundBy (suc n) i r s
       found true g q b e = nan_at i r s e
       found false false q b e = nothing_at i r s e
       found false true q b e =
@@ -178,18 +181,18 @@ module _ (sum : Float → Float) (below : Bool) where
             sum_is = sym w.2 ∙ ap sum w.1;
             good_is = subst (λ (k : ℕ). good below (sum (rate_at below k)) ≡ true) w.0 q;
             under = subst (λ (k : ℕ). k < suc n) w.0 (omega arith);
-            before = subst (λ (k : ℕ). ladder_of sum below k ≡ Ladder.Nothing) w.0 b;
+            before = subst (λ (k : ℕ). ladder_of sum below k ≡ nothing) w.0 b;
           }
 
-      wider : Rung n i r s → Rung (suc n) i r s
+      wider : FoundBy n i r s → FoundBy (suc n) i r s
       wider x = record { rate_is = x.rate_is; sum_is = x.sum_is; good_is = x.good_is; under = omega arith; before = x.before }
 
-      go : (x : Ladder) → ladder_of sum below n ≡ x → (ladder_of sum below n ≡ Ladder.At i r s → Rung n i r s) → Rung (suc n) i r s
-      go (Ladder.At j r' s') e ih = wider (ih (e ∙ sym (ladder_suc sum below n (Ladder.At j r' s') e ∙ (unfold or_rung in refl)) ∙ h))
-      go Ladder.NotANumber e ih = nan_at i r s (sym (ladder_suc sum below n Ladder.NotANumber e ∙ (unfold or_rung in refl)) ∙ h)
-      go Ladder.Nothing e ih = found (is_nan (sum (rate_at below n))) (good below (sum (rate_at below n))) refl e (sym (ladder_suc sum below n Ladder.Nothing e ∙ (unfold or_rung rung_of in refl)) ∙ h)
+      go : (x : Climbed) → ladder_of sum below n ≡ x → (ladder_of sum below n ≡ found_at i r s → FoundBy n i r s) → FoundBy (suc n) i r s
+      go (Ok (Some x)) e ih = wider (ih (e ∙ sym (ladder_suc sum below n (Ok (Some x)) e ∙ (unfold or_rung in refl)) ∙ h))
+      go (Err q) e ih = nan_at i r s (sym (ladder_suc sum below n (Err q) e ∙ (unfold or_rung in refl)) ∙ h)
+      go (Ok None) e ih = found (is_nan (sum (rate_at below n))) (good below (sum (rate_at below n))) refl e (sym (ladder_suc sum below n nothing e ∙ (unfold or_rung rung_of in refl)) ∙ h)
 
-  first_good : (i : ℕ) (r s : Float) → Rung 61 i r s → FirstGood sum below i
+  first_good : (i : ℕ) (r s : Float) → FoundBy 61 i r s → FirstGood sum below i
   first_good i r s x = record {
     within = omega arith;
     good_there = T_of (good below (sum (rate_at below i))) x.good_is;
@@ -233,14 +236,14 @@ start_of i j h k =
 
 -- ---- the facts
 module _ (sum : Float → Float) where
-  abbrev Accepted : Critical → Type 0
-  Accepted r = (v : Values) → critical_outcome r ≡ served v → Located sum v
+  abbrev Accepted : Result Root Unfound → Type 0
+  Accepted r = (v : Root) → critical_outcome r ≡ Ok v → Located sum v
 
-  located : (i j : ℕ) (r s r' s' : Float) → Rung sum true 61 i r s → Rung sum false 61 j r' s' → (o : Halving)
+  located : (i j : ℕ) (r s r' s' : Float) → FoundBy sum true 61 i r s → FoundBy sum false 61 j r' s' → (o : Halving)
       → halvings_of sum 200 (record { lower = r; upper = r'; lower_sum = s; upper_sum = s' }) ≡ o → Accepted (finish i j o)
   unfolding finish
-  located i j r s r' s' a b Halving.Stopped h v z = absurd (not_both z)
-  located i j r s r' s' a b (Halving.Next x) h v z =
+  located i j r s r' s' a b (Err q) h v z = absurd (not_both z)
+  located i j r s r' s' a b (Ok x) h v z =
       let first : Bracket = record { lower = r; upper = r'; lower_sum = s; upper_sum = s' } in
       let low : FirstGood sum true i = first_good sum true i r s a in
       let high : FirstGood sum false j = first_good sum false j r' s' b in
@@ -271,16 +274,16 @@ module _ (sum : Float → Float) where
         below = t.mid_below;
       })
 
-  accepted_joined : (l h : Ladder) → ladder_of sum true 61 ≡ l → ladder_of sum false 61 ≡ h → Accepted (from_ladders sum l h)
+  accepted_joined : (l h : Climbed) → ladder_of sum true 61 ≡ l → ladder_of sum false 61 ≡ h → Accepted (from_ladders sum l h)
   unfolding from_ladders
-  accepted_joined (Ladder.At i r s) (Ladder.At j r' s') e g v z =
-      located i j r s r' s' (rung_of_lem sum true 61 i r s e) (rung_of_lem sum false 61 j r' s' g) (halvings_of sum 200 (record { lower = r; upper = r'; lower_sum = s; upper_sum = s' })) refl v z
-  accepted_joined (Ladder.At i r s) Ladder.NotANumber e g v z = absurd (not_both z)
-  accepted_joined (Ladder.At i r s) Ladder.Nothing e g v z = absurd (not_both z)
-  accepted_joined Ladder.NotANumber h e g v z = absurd (not_both z)
-  accepted_joined Ladder.Nothing (Ladder.At j r s) e g v z = absurd (not_both z)
-  accepted_joined Ladder.Nothing Ladder.NotANumber e g v z = absurd (not_both z)
-  accepted_joined Ladder.Nothing Ladder.Nothing e g v z = absurd (not_both z)
+  accepted_joined (Ok (Some x)) (Ok (Some y)) e g v z =
+      located x.number y.number x.rate x.sum y.rate y.sum (found_by sum true 61 x.number x.rate x.sum e) (found_by sum false 61 y.number y.rate y.sum g)
+      (halvings_of sum 200 (record { lower = x.rate; upper = y.rate; lower_sum = x.sum; upper_sum = y.sum })) refl v z
+  accepted_joined (Ok (Some x)) (Err q) e g v z = absurd (not_both z)
+  accepted_joined (Ok (Some x)) (Ok None) e g v z = absurd (not_both z)
+  accepted_joined (Err q) h e g v z = absurd (not_both z)
+  accepted_joined (Ok None) (Ok h) e g v z = absurd (not_both z)
+  accepted_joined (Ok None) (Err q) e g v z = absurd (not_both z)
 
   pub accepted : Accepted (critical_of sum)
   unfolding critical_of

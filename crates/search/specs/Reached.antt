@@ -1,13 +1,12 @@
 -- Document 01: "A search reaches each ladder's rungs up to its first good one, all 61 if none is, and the halvings once both have one."
 -- And demand 3: for want of a bracket a search is refused exactly when no sum reached is NaN and at least one ladder has no good rate.
-use Rattle.std.specs.Prelude.{◌≡◌, ◌⊎◌, ◌↔◌, ℕ, zero, suc, Bool, true, false, not, ◌||◌, cond, List, [], ◌∷◌, ◌++◌, T, Float}
+use Rattle.std.specs.Prelude.{◌≡◌, ◌⊎◌, ◌↔◌, ℕ, zero, suc, Bool, true, false, not, ◌||◌, cond, List, [], ◌∷◌, ◌++◌, T, Float, Ok, Err}
 use Rattle.std.specs.Float.Ieee.{is_nan, lt}
 use Rattle.ieee.specs.Numbers.{one}
 use Rattle.math_elementary.specs.Simple.{midpoint_of}
-use Rattle.refusals.specs.declared.refusals.Answer.{Answer}
-use Rattle.refusals.specs.declared.refusals.Answer.TheVariants as A
 use Rattle.refusals.specs.declared.refusals.Refusal.TheVariants as R
 use Rattle.search.specs.Rate.{rate_at, good}
+use Rattle.refusals.specs.Refusals.{Answer}
 
 -- n rungs of a ladder from rung i on; the whole ladder has 61 from rung 0 on
 unfoldable pub rates_from : Bool → ℕ → ℕ → List Float
@@ -66,8 +65,8 @@ Unbracketed sum = T (not (some_nan sum (reached sum))) × (T (not (has_good sum 
 -- When exactly a search has each answer. By these nothing else is refused, and nothing refused for any other reason.
 pub record Exactly (sum : Float → Float) (answer : Answer) : Type 0 where
   -- 9: "A critical-rate evaluation .. that is reached is NaN"
-  pub not_a_number : (answer ≡ A.Refused R.NanReached) ↔ T (some_nan sum (reached sum))
+  pub not_a_number : (answer ≡ Err R.NanReached) ↔ T (some_nan sum (reached sum))
   -- 10: no sum reached is NaN, and at least one ladder has no good rate
-  pub no_bracket : (answer ≡ A.Refused R.NoBracket) ↔ Unbracketed sum
+  pub no_bracket : (answer ≡ Err R.NoBracket) ↔ Unbracketed sum
   -- 0, served: no sum reached is NaN, and both ladders have a good rate
-  pub served : (answer ≡ A.Served) ↔ (T (not (some_nan sum (reached sum))) × T (has_good sum true) × T (has_good sum false))
+  pub served : (answer ≡ Ok tt) ↔ (T (not (some_nan sum (reached sum))) × T (has_good sum true) × T (has_good sum false))

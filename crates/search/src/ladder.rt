@@ -2,16 +2,31 @@
 ghost use Rattle.std.specs.Prelude.{◌≡◌};
 ghost use Rattle.search_sum.specs.Sum.{weighted_sum};
 ghost use Rattle.search.specs.Rate.{rate_at, good, ladder_of};
+ghost use Rattle.search.specs.declared.Unfound.TheVariants.{NotANumber};
+
+use super::Unfound;
 
 // The first rung is number 0.
 const LAST_RUNG: u64 = 60;
 
-// What a ladder comes to: its first good rung, a NaN sum that was met before one, or neither.
+// A rung: its number, its rate and the sum there.
 #[derive(Clone, Copy)]
-pub enum Ladder {
-    At { rung: u64, rate: f64, sum: f64 },
-    NotANumber,
-    Nothing,
+pub struct Rung {
+    pub number: u64,
+    pub rate: f64,
+    pub sum: f64,
+}
+
+// A sum that is NaN, for which a search stops wherever it meets one.
+#[derive(Clone, Copy, Debug, PartialEq, Eq)]
+pub struct NanSum;
+
+impl From<NanSum> for Unfound {
+    ghost from_gives = { λ _ unfound. unfound ≡ NotANumber };
+
+    fn from(_: NanSum) -> Unfound {
+        Unfound::NotANumber
+    }
 }
 
 // The rate of rung 0.
@@ -28,27 +43,28 @@ fn is_good(below: bool, sum: f64) -> bool
     if below { sum >= 1.0 } else { sum <= 1.0 }
 }
 
-// The lower ladder where `below` is true, else the upper one. A NaN is asked for before the rest: it
-// is neither good nor a reason to go on.
-pub fn climb(weights: &[f64], b: &[f64], below: bool) -> Ladder
+// The first good rung of the lower ladder where `below` is true, else of the upper one, if it has one. A NaN is
+// asked for before the rest: it is neither good nor a reason to go on.
+pub fn climb(weights: &[f64], b: &[f64], below: bool) -> Result<Option<Rung>, NanSum>
     ensures { result ≡ ladder_of (weighted_sum weights.now b.now) below 61 }
 {
     let mut rate = first_rate(below);
-    let mut rung: u64 = 0;
-    let found = loop {
+    let mut number: u64 = 0;
+    // Document 01 has the ladder left from inside: the loop yields what it comes to by break.
+    let climbed = loop {
         let sum = search_sum::coupon_sum(weights, b, rate);
         let is_nan = sum != sum;
         if is_nan {
-            break Ladder::NotANumber;
+            break Err(NanSum);
         }
         if is_good(below, sum) {
-            break Ladder::At { rung, rate, sum };
+            break Ok(Some(Rung { number, rate, sum }));
         }
-        if rung == LAST_RUNG {
-            break Ladder::Nothing;
+        if number == LAST_RUNG {
+            break Ok(None);
         }
         rate = rate * 2.0;
-        rung += 1;
+        number += 1;
     };
-    found
+    climbed
 }

@@ -1,14 +1,13 @@
 // A run file served with details: each job is worked once, and both its line and its details are told of that.
-ghost use Rattle.std.specs.Prelude.{◌≡◌, ◌/◌, ◌≤◌, ◌<◌, length};
+ghost use Rattle.std.specs.Prelude.{◌≡◌, ◌/◌, ◌≤◌, ◌<◌, length, Some};
 ghost use Rattle.refusals.specs.Faults.{curve_faults};
-ghost use Rattle.file_layout.specs.declared.parts.Laid.TheVariants.{Parts};
 ghost use Rattle.file_layout.specs.Layout.{layout_of};
 ghost use Rattle.file_layout.specs.Request.{request_of, jobs_of};
 ghost use Rattle.file_layout.specs.Lists.{HoldsLists};
 ghost use Rattle.file_jobs.specs.Results.{request_of_lists};
 
 use super::answers;
-use file_layout::{Laid, Layout};
+use file_layout::{Layout, Which};
 use refusals::Faults;
 use std::io;
 use std::io::Print;
@@ -17,11 +16,11 @@ pub fn serve_file(rt: &impl Print, file: &[u8]) -> io::Result<()> {
     let laid = file_layout::lay_out(file);
     let mut text = [0u8; 128];
     match laid {
-        Laid::Broken => {
+        None => {
             let n = file_lines::write_refused(&mut text);
             rt.write_all(&text[..n])
         }
-        Laid::Parts(l) => {
+        Some(l) => {
             let n = file_lines::write_header(&mut text);
             rt.write_all(&text[..n])?;
             serve_jobs(rt, file, l)
@@ -31,7 +30,7 @@ pub fn serve_file(rt: &impl Print, file: &[u8]) -> io::Result<()> {
 
 // The jobs of a file. A caller has the layout from `lay_out` of this very file.
 fn serve_jobs(rt: &impl Print, file: &[u8], l: Layout) -> io::Result<()>
-    requires { layout_of file.now ≡ Parts l }
+    requires { layout_of file.now ≡ Some l }
 {
     let mut floats = [0.0; 6464];
     file_layout::read_lists(file, l, &mut floats);
@@ -40,34 +39,32 @@ fn serve_jobs(rt: &impl Print, file: &[u8], l: Layout) -> io::Result<()>
 
 // The same, on the lists that a caller has read from the file.
 fn each_job(rt: &impl Print, file: &[u8], l: Layout, floats: &[f64]) -> io::Result<()>
-    requires { (layout_of file.now ≡ Parts l) × HoldsLists file.now l floats.now }
+    requires { (layout_of file.now ≡ Some l) × HoldsLists file.now l floats.now }
 {
     let alpha = file_layout::alpha(file, l.model);
-    let pillars = file_layout::list(file, l, floats, 0);
-    let sigmas = file_layout::list(file, l, floats, 1);
-    let times = file_layout::list(file, l, floats, 2);
-    let factors = file_layout::list(file, l, floats, 3);
-    let payments = file_layout::list(file, l, floats, 4);
-    let accruals = file_layout::list(file, l, floats, 5);
-    let owns = file_layout::list(file, l, floats, 6);
-    let grid = file_layout::list(file, l, floats, 7);
-    let draws = file_layout::list(file, l, floats, 8);
+    let pillars = file_layout::list(file, l, floats, Which::PillarTimes);
+    let sigmas = file_layout::list(file, l, floats, Which::PillarSigmas);
+    let times = file_layout::list(file, l, floats, Which::CurveTimes);
+    let factors = file_layout::list(file, l, floats, Which::CurveFactors);
+    let payments = file_layout::list(file, l, floats, Which::Payments);
+    let accruals = file_layout::list(file, l, floats, Which::Accruals);
+    let owns = file_layout::list(file, l, floats, Which::Owns);
+    let grid = file_layout::list(file, l, floats, Which::GridTimes);
+    let draws = file_layout::list(file, l, floats, Which::Draws);
     let curve = refusals::curve_faults(times, factors);
     let n_jobs = (l.jobs.length / 40) as usize;
     let mut out = [0u8; 131072];
-    let mut k = 0;
-    while k < n_jobs {
+    for k in 0..n_jobs {
         one_job(
             rt, file, l, curve, alpha, pillars, sigmas, times, factors, payments, accruals, owns,
             grid, draws, k, &mut out,
         )?;
-        k += 1;
     }
     Ok(())
 }
 
 // The lines of job k and, of kinds 5 to 11, the details. A caller that goes through the jobs has what
-// `file_output::job_lines` asks.
+// `file_output::job_lines` asks, and lends the lists one by one, as that and `file_jobs::work` take them.
 fn one_job(
     rt: &impl Print,
     file: &[u8],
@@ -86,7 +83,7 @@ fn one_job(
     k: usize,
     out: &mut [u8],
 ) -> io::Result<()>
-    requires file_value { (layout_of file.now ≡ Parts l) × (k < l.jobs.length / 40) × (131072 ≤ length out.old) }
+    requires file_value { (layout_of file.now ≡ Some l) × (k < l.jobs.length / 40) × (131072 ≤ length out.old) }
     requires curve_value { curve ≡ curve_faults times.now factors.now }
     requires jobs_value { request_of_lists alpha pillars.now sigmas.now times.now factors.now payments.now accruals.now owns.now grid.now draws.now (jobs_of file.now l.jobs) ≡ request_of file.now l }
 {

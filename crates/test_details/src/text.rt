@@ -1,16 +1,17 @@
 // The pieces of a line of detail.
 use search::Bracket;
-use std::io;
 use std::io::Print;
+use std::{fmt, io};
 
-// A float as the 16 hexadecimal digits of its bits, a space before them. A NaN has those of one.
-pub fn float(rt: &impl Print, x: f64) -> io::Result<()> {
-    let bits = file_fields::bits_of(x);
-    print!(rt; " {bits:016x}")
-}
+// A float as the 16 hexadecimal digits of its bits. A NaN has those of one.
+#[derive(Clone, Copy, Debug)]
+pub struct Bits(pub f64);
 
-pub fn number(rt: &impl Print, n: u64) -> io::Result<()> {
-    print!(rt; " {n}")
+impl fmt::Display for Bits {
+    fn fmt<W: fmt::Write>(&self, f: &mut fmt::Formatter<W>) -> fmt::Result {
+        let bits = file_fields::bits_of(self.0);
+        write!(f, "{bits:016x}")
+    }
 }
 
 // Rungs, final bracket and rate of a search, without the line's end.
@@ -21,22 +22,18 @@ pub fn search(
     bracket: Bracket,
     rate: f64,
 ) -> io::Result<()> {
-    print!(rt; "  rungs")?;
-    number(rt, below)?;
-    number(rt, above)?;
-    print!(rt; " ends")?;
-    float(rt, bracket.lower)?;
-    float(rt, bracket.upper)?;
-    print!(rt; " sums")?;
-    float(rt, bracket.lower_sum)?;
-    float(rt, bracket.upper_sum)?;
-    print!(rt; " rate")?;
-    float(rt, rate)
+    let lower = Bits(bracket.lower);
+    let upper = Bits(bracket.upper);
+    let lower_sum = Bits(bracket.lower_sum);
+    let upper_sum = Bits(bracket.upper_sum);
+    let rate = Bits(rate);
+    print!(rt;
+        "  rungs {below} {above} ends {lower} {upper} sums {lower_sum} {upper_sum} rate {rate}"
+    )
 }
 
 pub fn newton(rt: &impl Print, rate: f64) -> io::Result<()> {
-    print!(rt; " newton")?;
-    float(rt, rate)
+    print!(rt; " newton {}", Bits(rate))
 }
 
 pub fn end(rt: &impl Print) -> io::Result<()> {

@@ -6,10 +6,13 @@ use Rattle.ieee.specs.Rounded.{◌⊕◌, ◌⊖◌, ◌⊗◌, ◌⊘◌}
 use Rattle.ieee.specs.Numbers.{zero, two, four}
 use Rattle.ieee.specs.Fused.{fused_of}
 use Rattle.math_normal.specs.NormCdf.{norm_cdf_of, norm_cdf_dual_of}
+use Rattle.test_normal_table.specs.declared.normal.Normal.{Normal}
+use Rattle.test_normal_table.specs.declared.normal.Normal.TheVariants.{Cdf, CdfDual}
 
 -- the DualFwd function, or the f64 one
-abbrev pub normal_of : Bool → Float → Float
-normal_of dual x = cond dual (norm_cdf_dual_of x) (norm_cdf_of x)
+abbrev pub normal_of : Normal → Float → Float
+normal_of Cdf x = norm_cdf_of x
+normal_of CdfDual x = norm_cdf_dual_of x
 
 -- v ≤ p / u and p / u ≤ v: the one rounding of v × u - p keeps its sign
 abbrev pub at_most : Float → Float → Float → Bool
@@ -31,12 +34,12 @@ unfoldable pub below_of : (Float → Float) → Float → Float → Float → Fl
 below_of f n s d p w u = within_of (f (neg ((n ⊕ s) ⊘ d))) (f (neg ((n ⊖ s) ⊘ d))) (u ⊖ p) w u
 
 -- the row: the argument is argument / scale, within slack half units, and the value digits / unit, within spread quarters of a unit
-unfoldable pub met_of : ℕ → ℕ → ℕ → ℕ → ℕ → ℕ → Bool → Bool → Bool
-met_of argument slack scale digits spread unit negative dual =
+unfoldable pub met_of : ℕ → ℕ → ℕ → ℕ → ℕ → ℕ → Bool → Normal → Bool
+met_of argument slack scale digits spread unit negative normal =
     let n = two ⊗ of_int binary64 (pos argument) in
     let s = of_int binary64 (pos slack) in
     let d = two ⊗ of_int binary64 (pos scale) in
     let p = four ⊗ of_int binary64 (pos digits) in
     let w = of_int binary64 (pos spread) in
     let u = four ⊗ of_int binary64 (pos unit) in
-    cond negative (below_of (normal_of dual) n s d p w u) (above_of (normal_of dual) n s d p w u)
+    cond negative (below_of (normal_of normal) n s d p w u) (above_of (normal_of normal) n s d p w u)

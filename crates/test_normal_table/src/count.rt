@@ -2,39 +2,31 @@
 ghost use Rattle.std.specs.Prelude.{◌≡◌, if◌then◌else◌};
 ghost use Rattle.test_normal_table.specs.Tally.{one_more};
 
-#[derive(Clone, Copy)]
+use std::fmt;
+
+// Each stays at its greatest, which no table reaches.
+#[derive(Clone, Copy, Debug, Default, PartialEq, Eq)]
 pub struct Count {
     pub met: u64,
     pub missed: u64,
 }
 
-pub fn nothing() -> Count
-    ensures { (result.met ≡ 0) × (result.missed ≡ 0) }
-{
-    Count { met: 0, missed: 0 }
-}
-
-// The count with one row more: a row that is not met is counted as missed.
-pub fn with(c: Count, ok: bool) -> Count
-    ensures met { result.met ≡ (if ok then one_more c.met else c.met) }
-    ensures missed { result.missed ≡ (if ok then c.missed else one_more c.missed) }
-{
-    if ok {
-        Count {
-            met: one_more(c.met),
-            missed: c.missed,
-        }
-    } else {
-        Count {
-            met: c.met,
-            missed: one_more(c.missed),
+impl Count {
+    // One row more: a row that is not met is counted as missed.
+    pub fn add(&mut self, ok: bool)
+        ensures met { self.new.met ≡ (if ok then one_more self.old.met else self.old.met) }
+        ensures missed { self.new.missed ≡ (if ok then self.old.missed else one_more self.old.missed) }
+    {
+        if ok {
+            self.met = self.met.saturating_add(1);
+        } else {
+            self.missed = self.missed.saturating_add(1);
         }
     }
 }
 
-// A count that stays at its greatest, which no table reaches.
-fn one_more(n: u64) -> u64
-    ensures { result ≡ one_more n }
-{
-    if n < u64::MAX { n + 1 } else { n }
+impl fmt::Display for Count {
+    fn fmt<W: fmt::Write>(&self, f: &mut fmt::Formatter<W>) -> fmt::Result {
+        write!(f, "{} met, {} not", self.met, self.missed)
+    }
 }

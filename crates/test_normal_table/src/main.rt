@@ -3,14 +3,21 @@
 #![tactic(auto)]
 
 mod count;
-mod parts;
-mod report;
+mod decimal;
+mod normal;
+mod part;
 mod row;
 mod tables;
-mod written;
 
+use normal::Normal;
+use part::Part;
 use std::io;
 
 fn main(rt: HostRuntime) -> io::Result<()> {
-    report::write(&rt)
+    for part in Part::ALL {
+        let cdf = part.counted(&rt, Normal::Cdf);
+        let dual = part.counted(&rt, Normal::CdfDual);
+        println!(rt; "{part}: {} {cdf}; {} {dual}", Normal::Cdf, Normal::CdfDual)?;
+    }
+    Ok(())
 }

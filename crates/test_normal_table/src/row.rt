@@ -3,92 +3,83 @@
 // Every number of a row is whole and below 2^51, so its f64 is exact, and so are the sums. A value v is
 // compared with a fraction p / u by the sign of v × u - p, which the one rounding of a fused step keeps: no
 // digit is allowed for.
-ghost use Rattle.std.specs.Prelude.{◌≡◌};
-ghost use Rattle.test_normal_table.specs.Meet.{normal_of, at_most, at_least, within_of, above_of, below_of, met_of};
+ghost use Rattle.std.specs.Prelude.{◌≡◌, ◌<◌};
+ghost use Rattle.test_normal_table.specs.Meet.{within_of, met_of};
 
-use crate::written;
+use crate::decimal::Decimal;
+use crate::normal::Normal;
+use std::fmt;
 use std::io::Print;
+use std::num::nearest_u64_to_f64;
 
-// Whether the function meets a row. The argument is `argument` / `scale`, or within half a unit of that where
-// `slack` is 1, and the value there is within `spread` quarters of a unit of `digits` / `unit`. At -x the value is
-// 1 less that. A row that is not met is written, and is not met either where that fails.
-pub fn met(
-    rt: &impl Print,
-    argument: u64,
-    slack: u64,
-    scale: u64,
-    digits: u64,
-    spread: u64,
-    unit: u64,
-    negative: bool,
-    dual: bool,
-) -> bool
-    ensures { result ≡ met_of argument slack scale digits spread unit negative dual }
-{
-    let ok = test(argument, slack, scale, digits, spread, unit, negative, dual);
-    if !ok {
-        let _ = written::row(rt, argument, scale, digits, unit, negative, dual);
+// The argument is `argument` / `scale`, or within half a unit of that where `slack` is 1, and the value there is
+// within `spread` quarters of a unit of `digits` / `unit`.
+#[derive(Clone, Copy, Debug, PartialEq, Eq)]
+pub struct Row {
+    pub argument: u64,
+    pub slack: u64,
+    pub scale: u64,
+    pub digits: u64,
+    pub spread: u64,
+    pub unit: u64,
+    ghost positive: { (0 < scale) × (0 < unit) },
+}
+
+impl Row {
+    // Whether the function meets the row, at -x with 1 less its value. A row that is not met is written, and is
+    // not met either where that fails.
+    pub fn is_met(self, rt: &impl Print, negative: bool, normal: Normal) -> bool
+        ensures { result ≡ met_of self.argument self.slack self.scale self.digits self.spread self.unit negative normal }
+    {
+        let ok = self.test(negative, normal);
+        if !ok {
+            let sign = if negative { "-" } else { "" };
+            let at = self.at();
+            let _ = println!(rt; "not met: {normal} at {sign}{at}, by the row {self}");
+        }
+        ok
     }
-    ok
-}
 
-fn test(
-    argument: u64,
-    slack: u64,
-    scale: u64,
-    digits: u64,
-    spread: u64,
-    unit: u64,
-    negative: bool,
-    dual: bool,
-) -> bool
-    ensures { result ≡ met_of argument slack scale digits spread unit negative dual }
-{
-    let n = 2.0 * std::num::nearest_u64_to_f64(argument);
-    let s = std::num::nearest_u64_to_f64(slack);
-    let d = 2.0 * std::num::nearest_u64_to_f64(scale);
-    let p = 4.0 * std::num::nearest_u64_to_f64(digits);
-    let w = std::num::nearest_u64_to_f64(spread);
-    let u = 4.0 * std::num::nearest_u64_to_f64(unit);
-    if negative {
-        below(n, s, d, p, w, u, dual)
-    } else {
-        above(n, s, d, p, w, u, dual)
+    #[tactic(auto, unfolding(crate::specs::Meet::met_of, crate::specs::Meet::above_of, crate::specs::Meet::below_of))]
+    fn test(self, negative: bool, normal: Normal) -> bool
+        ensures { result ≡ met_of self.argument self.slack self.scale self.digits self.spread self.unit negative normal }
+    {
+        let n = 2.0 * nearest_u64_to_f64(self.argument);
+        let s = nearest_u64_to_f64(self.slack);
+        let d = 2.0 * nearest_u64_to_f64(self.scale);
+        let p = 4.0 * nearest_u64_to_f64(self.digits);
+        let w = nearest_u64_to_f64(self.spread);
+        let u = 4.0 * nearest_u64_to_f64(self.unit);
+        if negative {
+            let low = normal.at(-((n + s) / d));
+            let high = normal.at(-((n - s) / d));
+            within(low, high, u - p, w, u)
+        } else {
+            let low = normal.at((n - s) / d);
+            let high = normal.at((n + s) / d);
+            within(low, high, p, w, u)
+        }
+    }
+
+    fn at(self) -> Decimal {
+        Decimal {
+            n: self.argument,
+            unit: self.scale,
+        }
+    }
+
+    fn value(self) -> Decimal {
+        Decimal {
+            n: self.digits,
+            unit: self.unit,
+        }
     }
 }
 
-fn above(n: f64, s: f64, d: f64, p: f64, w: f64, u: f64, dual: bool) -> bool
-    ensures { result ≡ above_of (normal_of dual) n s d p w u }
-{
-    within(
-        normal((n - s) / d, dual),
-        normal((n + s) / d, dual),
-        p,
-        w,
-        u,
-    )
-}
-
-fn below(n: f64, s: f64, d: f64, p: f64, w: f64, u: f64, dual: bool) -> bool
-    ensures { result ≡ below_of (normal_of dual) n s d p w u }
-{
-    within(
-        normal(-((n + s) / d), dual),
-        normal(-((n - s) / d), dual),
-        u - p,
-        w,
-        u,
-    )
-}
-
-// The DualFwd function, or the f64 one.
-fn normal(x: f64, dual: bool) -> f64
-    ensures { result ≡ normal_of dual x }
-{
-    if dual {
-        math_normal::norm_cdf_dual(x)
-    } else {
-        math_normal::norm_cdf(x)
+// As the table has it.
+impl fmt::Display for Row {
+    fn fmt<W: fmt::Write>(&self, f: &mut fmt::Formatter<W>) -> fmt::Result {
+        write!(f, "{} {}", self.at(), self.value())
     }
 }
 
@@ -96,17 +87,5 @@ fn normal(x: f64, dual: bool) -> f64
 fn within(low: f64, high: f64, p: f64, w: f64, u: f64) -> bool
     ensures { result ≡ within_of low high p w u }
 {
-    at_most(low, p + w, u) & at_least(high, p - w, u)
-}
-
-fn at_most(v: f64, p: f64, u: f64) -> bool
-    ensures { result ≡ at_most v p u }
-{
-    ieee::fused(v, u, -p) <= 0.0
-}
-
-fn at_least(v: f64, p: f64, u: f64) -> bool
-    ensures { result ≡ at_least v p u }
-{
-    ieee::fused(v, u, -p) >= 0.0
+    (ieee::fused(low, u, -(p + w)) <= 0.0) & (ieee::fused(high, u, -(p - w)) >= 0.0)
 }

@@ -1,6 +1,9 @@
 -- How records are counted: each by its function's number, and those that do not agree besides.
-use Rattle.std.specs.Prelude.{◌≡◌, Bool, cond, List, ℕ, zero, suc, ◌+◌, min, ltb, eqb, get_or, set}
+use Rattle.std.specs.Prelude.{Bool, cond, List, ℕ, zero, suc, ◌+◌, min, ltb, Some, None}
+use Rattle.std.specs.Option.{option_or}
 use Rattle.file_layout.specs.Bytes.{eight_bytes}
+use Rattle.test_vectors.specs.declared.tally.Count.{Count}
+use Rattle.test_vectors.specs.declared.tally.Line.{Line}
 use Rattle.test_vectors.specs.Match.{agrees_of}
 
 -- one more, up to the greatest number of 64 bits
@@ -11,17 +14,17 @@ one_more n = min (n + 1) 0xffff_ffff_ffff_ffff
 abbrev pub slot_of : ℕ → ℕ
 slot_of n = cond (ltb n 15) n 0
 
--- one record more at its place
-pub record Seen (slot records : ℕ) (seen : List ℕ) (records' : ℕ) (seen' : List ℕ) : Type 0 where
-  pub records_is : records' ≡ one_more records
-  pub seen_is : seen' ≡ set seen slot (one_more (get_or seen slot 0))
+-- one record more, by whether it agrees
+abbrev pub counted : Bool → Count → Count
+counted agrees c = record { seen = one_more c.seen; differ = cond agrees c.differ (one_more c.differ) }
 
--- what one record changes, by whether it agrees: the numbers of records and of those that differ, and by place how many there were, how many differ, and where the first that differs stands
-pub record Counted (agrees : Bool) (slot records differing : ℕ) (seen differ first : List ℕ) (records' differing' : ℕ) (seen' differ' first' : List ℕ) : Type 0 where
-  pub one_seen : Seen slot records seen records' seen'
-  pub differing_is : differing' ≡ cond agrees differing (one_more differing)
-  pub differ_is : differ' ≡ cond agrees differ (set differ slot (one_more (get_or differ slot 0)))
-  pub first_is : first' ≡ cond agrees first (cond (eqb (get_or differ slot 0) 0) (set first slot records) first)
+-- the same on a function's line, with where the first that differs stands
+abbrev pub noted : Bool → ℕ → Line → Line
+noted agrees at l = record { count = counted agrees l.count; first = cond agrees l.first (option_or l.first (Some at)) }
+
+-- a line before any record
+abbrev pub no_line : Line
+no_line = record { count = record { seen = 0; differ = 0 }; first = None }
 
 -- the record that starts at index `at` of s agrees
 abbrev pub agreement_at : List ℕ → ℕ → Bool

@@ -1,5 +1,5 @@
 -- The functions that the numbers 1 to 14 of a record name. Whoever asks lets no other number through, so the last case is 14.
-use Rattle.std.specs.Prelude.{ℕ, cond, eqb, Float}
+use Rattle.std.specs.Prelude.{◌≡◌, ℕ, cond, eqb, ◌<◌, ◌⊎◌, Float, Result, MatchResult}
 use Rattle.ieee.specs.Numbers.{zero, one}
 use Rattle.ieee.specs.Fused.{fused_of}
 use Rattle.ieee.specs.Sqrt.{sqrt_of}
@@ -9,6 +9,30 @@ use Rattle.math_elementary.specs.Ln.{ln_of}
 use Rattle.math_elementary.specs.Simple.{signum_of, midpoint_of, max_of, min_of, abs_of}
 use Rattle.std.specs.Float.Ieee.Scale.{finite}
 use Rattle.math_normal.specs.NormCdf.{norm_cdf_of, norm_cdf_dual_of}
+use Rattle.test_vectors.specs.declared.function.Function.{Function}
+use Rattle.test_vectors.specs.declared.function.Function.TheVariants.{Fused, Sqrt, Exp, ExpM1, Ln, NormPdf, NormCdf, NormCdfDual, Signum, Midpoint, Max, Min, Abs, IsFinite}
+use Rattle.test_vectors.specs.declared.function.NoFunction.{NoFunction}
+
+-- the function's number
+abbrev pub number_of : Function → ℕ
+number_of Fused = 1
+number_of Sqrt = 2
+number_of Exp = 3
+number_of ExpM1 = 4
+number_of Ln = 5
+number_of NormPdf = 6
+number_of NormCdf = 7
+number_of NormCdfDual = 8
+number_of Signum = 9
+number_of Midpoint = 10
+number_of Max = 11
+number_of Min = 12
+number_of Abs = 13
+number_of IsFinite = 14
+
+-- the result is the function that the number names, or that none has it
+abbrev pub Names : ℕ → Result Function NoFunction → Type 0
+Names n r = MatchResult r (λ f. number_of f ≡ n) (λ _. (n < 1) ⊎ (14 < n))
 
 unfoldable pub result_of : ℕ → Float → Float → Float → Float
 result_of n a b c =

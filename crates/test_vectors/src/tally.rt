@@ -1,111 +1,99 @@
 // How many records each function had, and how many of them differed.
-ghost use Rattle.std.specs.Prelude.{◌≡◌, cond, ◌/◌, ◌<◌, eqb, length, get_or, set};
+ghost use Rattle.std.specs.Prelude.{◌≡◌, ◌/◌, ◌<◌, length, get_or, set};
 ghost use Rattle.test_vectors.specs.Match.{agrees_of};
-ghost use Rattle.test_vectors.specs.Counting.{one_more, slot_of, Seen, Counted, records_from, differing_from};
+ghost use Rattle.test_vectors.specs.Counting.{slot_of, no_line, counted, noted, records_from, differing_from};
 
 use crate::record::Record;
-use crate::{functions, record};
+use std::fmt;
 
-// By the function's number; 0 is for numbers that no function has.
-#[derive(Clone, Copy)]
+// How many records there were, and how many of them differ. Each stays at its greatest, where no input reaches.
+#[derive(Clone, Copy, Debug, Default, PartialEq, Eq)]
+pub struct Count {
+    pub seen: u64,
+    pub differ: u64,
+}
+
+impl Count {
+    fn add(&mut self, agrees: bool)
+        ensures { self.new ≡ counted agrees self.old }
+    {
+        self.seen = self.seen.saturating_add(1);
+        if !agrees {
+            self.differ = self.differ.saturating_add(1);
+        }
+    }
+}
+
+impl fmt::Display for Count {
+    fn fmt<W: fmt::Write>(&self, f: &mut fmt::Formatter<W>) -> fmt::Result {
+        write!(f, "{} vectors, {} differ", self.seen, self.differ)
+    }
+}
+
+// A function's count, and where the first record that differs stands, counted from 0.
+#[derive(Clone, Copy, Debug, Default, PartialEq, Eq)]
+pub struct Line {
+    pub count: Count,
+    pub first: Option<u64>,
+}
+
+impl Line {
+    // One record more, which stands at `at`.
+    fn add(&mut self, agrees: bool, at: u64)
+        ensures { self.new ≡ noted agrees at self.old }
+    {
+        self.count.add(agrees);
+        if !agrees {
+            self.first = self.first.or(Some(at));
+        }
+    }
+}
+
+impl fmt::Display for Line {
+    fn fmt<W: fmt::Write>(&self, f: &mut fmt::Formatter<W>) -> fmt::Result {
+        write!(f, "{}", self.count)?;
+        match self.first {
+            Some(first) => write!(f, ", first at record {first}"),
+            None => Ok(()),
+        }
+    }
+}
+
+#[derive(Clone, Copy, Debug, Default, PartialEq, Eq)]
 pub struct Tally {
-    // records so far, how many of them differ, and the bytes after the last whole one
-    pub records: u64,
-    pub differing: u64,
+    pub total: Count,
+    // by the function's number; 0 is for numbers that no function has
+    pub lines: [Line; 15],
+    // the bytes after the last whole record
     pub rest: u64,
-    pub seen: [u64; 15],
-    pub differ: [u64; 15],
-    // where the first one that differs stands, counted from 0
-    pub first: [u64; 15],
 }
 
-pub fn nothing() -> Tally
-    ensures { (result.records ≡ 0) × (result.differing ≡ 0) }
-{
-    Tally {
-        records: 0,
-        differing: 0,
-        rest: 0,
-        seen: [0; 15],
-        differ: [0; 15],
-        first: [0; 15],
+impl Tally {
+    // Counts the records in s.
+    pub fn add_all(&mut self, s: &[u8])
+        ensures records { self.new.total.seen ≡ records_from (length s.now / 40) self.old.total.seen }
+        ensures differing { self.new.total.differ ≡ differing_from s.now 0 (length s.now / 40) self.old.total.differ }
+    {
+        for i in 0..s.len() / 40 {
+            self.add(Record::parsed(s, 40 * i));
+        }
+        self.rest = (s.len() % 40) as u64;
     }
-}
 
-// The tally after the records in s.
-pub fn tallied(t: Tally, s: &[u8]) -> Tally
-    ensures records { result.records ≡ records_from (length s.now / 40) t.records }
-    ensures differing { result.differing ≡ differing_from s.now 0 (length s.now / 40) t.differing }
-{
-    let mut now = t;
-    let mut at = 0;
-    while s.len() - at >= 40 {
-        now = after(now, record::parsed(s, at));
-        at += 40;
+    // One record more. A record that does not agree is counted among those that differ.
+    fn add(&mut self, r: Record)
+        ensures total { self.new.total ≡ counted (agrees_of r.function r.a r.b r.c r.expected) self.old.total }
+        ensures lines { self.new.lines ≡ set self.old.lines (slot_of r.function) (noted (agrees_of r.function r.a r.b r.c r.expected) self.old.total.seen (get_or self.old.lines (slot_of r.function) no_line)) }
+    {
+        let agrees = r.agrees();
+        let at = self.total.seen;
+        self.lines[slot_of(r.function)].add(agrees, at);
+        self.total.add(agrees);
     }
-    now.rest = (s.len() - at) as u64;
-    now
-}
-
-// The tally after one record more. A record that does not agree is counted among those that differ.
-fn after(t: Tally, r: Record) -> Tally
-    ensures { Counted (agrees_of r.function r.a r.b r.c r.expected) (slot_of r.function) t.records t.differing t.seen t.differ t.first result.records result.differing result.seen result.differ result.first }
-{
-    let slot = slot_of(r.function);
-    if functions::agrees(r) {
-        seen(t, slot)
-    } else {
-        seen(missed(marked(t, slot), slot), slot)
-    }
-}
-
-// One record more at a place. A caller has the place from `slot_of`, within the lists.
-fn seen(t: Tally, slot: usize) -> Tally
-    requires { slot < 15 }
-    ensures seen { Seen slot t.records t.seen result.records result.seen }
-    ensures rest { (result.differing ≡ t.differing) × (result.differ ≡ t.differ) × (result.first ≡ t.first) }
-{
-    let mut next = t;
-    next.seen[slot] = one_more(next.seen[slot]);
-    next.records = one_more(next.records);
-    next
-}
-
-// One more that differs, at a place that a caller has from `slot_of` too.
-fn missed(t: Tally, slot: usize) -> Tally
-    requires { slot < 15 }
-    ensures differing_value { (result.differing ≡ one_more t.differing) × (result.differ ≡ set t.differ slot (one_more (get_or t.differ slot 0))) }
-    ensures rest { (result.records ≡ t.records) × (result.seen ≡ t.seen) × (result.first ≡ t.first) }
-{
-    let mut next = t;
-    next.differ[slot] = one_more(next.differ[slot]);
-    next.differing = one_more(next.differing);
-    next
-}
-
-// Where the first that differs stands, if none has before, at a place that a caller has from `slot_of` too.
-fn marked(t: Tally, slot: usize) -> Tally
-    requires { slot < 15 }
-    ensures first_value { result.first ≡ cond (eqb (get_or t.differ slot 0) 0) (set t.first slot t.records) t.first }
-    ensures rest { (result.records ≡ t.records) × (result.differing ≡ t.differing) × (result.seen ≡ t.seen) × (result.differ ≡ t.differ) }
-{
-    if t.differ[slot] == 0 {
-        let mut next = t;
-        next.first[slot] = next.records;
-        return next;
-    }
-    t
 }
 
 fn slot_of(function: u64) -> usize
     ensures { (result ≡ slot_of function) × (result < 15) }
 {
     if function < 15 { function as usize } else { 0 }
-}
-
-// A count that stays at its greatest, where no input reaches.
-fn one_more(n: u64) -> u64
-    ensures { result ≡ one_more n }
-{
-    if n < u64::MAX { n + 1 } else { n }
 }

@@ -1,50 +1,25 @@
--- `file_fields::put_decimal` meets its contract: the digits of a short number are stored one by one. Assumes nothing.
-use mathlib.Core.List.{[], ◌∷◌}
+-- `file_fields::put_decimal` meets its contract: a short number's digits one by one, and those of the kit. Assumes nothing.
+use mathlib.Core.Path.{◌∙◌}
+use Prim.Native.Nat.{◌≤◌}
 use native.Mathlib.Omega.{arith}
-use lib.ListN.{length-set}
-use Rattle.file_fields.specs.Fields.{decimal_of}
-use Rattle.file_fields.proofs.Digits.{one_digit, two_digits, three_digits}
-use Rattle.file_fields.proofs.Writing.{two, three, four, same_text}
+use Rattle.file_fields.proofs.Digits.{one_digit, two_digits, three_digits, few, decimal_is}
+use Rattle.file_fields.proofs.Writing.{same_text}
 use Rattle.file_fields.proofs.put_decimal.Goals as goal
 
-pub bounds-out-at-then-n-lt10 : goal.bounds-out-at-then-n-lt10
-bounds-out-at-then-n-lt10 c = simp length-set (omega arith)
+pub returns-in-0-to-9-clause-written : goal.returns-in-0-to-9-clause-written
+returns-in-0-to-9-clause-written c =
+    same_text _ c.args.end _ _ _ _ (one_digit c.args.n _ (omega arith) c.digit.ensures) c.put.ensures
 
-pub returns-then-n-lt10 : goal.returns-then-n-lt10
-returns-then-n-lt10 c =
-    let a = c.args in
-    let x = c.digit.result in
-    let s = same_text _ a.at a.end 21 (x ∷ []) (decimal_of a.n) a.out.now _ (one_digit a.n x c.if-n-lt10.true c.digit.ensures) (omega arith) (omega arith, two a.out.now a.at x a.end (omega (arith, c.requires))) in
-    record { upper_bound = s.0; value = s.1.0; out_after = s.1.1 }
+pub returns-in-10-to-99-clause-written : goal.returns-in-10-to-99-clause-written
+returns-in-10-to-99-clause-written c =
+    same_text _ c.args.end _ _ _ _ (two_digits c.args.n _ _ (omega arith) (omega arith) c.digit-in-10-to-99.ensures c.digit-in-10-to-99-2.ensures) c.put-in-10-to-99.ensures
 
-pub bounds-out-at-then-n-lt100-2 : goal.bounds-out-at-then-n-lt100-2
-bounds-out-at-then-n-lt100-2 c = simp length-set (omega arith)
+pub returns-in-100-to-999-clause-written : goal.returns-in-100-to-999-clause-written
+returns-in-100-to-999-clause-written c =
+    same_text _ c.args.end _ _ _ _ (three_digits c.args.n _ _ _ (omega arith) (omega arith) c.digit-in-100-to-999.ensures c.digit-in-100-to-999-2.ensures c.digit-in-100-to-999-3.ensures) c.put-in-100-to-999.ensures
 
-pub bounds-out-at-then-n-lt100-3 : goal.bounds-out-at-then-n-lt100-3
-bounds-out-at-then-n-lt100-3 c = simp length-set (omega arith)
-
-pub returns-then-n-lt100 : goal.returns-then-n-lt100
-returns-then-n-lt100 c =
-    let a = c.args in
-    let x = c.digit-then-n-lt100.result in
-    let y = c.digit-then-n-lt100-2.result in
-    let s = same_text _ a.at a.end 21 (x ∷ y ∷ []) (decimal_of a.n) a.out.now _ (two_digits a.n x y c.if-n-lt10.false c.if-n-lt100.true c.digit-then-n-lt100.ensures c.digit-then-n-lt100-2.ensures) (omega arith) (omega arith, three a.out.now a.at x y a.end (omega (arith, c.requires))) in
-    record { upper_bound = s.0; value = s.1.0; out_after = s.1.1 }
-
-pub bounds-out-at-then-n-lt1000-2 : goal.bounds-out-at-then-n-lt1000-2
-bounds-out-at-then-n-lt1000-2 c = simp length-set (omega arith)
-
-pub bounds-out-at-then-n-lt1000-3 : goal.bounds-out-at-then-n-lt1000-3
-bounds-out-at-then-n-lt1000-3 c = simp length-set (omega arith)
-
-pub bounds-out-at-then-n-lt1000-4 : goal.bounds-out-at-then-n-lt1000-4
-bounds-out-at-then-n-lt1000-4 c = simp length-set (omega arith)
-
-pub returns-then-n-lt1000 : goal.returns-then-n-lt1000
-returns-then-n-lt1000 c =
-    let a = c.args in
-    let x = c.digit-then-n-lt1000.result in
-    let y = c.digit-then-n-lt1000-2.result in
-    let z = c.digit-then-n-lt1000-3.result in
-    let s = same_text _ a.at a.end 21 (x ∷ y ∷ z ∷ []) (decimal_of a.n) a.out.now _ (three_digits a.n x y z c.if-n-lt100.false c.if-n-lt1000.true c.digit-then-n-lt1000.ensures c.digit-then-n-lt1000-2.ensures c.digit-then-n-lt1000-3.ensures) (omega arith) (omega arith, four a.out.now a.at x y z a.end (omega (arith, c.requires))) in
-    record { upper_bound = s.0; value = s.1.0; out_after = s.1.1 }
+pub returns-in_default-clause-written : goal.returns-in_default-clause-written
+returns-in_default-clause-written c =
+    let d = c.decimal-k in
+    let m : d.result ≤ 20 = few 10 1 20 c.args.n d.result (omega arith) (omega arith) (omega (arith, c.ranges.n.fits)) d.ensures.len in
+    same_text _ c.args.end _ _ _ _ (d.ensures.digits ∙ decimal_is d.result c.args.n m d.ensures.len) c.put-in_default.ensures

@@ -1,15 +1,7 @@
--- `ieee_words::jam` meets its contract. It goes by how many words are shifted out. Assumes nothing.
-use Rattle.std.proofs.Common.{◌∙◌, zero-add}
-use Rattle.ieee_words.specs.Words.{words}
-use Rattle.ieee_words.proofs.Words.{far_again, all_out}
+-- `ieee_words::jam` meets its contract: by whether it shifts by a word. Assumes nothing.
+use Rattle.ieee_words.proofs.Words.{jam_far}
 use Rattle.ieee_words.proofs.jam.Goals as goal
 
-pub returns-then-d-lt128 : goal.returns-then-d-lt128
-returns-then-d-lt128 c =
-    let s = c.before in
-    zero-add c.jam_far.result ∙ c.jam_far.ensures ∙ far_again (words s.args.hi s.args.lo) s.args.d c.if-d-lt64.false
-
-pub returns-else-d-lt128 : goal.returns-else-d-lt128
-returns-else-d-lt128 c =
-    let s = c.before in
-    all_out s.args.hi s.args.lo s.args.d c.mark.result c.mark-else-d-lt128.result c.mark-else-d-lt128-2.result s.ranges.hi.fits s.ranges.lo.fits c.if-d-lt128.false c.mark.ensures c.mark-else-d-lt128.ensures c.mark-else-d-lt128-2.ensures
+pub returns-else-d-lt64 : goal.returns-else-d-lt64
+returns-else-d-lt64 c =
+    jam_far c.args.v c.args.d c.min.result c.jam_below-c.result.left c.jam_below-c.result.sticky _ c.ranges.v.fits c.min.ensures c.if-d-lt64.false c.jam_below-c.ensures c.jam_below-c.result.digit c.stuck.ensures

@@ -1,19 +1,13 @@
--- `ieee_words::jam_below` meets its contract. A shift by a word and more, by its laws in `proofs/Words.antt`. Assumes nothing.
-use Rattle.std.proofs.Common.{◌≡◌, ℕ, ◌-◌, ◌*◌, ◌/◌, ◌%◌, ◌^◌, ◌≤◌, min, arith}
-use Rattle.ieee_words.specs.Words.{words}
-use Rattle.ieee_words.proofs.Words.{cut_le, below_is}
+-- `ieee_words::jam_below` meets its contract: by whether a digit 1 of the upper word is shifted out. Assumes nothing.
+use Rattle.std.proofs.Common.{ap, ◌∙◌, min}
+use Rattle.ieee_words.proofs.Words.{below_none, below_some}
 use Rattle.ieee_words.proofs.jam_below.Goals as goal
-
-pub overflow_sub-hi : goal.overflow_sub-hi
-overflow_sub-hi c = cut_le c.args.hi c.args.d c.ranges.hi.fits
+use Rattle.ieee_words.proofs.jam_below.Goals.{then-left-d, else-left-d}
 
 pub returns : goal.returns
 returns c =
-    let s = c.before in
-    let k = c.mark_both.result in (
-      below_is s.args.hi s.args.lo s.args.d k s.ranges.hi.fits s.ranges.lo.fits c.mark_both.ensures,
-      digit k (words (s.args.hi - s.args.hi / 2 ^ s.args.d * 2 ^ s.args.d % 2 ^ 64) s.args.lo) c.mark_both.ensures,
-    )
-  where
-    digit : (k n : ℕ) → k ≡ min n 1 → k ≤ 1
-    digit k n e = omega arith
+    let u = c.upper-high in
+    elim c.if-left-d.branch [
+      | then-left-d w ↦ below_none c.args.v c.args.d u.result _ u.ensures u.type_inv w.if-left-d.true (w.sticky-is ∙ w.min-sticky.ensures ∙ ap (λ n. min n 1) c.lower-low.ensures)
+      | else-left-d w ↦ rw w.sticky-is (below_some c.args.v c.args.d u.result u.ensures u.type_inv w.if-left-d.false)
+    ]

@@ -1,21 +1,22 @@
--- `ieee_words::jam_near` meets its contract. A shift by less than a word, by its laws in `proofs/Words.antt`. Assumes nothing.
-use Rattle.std.proofs.Common.{◌+◌, ◌%◌}
-use Rattle.ieee_words.proofs.Words.{near_low_of, near_low_fits, cut_le, even_fits, stuck_fits, near_is}
+-- `ieee_words::jam_near` meets its contract: the words of the number that is shifted. Assumes nothing.
+use Rattle.std.proofs.Common.{◌≡◌, ◌+◌, ◌*◌, ◌/◌, ◌%◌, ◌^◌, ◌-◌, ap, ◌∙◌}
+use Rattle.ieee_words.proofs.Words.{lost_is, cut_le, near_fits, near_is, shifted_fits, jam_near}
 use Rattle.ieee_words.proofs.jam_near.Goals as goal
 
-pub overflow_add-low : goal.overflow_add-low
-overflow_add-low c = near_low_fits c.args.hi c.args.lo c.args.d c.ranges.lo.fits c.requires.1
+-- the two words together are v shifted right
+shifted : (c : goal.After-above) → c.above.result + (c.upper-high.result * 2 % 2 ^ 64 * 2 ^ (63 - c.args.d) % 2 ^ 64 + c.lower-low.result / 2 ^ c.args.d) ≡ c.args.v / 2 ^ c.args.d
+shifted c =
+    ap (λ n. n + (c.upper-high.result * 2 % 2 ^ 64 * 2 ^ (63 - c.args.d) % 2 ^ 64 + c.lower-low.result / 2 ^ c.args.d)) c.above.ensures
+    ∙ near_is c.args.v c.upper-high.result c.lower-low.result c.args.d c.upper-high.ensures c.lower-low.ensures c.requires
 
-pub overflow_sub-lo : goal.overflow_sub-lo
-overflow_sub-lo c = cut_le c.args.lo c.args.d c.ranges.lo.fits
+pub overflow_add-kept : goal.overflow_add-kept
+overflow_add-kept c = near_fits c.upper-high.result c.lower-low.result c.args.d c.lower-low.type_inv c.requires
 
-pub overflow_mul-result : goal.overflow_mul-result
-overflow_mul-result c = even_fits (near_low_of c.args.hi c.args.lo c.args.d) (near_low_fits c.args.hi c.args.lo c.args.d c.ranges.lo.fits c.requires.1).fits
+pub overflow_sub-low : goal.overflow_sub-low
+overflow_sub-low c = cut_le c.lower-low.result c.args.d c.lower-low.type_inv
 
-pub overflow_add-result : goal.overflow_add-result
-overflow_add-result c =
-    stuck_fits (near_low_of c.args.hi c.args.lo c.args.d) c.mark.result (near_low_of c.args.hi c.args.lo c.args.d % 2 + c.mark-out.result) (near_low_fits c.args.hi c.args.lo c.args.d c.ranges.lo.fits c.requires.1).fits c.mark.ensures
+pub overflow_add-above : goal.overflow_add-above
+overflow_add-above c = shifted_fits c.args.v c.args.d _ c.ranges.v.fits (shifted c)
 
 pub returns : goal.returns
-returns c =
-    near_is c.args.hi c.args.lo c.args.d c.mark-out.result c.mark.result c.ranges.lo.fits c.requires.1 c.mark-out.ensures c.mark.ensures
+returns c = jam_near c.args.v c.args.d _ _ _ (shifted c.before) (lost_is c.args.v c.lower-low.result c.args.d c.lower-low.ensures c.requires) c.stuck.ensures

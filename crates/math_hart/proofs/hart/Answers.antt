@@ -1,14 +1,10 @@
--- `math_hart::hart` meets its contract: by the step that is asked for. Assumes nothing.
+-- `math_hart::hart` meets its contract: by the quicker way, or by the two polynomials. Assumes nothing.
+use mathlib.Core.Path.{◌∙◌, ap₂}
+use lib.Ieee.{Float}
+use Rattle.ieee.specs.Rounded.{◌⊗◌, ◌⊘◌}
+use Rattle.math_hart.proofs.Coefficients.{num_is, den_is}
 use Rattle.math_hart.proofs.hart.Goals as goal
 
-pub quotient-requires : goal.quotient-requires
-quotient-requires c = c.sized.ensures c.if-sized.true
-
-pub returns-then-dual : goal.returns-then-dual
-returns-then-dual c = rw c.if-dual.true (cc)
-
-pub returns-then-sized : goal.returns-then-sized
-returns-then-sized c = rw c.if-dual.false c.quotient.ensures
-
-pub returns-else-sized : goal.returns-else-sized
-returns-else-sized c = rw c.if-dual.false (cc)
+pub returns-in-None : goal.returns-in-None
+returns-in-None g c =
+    ap₂ (λ (p q : Float). c.args.e ⊗ p ⊘ q) (c.horner.ensures ∙ num_is g.S.Step.step_of c.args.z) (c.horner-in-None.ensures ∙ den_is g.S.Step.step_of c.args.z)

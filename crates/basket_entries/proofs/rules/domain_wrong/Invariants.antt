@@ -1,12 +1,11 @@
--- `basket_entries::rules::domain_wrong` meets its contract. The loop's invariant: the entries from place i on break rule 6 where some entry does. Assumes nothing.
+-- `basket_entries::rules::domain_wrong` meets its contract. The loop's invariant: the entries that are left break rule 6 where some entry does. Assumes nothing.
 use mathlib.Core.Path.{◌≡◌}
-use Prim.Native.Nat.{◌≤◌, ◌-◌}
-use lib.ListN.{length, drop}
+use Rattle.std.specs.Iterator.Adapters.{zip_first, zip_second}
+use Rattle.std.specs.Slice.Iter.{iter_rest}
 use Rattle.basket_entries.specs.Entries.{domain_wrong}
 use Rattle.basket_entries.proofs.rules.domain_wrong.Given as goal
 
-abbrev pub invariant-loop-i : goal.invariant-loop-i
-invariant-loop-i l = (l.i ≤ length l.normals) × (domain_wrong (drop l.i l.normals) (drop l.i l.strikes) (drop l.i l.vols) ≡ domain_wrong l.normals l.strikes l.vols)
-
-abbrev pub decreases-loop-i : goal.decreases-loop-i
-decreases-loop-i l = length l.normals - l.i
+abbrev pub invariant-loop-normal : goal.invariant-loop-normal
+invariant-loop-normal l =
+    let entries = zip_first l.normal-iterator in
+    domain_wrong (iter_rest (zip_first entries)) (iter_rest (zip_second entries)) (iter_rest (zip_second l.normal-iterator)) ≡ domain_wrong l.normals l.strikes l.vols

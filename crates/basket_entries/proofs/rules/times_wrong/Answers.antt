@@ -1,20 +1,14 @@
--- `basket_entries::rules::times_wrong` meets its contract. The loop's invariant: the entries from place i on break rule 5 where some entry does. Assumes nothing.
-use mathlib.Core.Path.{refl, sym, ◌∙◌}
-use Rattle.basket_entries.proofs.Walks.{times_turn, times_stop, times_short, times_end}
-use borrow.Author.Rules.{rules}
+-- `basket_entries::rules::times_wrong` meets its contract. The loop's invariant: the entries that are left break rule 5 where some entry does. Assumes nothing.
+use mathlib.Core.Path.{◌∙◌}
+use Rattle.std.proofs.lemmas.Slice.Zip.{either_empty_from_Zip}
+use Rattle.basket_entries.proofs.Walks.{times_turn, times_stop, times_end}
 use Rattle.basket_entries.proofs.rules.times_wrong.Goals as goal
 
-pub loop-i-init : goal.loop-i-init
-loop-i-init c = (search rules, refl)
+pub returns-then-start-end : goal.returns-then-start-end
+returns-then-start-end c = let s = c.in-Some.ensures.steps in times_stop s.0 s.1 c.if-start-end.true ∙ c.loop-start.invariant
 
-pub returns-then-ends-i : goal.returns-then-ends-i
-returns-then-ends-i c = sym (times_short _ _ _ c.loop-i-test.true (search rules)) ∙ c.loop-i.invariant.1
-
-pub returns-then-starts-i : goal.returns-then-starts-i
-returns-then-starts-i c = sym (times_stop _ _ _ c.loop-i-test.true (search rules) c.if-starts-i.true) ∙ c.loop-i.invariant.1
-
-pub loop-i-preserved : goal.loop-i-preserved
-loop-i-preserved c = (search rules, sym (times_turn _ _ _ c.loop-i-test.true (search rules) c.if-starts-i.false) ∙ c.loop-i.invariant.1)
+pub loop-start-preserved : goal.loop-start-preserved
+loop-start-preserved c = let s = c.in-Some.ensures.steps in times_turn s.0 s.1 c.if-start-end.false ∙ c.loop-start.invariant
 
 pub returns : goal.returns
-returns c = sym (times_end _ _ _ c.loop-i-test.false) ∙ c.loop-i.invariant.1
+returns c = times_end _ _ (either_empty_from_Zip c.loop-start.start-iterator c.next.new.self _ c.in-None.is c.next.ensures.steps) ∙ c.loop-start.invariant

@@ -7,7 +7,7 @@ pub returns : goal.returns
 returns c =
     let f = c.find_critical_rate in
     record {
-      answer = c.critical_rate_report.ensures ∙ ap critical_rate_report_of f.ensures.answer;
-      rooted = record { answer = f.result; reported = c.critical_rate_report.ensures; holds = f.ensures.rooted };
-      bracket = record { answer = f.result; reported = c.critical_rate_report.ensures; holds = f.ensures.bracket };
+      answer = c.from.ensures ∙ ap critical_rate_report_of f.ensures.answer;
+      rooted = record { answer = f.result; reported = c.from.ensures; holds = f.ensures.rooted };
+      bracket = record { answer = f.result; reported = c.from.ensures; holds = f.ensures.bracket };
     }

@@ -7,7 +7,7 @@ pub returns : goal.returns
 returns c =
     let f = c.fit_caplet in
     record {
-      answer = c.fit_report.ensures ∙ ap fit_report_of f.ensures.answer;
-      held = record { answer = f.result; reported = c.fit_report.ensures; holds = f.ensures.held };
-      bracket = record { answer = f.result; reported = c.fit_report.ensures; holds = f.ensures.bracket };
+      answer = c.from.ensures ∙ ap fit_report_of f.ensures.answer;
+      held = record { answer = f.result; reported = c.from.ensures; holds = f.ensures.held };
+      bracket = record { answer = f.result; reported = c.from.ensures; holds = f.ensures.bracket };
     }

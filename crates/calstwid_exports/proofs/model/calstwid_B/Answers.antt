@@ -3,4 +3,4 @@ use mathlib.Core.Path.{◌∙◌}
 use Rattle.calstwid_exports.proofs.model.calstwid_B.Goals as goal
 
 pub returns : goal.returns
-returns c = c.report_price.ensures ∙ c.B.ensures.report
+returns c = c.from.ensures ∙ c.B.ensures.report

@@ -3,4 +3,4 @@ use mathlib.Core.Path.{◌∙◌}
 use Rattle.calstwid_exports.proofs.model.calstwid_forward_rate_from_curve.Goals as goal
 
 pub returns : goal.returns
-returns c = c.report_price.ensures ∙ c.forward_rate_from_curve.ensures.report
+returns c = c.from.ensures ∙ c.forward_rate_from_curve.ensures.report

@@ -3,4 +3,4 @@ use mathlib.Core.Path.{◌∙◌}
 use Rattle.calstwid_exports.proofs.model.calstwid_short_rate_variance.Goals as goal
 
 pub returns : goal.returns
-returns c = c.report_price.ensures ∙ c.short_rate_variance.ensures.report
+returns c = c.from.ensures ∙ c.short_rate_variance.ensures.report

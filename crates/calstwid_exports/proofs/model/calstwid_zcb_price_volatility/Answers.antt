@@ -3,4 +3,4 @@ use mathlib.Core.Path.{◌∙◌}
 use Rattle.calstwid_exports.proofs.model.calstwid_zcb_price_volatility.Goals as goal
 
 pub returns : goal.returns
-returns c = c.report_price.ensures ∙ c.zcb_price_volatility.ensures.report
+returns c = c.from.ensures ∙ c.zcb_price_volatility.ensures.report

@@ -3,4 +3,4 @@ use mathlib.Core.Path.{◌∙◌}
 use Rattle.calstwid_exports.proofs.options.calstwid_bond_call_price.Goals as goal
 
 pub returns : goal.returns
-returns c = c.report_price.ensures ∙ c.bond_call_price.ensures.report
+returns c = c.from.ensures ∙ c.bond_call_price.ensures.report

@@ -3,4 +3,4 @@ use mathlib.Core.Path.{◌∙◌}
 use Rattle.calstwid_exports.proofs.options.calstwid_floorlet_price.Goals as goal
 
 pub returns : goal.returns
-returns c = c.report_price.ensures ∙ c.floorlet_price.ensures.report
+returns c = c.from.ensures ∙ c.floorlet_price.ensures.report

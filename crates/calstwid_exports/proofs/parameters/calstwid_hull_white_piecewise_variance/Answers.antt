@@ -3,4 +3,4 @@ use mathlib.Core.Path.{◌∙◌}
 use Rattle.calstwid_exports.proofs.parameters.calstwid_hull_white_piecewise_variance.Goals as goal
 
 pub returns : goal.returns
-returns c = c.report_price.ensures ∙ c.hull_white_piecewise_variance.ensures.report
+returns c = c.from.ensures ∙ c.hull_white_piecewise_variance.ensures.report

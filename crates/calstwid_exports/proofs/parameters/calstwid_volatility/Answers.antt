@@ -3,4 +3,4 @@ use mathlib.Core.Path.{◌∙◌}
 use Rattle.calstwid_exports.proofs.parameters.calstwid_volatility.Goals as goal
 
 pub returns : goal.returns
-returns c = c.report_price.ensures ∙ c.volatility.ensures.report
+returns c = c.from.ensures ∙ c.volatility.ensures.report

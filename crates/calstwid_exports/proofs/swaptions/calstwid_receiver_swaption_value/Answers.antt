@@ -7,7 +7,7 @@ pub returns : goal.returns
 returns c =
     let f = c.swaption_value in
     record {
-      answer = c.valuation_report.ensures ∙ ap valuation_report_of f.ensures.answer;
-      rooted = record { answer = f.result; reported = c.valuation_report.ensures; holds = f.ensures.rooted };
-      bracket = record { answer = f.result; reported = c.valuation_report.ensures; holds = f.ensures.bracket };
+      answer = c.from.ensures ∙ ap valuation_report_of f.ensures.answer;
+      rooted = record { answer = f.result; reported = c.from.ensures; holds = f.ensures.rooted };
+      bracket = record { answer = f.result; reported = c.from.ensures; holds = f.ensures.bracket };
     }

@@ -7,7 +7,7 @@ pub returns : goal.returns
 returns c =
     let f = c.swaption_price in
     record {
-      answer = c.swaption_report.ensures ∙ ap swaption_report_of f.ensures.answer;
-      rooted = record { answer = f.result; reported = c.swaption_report.ensures; holds = f.ensures.rooted };
-      bracket = record { answer = f.result; reported = c.swaption_report.ensures; holds = f.ensures.bracket };
+      answer = c.from.ensures ∙ ap swaption_report_of f.ensures.answer;
+      rooted = record { answer = f.result; reported = c.from.ensures; holds = f.ensures.rooted };
+      bracket = record { answer = f.result; reported = c.from.ensures; holds = f.ensures.bracket };
     }

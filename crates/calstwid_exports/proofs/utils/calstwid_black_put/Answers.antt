@@ -3,4 +3,4 @@ use mathlib.Core.Path.{◌∙◌}
 use Rattle.calstwid_exports.proofs.utils.calstwid_black_put.Goals as goal
 
 pub returns : goal.returns
-returns c = c.report_price.ensures ∙ c.black_put.ensures.report
+returns c = c.from.ensures ∙ c.black_put.ensures.report

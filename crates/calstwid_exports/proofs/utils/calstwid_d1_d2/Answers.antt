@@ -4,4 +4,4 @@ use Rattle.calstwid_exports.specs.Reports.{d1_d2_report_of}
 use Rattle.calstwid_exports.proofs.utils.calstwid_d1_d2.Goals as goal
 
 pub returns : goal.returns
-returns c = c.d1_d2_report.ensures ∙ ap d1_d2_report_of c.d1_d2.ensures.answer
+returns c = c.from.ensures ∙ ap d1_d2_report_of c.d1_d2.ensures.answer

@@ -5,24 +5,24 @@ use Rattle.draws.specs.Draws.{quotient_of, draw_of}
 use Rattle.draws.proofs.Lists.{start, turn, end}
 use Rattle.draws.proofs.stated.write_draws.Goals as goal
 
-pub loop-i-init : goal.loop-i-init
-loop-i-init c = start _ _ _ refl
+pub loop-x-init : goal.loop-x-init
+loop-x-init c = start _ _ _ refl
 
 pub draw-requires : goal.draw-requires
 draw-requires c = c.twelve_steps-twelve.ensures.below
 
-pub loop-i-preserved : goal.loop-i-preserved
+pub loop-x-preserved : goal.loop-x-preserved
 unfolding draw_of
-loop-i-preserved c =
-    let l = c.loop-i in
+loop-x-preserved c =
+    let l = c.loop-x in
     let twelve = c.twelve_steps-twelve in
-    turn _ _ l.i l.state l.out l.invariant (search rules) c.draw.result twelve.result.state (c.draw.ensures ∙ ap quotient_of twelve.ensures.sum) twelve.ensures.state
+    turn _ _ l.x-index l.state l.out l.invariant (search rules) c.draw.result twelve.result.state (c.draw.ensures ∙ ap quotient_of twelve.ensures.sum) twelve.ensures.state
 
 pub shape_of-out : goal.shape_of-out
-shape_of-out c = c.loop-i.invariant.sized
+shape_of-out c = c.loop-x.invariant.sized
 
 pub returns : goal.returns
 returns c =
-    let l = c.loop-i in
-    let e = end _ _ l.i l.state l.out l.invariant (search rules) in
+    let l = c.loop-x in
+    let e = end _ _ l.x-index l.state l.out l.invariant (search rules) in
     record { draws = e.0; state = e.1 }

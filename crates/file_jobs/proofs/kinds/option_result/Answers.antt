@@ -7,19 +7,19 @@ use Rattle.file_jobs.proofs.kinds.option_result.Goals as goal
 pub returns-then-j-eq1 : goal.returns-then-j-eq1
 unfolding option_result
 returns-then-j-eq1 c =
-    rw (eq-eqb _ 1 c.if-j-eq1.true) (c.price.ensures ∙ ap result_of_price c.optionlet_on.ensures.outcome)
+    rw (eq-eqb _ 1 c.if-j-eq1.true) (c.from.ensures ∙ ap result_of_price c.optionlet_on.ensures.outcome)
 
 pub returns-then-j-eq2 : goal.returns-then-j-eq2
 unfolding option_result
 returns-then-j-eq2 c =
-    rw (ne_eqb _ 1 c.if-j-eq1.false, eq-eqb _ 2 c.if-j-eq2.true) (c.price-then-j-eq2.ensures ∙ ap result_of_price c.optionlet_on-then-j-eq2.ensures.outcome)
+    rw (ne_eqb _ 1 c.if-j-eq1.false, eq-eqb _ 2 c.if-j-eq2.true) (c.from-then-j-eq2.ensures ∙ ap result_of_price c.optionlet_on-then-j-eq2.ensures.outcome)
 
 pub returns-then-j-eq3 : goal.returns-then-j-eq3
 unfolding option_result
 returns-then-j-eq3 c =
-    rw (ne_eqb _ 1 c.if-j-eq1.false, ne_eqb _ 2 c.if-j-eq2.false, eq-eqb _ 3 c.if-j-eq3.true) (c.price-then-j-eq3.ensures ∙ ap result_of_price c.bond_option_on.ensures.outcome)
+    rw (ne_eqb _ 1 c.if-j-eq1.false, ne_eqb _ 2 c.if-j-eq2.false, eq-eqb _ 3 c.if-j-eq3.true) (c.from-then-j-eq3.ensures ∙ ap result_of_price c.bond_option_on.ensures.outcome)
 
 pub returns : goal.returns
 unfolding option_result
 returns c =
-    rw (ne_eqb _ 1 c.if-j-eq1.false, ne_eqb _ 2 c.if-j-eq2.false, ne_eqb _ 3 c.if-j-eq3.false) (c.price-2.ensures ∙ ap result_of_price c.bond_option_on-2.ensures.outcome)
+    rw (ne_eqb _ 1 c.if-j-eq1.false, ne_eqb _ 2 c.if-j-eq2.false, ne_eqb _ 3 c.if-j-eq3.false) (c.from-2.ensures ∙ ap result_of_price c.bond_option_on-2.ensures.outcome)

@@ -1,19 +1,13 @@
 -- `file_layout::parts::all_known` meets its contract. The loop's invariant: the jobs left have known kinds just if all have. Assumes nothing.
-use mathlib.Core.Path.{refl, sym, ◌∙◌}
-use native.Mathlib.Omega.{arith}
-use Rattle.file_layout.proofs.Walks.{known_on, known_not, known_end, records_within}
+use mathlib.Core.Path.{◌∙◌}
+use Rattle.file_layout.proofs.Walks.{known_on, known_not, known_end}
 use Rattle.file_layout.proofs.parts.all_known.Goals as goal
 
-pub loop-left-init : goal.loop-left-init
-loop-left-init c = (omega (arith, c.requires, records_within c.args.jobs.length 40), refl)
-
 pub returns-then-not-known : goal.returns-then-not-known
-returns-then-not-known c =
-    known_not _ c.loop-left.at c.loop-left.left _ _ c.loop-left-test.true c.word.ensures c.known.ensures c.if-not-known.true ∙ c.loop-left.invariant.1
+returns-then-not-known c = known_not _ _ _ c.loop-i.i _ c.loop-i-test.true c.word.ensures c.if-not-known.ensures ∙ c.loop-i.invariant
 
-pub loop-left-preserved : goal.loop-left-preserved
-loop-left-preserved c =
-    (omega arith, known_on _ c.loop-left.at c.loop-left.left _ _ c.loop-left-test.true c.word.ensures c.known.ensures c.if-not-known.false ∙ c.loop-left.invariant.1)
+pub loop-i-preserved : goal.loop-i-preserved
+loop-i-preserved c = known_on _ _ _ c.loop-i.i _ c.loop-i-test.true c.word.ensures c.if-not-known.ensures ∙ c.loop-i.invariant
 
 pub returns : goal.returns
-returns c = sym (known_end _ c.loop-left.at c.loop-left.left c.loop-left-test.false) ∙ c.loop-left.invariant.1
+returns c = known_end _ _ _ c.loop-i.i c.loop-i-test.false ∙ c.loop-i.invariant

@@ -1,29 +1,15 @@
 -- `file_layout::records::column` meets its contract. The loop's invariant: the floats written, and behind them those of the records left, are the whole column. Assumes nothing.
-use mathlib.Core.Path.{refl, ◌∙◌, ap}
-use native.Mathlib.Omega.{arith}
+use mathlib.Core.Path.{sym, ◌∙◌, ap}
 use Rattle.file_layout.specs.Request.{floats_from}
-use Rattle.file_layout.proofs.Walks.{start, turn, end, reach, room_of}
+use Rattle.file_layout.proofs.Walks.{turn, end}
 use Rattle.file_layout.proofs.records.column.Goals as goal
 
-pub loop-i-init : goal.loop-i-init
-loop-i-init c =
-    start _ _ _ _ _ _ refl (room_of c.args.part.offset c.args.part.length _ c.args.width _ c.requires.part_in_bounds c.requires.out_len)
-
-pub overflow_add-at : goal.overflow_add-at
-overflow_add-at c =
-    let l = c.loop-i in
-    omega (arith, reach _ _ _ _ _ _ _ _ l.invariant c.loop-i-test.true)
-
-pub float_at-requires : goal.float_at-requires
-float_at-requires c =
-    omega (arith, c.requires.field_bound, reach _ _ _ _ _ _ _ _ c.loop-i.invariant c.loop-i-test.true)
-
-pub overflow_add-at-in-loop-i : goal.overflow_add-at-in-loop-i
-overflow_add-at-in-loop-i c = omega (arith, reach _ _ _ _ _ _ _ _ c.loop-i.invariant c.loop-i-test.true)
-
 pub loop-i-preserved : goal.loop-i-preserved
-loop-i-preserved c = turn _ _ _ _ _ _ _ _ c.loop-i.invariant c.loop-i-test.true _ c.float_at.ensures
+loop-i-preserved c =
+    turn _ _ _ _ _ c.loop-i.i c.loop-i.out _ c.loop-i.auto.out c.loop-i-test.true c.float_at.ensures ∙ c.loop-i.invariant
 
 pub returns : goal.returns
 returns c =
-    end _ _ _ _ _ _ _ _ c.loop-i.invariant c.loop-i-test.false ∙ ap (floats_from _ c.args.width c.args.field c.args.part.offset) c.requires.out_len
+    sym (end c.args.file.now c.args.width c.args.field c.args.part.offset _ c.loop-i.i c.loop-i.out c.loop-i.auto.out c.loop-i-test.false)
+    ∙ c.loop-i.invariant
+    ∙ ap (floats_from _ c.args.width c.args.field c.args.part.offset) c.requires.out_len

@@ -18,14 +18,14 @@ work = replicate 1024 zero
 pub slice_bounds-generate_on-end : goal.slice_bounds-generate_on-end
 slice_bounds-generate_on-end c = lent_is work _ c.requires.1
 
-pub returns-in-Refused : goal.returns-in-Refused
-returns-in-Refused c =
+pub returns-in-Err : goal.returns-in-Err
+returns-in-Err c =
     let a = c.args in
     let g = c.generate_on-answer in
     let n = length a.grid.now in
     let path = generate_outcome a.centre a.alpha a.pillars.now a.sigmas.now a.times.now a.factors.now a.grid.now a.draws.now in
     let gave = same_room path work n c.requires.1 g.result g.ensures.answer in
-    refused_line_lem a.k a.kind (path n) _ _ _ _ c.number.result (was_refused (path n) g.result _ c.in-Refused.is gave) c.number.ensures c.one_line.ensures
+    refused_line_lem a.k a.kind (path n) _ _ _ _ c.into.result (was_refused (path n) g.result _ c.in-Err.is gave) c.into.ensures c.one_line.ensures
 
 pub returns-then-is_empty : goal.returns-then-is_empty
 returns-then-is_empty c =

@@ -14,11 +14,11 @@ use Rattle.file_output.proofs.jobs.point_lines.Goals as goal
 
 pub loop-i-init : goal.loop-i-init
 unfolding point_lines
-loop-i-init c = (search rules, refl, search rules, start c.args.out.now)
+loop-i-init c = (refl, search rules, start c.args.out.now)
 
 pub write_line-at-requires : goal.write_line-at-requires
 write_line-at-requires c =
-    omega (arith, c.loop-i.invariant.0, c.loop-i.invariant.1, c.loop-i.invariant.2, c.loop-i-test.true, c.requires)
+    omega (arith, c.loop-i.invariant.0, c.loop-i.invariant.1, c.loop-i-test.true, c.requires)
 
 pub loop-i-preserved : goal.loop-i-preserved
 loop-i-preserved c =
@@ -29,16 +29,15 @@ loop-i-preserved c =
     let call = c.write_line-at in
     let w = call.ensures in
     let line = line_of a.k a.kind 0 (bits_of (get_or values c.loop-i.i nan)) c.loop-i.i in (
-      omega (arith, t),
-      call.auto.out ∙ c.loop-i.invariant.1,
-      omega (arith, w.end.1, c.loop-i.invariant.2),
-      rw (points_turn a.k a.kind values c.loop-i.i t) (next c.loop-i.at (point_lines a.k a.kind 0 (take c.loop-i.i values)) d c.loop-i.out c.loop-i.invariant.3 _ line _ (omega (arith, t, w.end.0, w.end.1, c.loop-i.invariant.2, c.requires)) w.end.0 w.output),
+      call.auto.out ∙ c.loop-i.invariant.0,
+      omega (arith, w.end.1, c.loop-i.invariant.1),
+      rw (points_turn a.k a.kind values c.loop-i.i t) (next c.loop-i.at (point_lines a.k a.kind 0 (take c.loop-i.i values)) d c.loop-i.out c.loop-i.invariant.2 _ line _ (omega (arith, t, w.end.0, w.end.1, c.loop-i.invariant.1, c.requires)) w.end.0 w.output),
     )
 
 pub shape_of-out : goal.shape_of-out
-shape_of-out c = c.loop-i.invariant.1
+shape_of-out c = c.loop-i.invariant.0
 
 pub returns : goal.returns
 returns c =
     let a = c.args in
-    begins _ _ a.out.now _ (rw (take_all c.loop-i.i a.values.now c.loop-i-test.false) at c.loop-i.invariant.3)
+    begins _ _ a.out.now _ (rw (take_all c.loop-i.i a.values.now c.loop-i-test.false) at c.loop-i.invariant.2)

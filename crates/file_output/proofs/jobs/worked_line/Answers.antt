@@ -4,4 +4,4 @@ use Rattle.file_output.proofs.jobs.worked_line.Goals as goal
 
 pub returns : goal.returns
 returns c =
-    same_told c.args.k c.args.kind _ _ _ _ _ c.job_result.ensures c.result_line.ensures
+    same_told c.args.k c.args.kind _ _ _ _ _ c.into.ensures c.result_line.ensures

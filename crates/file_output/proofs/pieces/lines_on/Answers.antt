@@ -8,31 +8,31 @@ pub alpha-alpha-requires : goal.alpha-alpha-requires
 alpha-alpha-requires c = (kept c.args.file.now c.args.l c.requires.file_value.0).model
 
 pub list-pillars-requires : goal.list-pillars-requires
-list-pillars-requires c = (c.requires.file_value.0, c.requires.file_value.1, omega arith)
+list-pillars-requires c = (c.requires.file_value.0, c.requires.file_value.1)
 
 pub list-sigmas-requires : goal.list-sigmas-requires
-list-sigmas-requires c = (c.requires.file_value.0, c.requires.file_value.1, omega arith)
+list-sigmas-requires c = (c.requires.file_value.0, c.requires.file_value.1)
 
 pub list-times-requires : goal.list-times-requires
-list-times-requires c = (c.requires.file_value.0, c.requires.file_value.1, omega arith)
+list-times-requires c = (c.requires.file_value.0, c.requires.file_value.1)
 
 pub list-factors-requires : goal.list-factors-requires
-list-factors-requires c = (c.requires.file_value.0, c.requires.file_value.1, omega arith)
+list-factors-requires c = (c.requires.file_value.0, c.requires.file_value.1)
 
 pub list-payments-requires : goal.list-payments-requires
-list-payments-requires c = (c.requires.file_value.0, c.requires.file_value.1, omega arith)
+list-payments-requires c = (c.requires.file_value.0, c.requires.file_value.1)
 
 pub list-accruals-requires : goal.list-accruals-requires
-list-accruals-requires c = (c.requires.file_value.0, c.requires.file_value.1, omega arith)
+list-accruals-requires c = (c.requires.file_value.0, c.requires.file_value.1)
 
 pub list-owns-requires : goal.list-owns-requires
-list-owns-requires c = (c.requires.file_value.0, c.requires.file_value.1, omega arith)
+list-owns-requires c = (c.requires.file_value.0, c.requires.file_value.1)
 
 pub list-grid-requires : goal.list-grid-requires
-list-grid-requires c = (c.requires.file_value.0, c.requires.file_value.1, omega arith)
+list-grid-requires c = (c.requires.file_value.0, c.requires.file_value.1)
 
 pub list-draws-requires : goal.list-draws-requires
-list-draws-requires c = (c.requires.file_value.0, c.requires.file_value.1, omega arith)
+list-draws-requires c = (c.requires.file_value.0, c.requires.file_value.1)
 
 pub job_lines-requires : goal.job_lines-requires
 job_lines-requires c =

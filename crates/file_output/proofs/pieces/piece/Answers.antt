@@ -6,20 +6,20 @@ use Rattle.file_output.proofs.pieces.piece.Goals as goal
 
 pub returns-then-k-eq0 : goal.returns-then-k-eq0
 returns-then-k-eq0 c =
-    refusal_piece c.args.file.now (sym c.lay_out-laid.ensures ∙ c.in-Broken.is) _ c.args.k _ _ c.if-k-eq0.true c.first_line.ensures
+    refusal_piece c.args.file.now (sym c.lay_out-laid.ensures ∙ c.in-None.is) _ c.args.k _ _ c.if-k-eq0.true c.first_line.ensures
 
 pub returns-then-k-eq0-2 : goal.returns-then-k-eq0-2
 returns-then-k-eq0-2 c =
-    header_piece c.args.file.now _ (sym c.lay_out-laid.ensures ∙ c.in-Parts.is) _ c.args.k _ _ c.if-k-eq0-2.true c.first_line-then-k-eq0-2.ensures
+    header_piece c.args.file.now _ (sym c.lay_out-laid.ensures ∙ c.in-Some.is) _ c.args.k _ _ c.if-k-eq0-2.true c.first_line-then-k-eq0-2.ensures
 
 pub job_piece-requires : goal.job_piece-requires
 job_piece-requires c =
-    (sym c.lay_out-laid.ensures ∙ c.in-Parts.is, c.requires)
+    (sym c.lay_out-laid.ensures ∙ c.in-Some.is, c.requires)
 
 pub returns-else-k-eq0 : goal.returns-else-k-eq0
 returns-else-k-eq0 c =
-    none _ _ (behind_refusal c.args.file.now (sym c.lay_out-laid.ensures ∙ c.in-Broken.is) c.args.k c.if-k-eq0.false)
+    none _ _ (behind_refusal c.args.file.now (sym c.lay_out-laid.ensures ∙ c.in-None.is) c.args.k c.if-k-eq0.false)
 
 pub returns-else-k-eq0-2 : goal.returns-else-k-eq0-2
 returns-else-k-eq0-2 c =
-    by_number c.args.file.now _ (sym c.lay_out-laid.ensures ∙ c.in-Parts.is) _ c.args.k _ _ _ (omega (arith, c.if-k-eq0-2.false)) c.job_piece.ensures
+    by_number c.args.file.now _ (sym c.lay_out-laid.ensures ∙ c.in-Some.is) _ c.args.k _ _ _ (omega (arith, c.if-k-eq0-2.false)) c.job_piece.ensures

@@ -3,8 +3,8 @@ use mathlib.Core.Path.{◌∙◌}
 use Rattle.fit_solver.proofs.Residuals.{start_refused, start_goes_on}
 use Rattle.fit_solver.proofs.bisect.solve.Goals as goal
 
-pub returns-in-Refused : goal.returns-in-Refused
-returns-in-Refused c = start_refused _ _ c.residual-at_low.ensures c.in-Refused.is
+pub returns-in_err-low_residual : goal.returns-in_err-low_residual
+returns-in_err-low_residual c = start_refused _ c.in_err-low_residual.ensures c.from_residual.ensures.1
 
-pub returns-in-Served : goal.returns-in-Served
-returns-in-Served c = c.solve_above.ensures ∙ start_goes_on _ _ c.residual-at_low.ensures c.in-Served.is
+pub returns : goal.returns
+returns c = c.solve_above.ensures ∙ start_goes_on _ c.in_ok-low_residual.ensures

@@ -3,11 +3,11 @@ use mathlib.Core.Path.{◌∙◌}
 use Rattle.fit_solver.proofs.Residuals.{above_refused, above_alike, above_apart}
 use Rattle.fit_solver.proofs.bisect.solve_above.Goals as goal
 
+pub returns-in_err-high_residual : goal.returns-in_err-high_residual
+returns-in_err-high_residual c = above_refused _ _ c.in_err-high_residual.ensures c.from_residual.ensures.1
+
 pub returns-then-same_sign : goal.returns-then-same_sign
-returns-then-same_sign c = above_alike _ _ _ c.residual-at_high.ensures c.in-Served.is c.same_sign.ensures c.if-same_sign.true
+returns-then-same_sign c = above_alike _ _ c.in_ok-high_residual.ensures c.same_sign.ensures c.if-same_sign.true
 
-pub returns-in-Refused : goal.returns-in-Refused
-returns-in-Refused c = above_refused _ _ _ c.residual-at_high.ensures c.in-Refused.is
-
-pub returns-else-same_sign : goal.returns-else-same_sign
-returns-else-same_sign c = c.halvings.ensures ∙ above_apart _ _ _ c.residual-at_high.ensures c.in-Served.is c.same_sign.ensures c.if-same_sign.false
+pub returns : goal.returns
+returns c = c.halvings.ensures ∙ above_apart _ _ c.in_ok-high_residual.ensures c.same_sign.ensures c.if-same_sign.false

@@ -2,8 +2,8 @@
 use Rattle.fit_solver.proofs.Residuals.{unconverged_refused, unconverged_there}
 use Rattle.fit_solver.proofs.bisect.unconverged.Goals as goal
 
-pub returns-in-Refused : goal.returns-in-Refused
-returns-in-Refused c = unconverged_refused _ _ c.midpoint-sigma.ensures _ c.residual-residual.ensures c.in-Refused.is
+pub returns-in_err-residual : goal.returns-in_err-residual
+returns-in_err-residual c = unconverged_refused _ _ c.midpoint-sigma.ensures c.in_err-residual.ensures c.from_residual.ensures.1
 
-pub returns-in-Served : goal.returns-in-Served
-returns-in-Served c = unconverged_there _ _ c.midpoint-sigma.ensures _ c.residual-residual.ensures c.in-Served.is
+pub returns : goal.returns
+returns c = unconverged_there _ _ c.midpoint-sigma.ensures c.in_ok-residual.ensures

@@ -6,10 +6,10 @@ use borrow.Author.Rules.{rules}
 use Rattle.hullwhite_jamshidian.proofs.price.puts.Goals as goal
 
 pub loop-i-init : goal.loop-i-init
-loop-i-init c = (search rules, unfold puts_ahead in refl)
+loop-i-init c = unfold puts_ahead in refl
 
 pub loop-i-preserved : goal.loop-i-preserved
-loop-i-preserved c = (search rules, puts_on _ _ _ _ _ _ _ _ _ _ _ c.loop-i-test.true (search rules) (search rules) (search rules) c.coupon_put-price.ensures c.fused-total.ensures ∙ c.loop-i.invariant.1)
+loop-i-preserved c = puts_on _ _ _ _ _ _ _ _ _ _ _ c.loop-i-test.true (search rules) (search rules) (search rules) c.coupon_put-price.ensures c.fused-total.ensures ∙ c.loop-i.invariant
 
 pub returns : goal.returns
-returns c = puts_done _ _ _ _ _ _ _ _ _ c.loop-i-test.false ∙ c.loop-i.invariant.1
+returns c = puts_done _ _ _ _ _ _ _ _ _ c.loop-i-test.false ∙ c.loop-i.invariant

@@ -1,18 +1,21 @@
 -- `hullwhite_model::forward_priced` meets its contract: each factor is found or the call is refused by rule 8, and then the formula is worked. Assumes nothing.
+use mathlib.Core.Path.{ap, ◌∙◌}
+use Rattle.refusals.specs.Refusals.{finishing}
 use Rattle.hullwhite_model.specs.Curves.{forward_priced}
-use Rattle.curve.proofs.Outcomes.{at, missing}
+use Rattle.curve.proofs.Outcomes.{lacking, found_is}
 use Rattle.hullwhite_model.proofs.curves.forward_priced.Goals as goal
 
 pub returns-in_default : goal.returns-in_default
 unfolding forward_priced
-returns-in_default c = rw (missing _ c.in_default.is c.factor.ensures)
+returns-in_default c = lacking _ _ c.in_default.is c.factor.ensures
 
 pub returns-in_default-factor : goal.returns-in_default-factor
 unfolding forward_priced
 returns-in_default-factor c =
-    rw (at _ c.in-At.is c.factor.ensures, ← c.day.ensures, missing _ c.in_default-factor.is c.factor-2.ensures)
+    found_is _ _ c.in-Some.is c.factor.ensures (rw (← c.day.ensures) (lacking _ _ c.in_default-factor.is c.factor-2.ensures))
 
 pub returns : goal.returns
 unfolding forward_priced
 returns c =
-    rw (at _ c.in-At.is c.factor.ensures, ← c.day.ensures, at _ c.in-At-factor.is c.factor-2.ensures, ← c.forward_of.ensures) c.served.ensures
+    found_is _ _ c.in-Some.is c.factor.ensures
+    (rw (← c.day.ensures) (found_is _ _ c.in-Some-factor.is c.factor-2.ensures (c.served.ensures ∙ ap finishing c.forward_of.ensures)))

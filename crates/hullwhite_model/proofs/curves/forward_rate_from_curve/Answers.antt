@@ -1,16 +1,16 @@
 -- `hullwhite_model::forward_rate_from_curve` meets its contract: turned down by its rules, or what `forward_priced` finds. Assumes nothing.
 use Rattle.hullwhite_model.specs.Curves.{forward_outcome}
-use Rattle.refusals.proofs.Outcomes.{priced_refused, priced_served}
+use Rattle.refusals.proofs.Outcomes.{priced, after_refusal, after_served}
 use Rattle.refusals.proofs.Refusing.{rises}
 use Rattle.hullwhite_model.proofs.curves.forward_rate_from_curve.Goals as goal
 
 pub forward_priced-requires : goal.forward_priced-requires
-forward_priced-requires c = rises _ _ _ _ _ c.curve_faults-curve.ensures c.in-Served.is c.forward_rules-answer.ensures (λ n. n.1.1.0)
+forward_priced-requires c = rises _ _ _ _ _ c.curve_faults-curve.ensures c.in_ok-forward_rules.was c.forward_rules.ensures (λ n. n.1.1.0)
 
-pub returns-in-Refused : goal.returns-in-Refused
+pub returns-in_err-forward_rules : goal.returns-in_err-forward_rules
 unfolding forward_outcome
-returns-in-Refused c = priced_refused _ _ c.in-Refused.is (rw c.curve_faults-curve.ensures at c.forward_rules-answer.ensures)
+returns-in_err-forward_rules c = priced _ (after_refusal _ (rw c.curve_faults-curve.ensures at c.in_err-forward_rules.ensures) c.from_residual.ensures.1)
 
-pub returns-in-Served : goal.returns-in-Served
+pub returns : goal.returns
 unfolding forward_outcome
-returns-in-Served c = priced_served _ _ c.in-Served.is (rw c.curve_faults-curve.ensures at c.forward_rules-answer.ensures) c.forward_priced.ensures
+returns c = priced _ (after_served _ (rw c.curve_faults-curve.ensures at c.in_ok-forward_rules.ensures) c.forward_priced.ensures)

@@ -1,16 +1,16 @@
 -- `hullwhite_model::theta` meets its contract: turned down by its rules, or what `theta_priced` finds. Assumes nothing.
 use Rattle.hullwhite_model.specs.Curves.{theta_outcome}
-use Rattle.refusals.proofs.Outcomes.{priced_refused, priced_served}
+use Rattle.refusals.proofs.Outcomes.{priced, after_refusal, after_served}
 use Rattle.refusals.proofs.Refusing.{rises}
 use Rattle.hullwhite_model.proofs.curves.theta.Goals as goal
 
 pub theta_priced-requires : goal.theta_priced-requires
-theta_priced-requires c = rises _ _ _ _ _ c.curve_faults-curve.ensures c.in-Served.is c.theta_rules-answer.ensures (λ n. n.1.1.1.0)
+theta_priced-requires c = rises _ _ _ _ _ c.curve_faults-curve.ensures c.in_ok-theta_rules.was c.theta_rules.ensures (λ n. n.1.1.1.0)
 
-pub returns-in-Refused : goal.returns-in-Refused
+pub returns-in_err-theta_rules : goal.returns-in_err-theta_rules
 unfolding theta_outcome
-returns-in-Refused c = priced_refused _ _ c.in-Refused.is (rw c.curve_faults-curve.ensures at c.theta_rules-answer.ensures)
+returns-in_err-theta_rules c = priced _ (after_refusal _ (rw c.curve_faults-curve.ensures at c.in_err-theta_rules.ensures) c.from_residual.ensures.1)
 
-pub returns-in-Served : goal.returns-in-Served
+pub returns : goal.returns
 unfolding theta_outcome
-returns-in-Served c = priced_served _ _ c.in-Served.is (rw c.curve_faults-curve.ensures at c.theta_rules-answer.ensures) c.theta_priced.ensures
+returns c = priced _ (after_served _ (rw c.curve_faults-curve.ensures at c.in_ok-theta_rules.ensures) c.theta_priced.ensures)

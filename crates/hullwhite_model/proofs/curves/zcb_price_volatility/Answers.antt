@@ -2,13 +2,13 @@
 use mathlib.Core.Path.{ap, ◌∙◌}
 use Rattle.refusals.specs.Refusals.{finishing}
 use Rattle.hullwhite_model.specs.Curves.{zcb_price_volatility_outcome}
-use Rattle.refusals.proofs.Outcomes.{priced_refused, priced_served}
+use Rattle.refusals.proofs.Outcomes.{priced, after_refusal, after_served}
 use Rattle.hullwhite_model.proofs.curves.zcb_price_volatility.Goals as goal
 
-pub returns-in-Refused : goal.returns-in-Refused
+pub returns-in_err-option_rules : goal.returns-in_err-option_rules
 unfolding zcb_price_volatility_outcome
-returns-in-Refused c = priced_refused _ _ c.in-Refused.is (rw c.no_faults.ensures at c.option_rules-answer.ensures)
+returns-in_err-option_rules c = priced _ (after_refusal _ (rw c.no_faults.ensures at c.in_err-option_rules.ensures) c.from_residual.ensures.1)
 
-pub returns-in-Served : goal.returns-in-Served
+pub returns : goal.returns
 unfolding zcb_price_volatility_outcome
-returns-in-Served c = priced_served _ _ c.in-Served.is (rw c.no_faults.ensures at c.option_rules-answer.ensures) (c.served.ensures ∙ ap finishing c.zcb_price_volatility_of.ensures)
+returns c = priced _ (after_served _ (rw c.no_faults.ensures at c.in_ok-option_rules.ensures) (c.served.ensures ∙ ap finishing c.zcb_price_volatility_of.ensures))

@@ -2,20 +2,23 @@
 use mathlib.Core.Path.{refl, ◌∙◌}
 use Rattle.hullwhite_formulas.specs.HullWhite.{zcb_price_volatility_ahead, state_deviation_of}
 use Rattle.hullwhite_options.specs.Options.{bond_option_priced, bond_option_ahead}
-use Rattle.curve.proofs.Outcomes.{at, missing}
+use Rattle.curve.proofs.Outcomes.{lacking, found_is}
 use Rattle.hullwhite_options.proofs.options.bond_option_priced.Goals as goal
 
 pub returns-in_default : goal.returns-in_default
 unfolding bond_option_priced
-returns-in_default c = rw (missing _ c.in_default.is c.factor.ensures)
+returns-in_default c =
+    lacking _ _ c.in_default.is c.factor.ensures
 
 pub returns-in_default-factor : goal.returns-in_default-factor
 unfolding bond_option_priced
 returns-in_default-factor c =
-    rw (at _ c.in-At.is c.factor.ensures, missing _ c.in_default-factor.is c.factor-2.ensures)
+    found_is _ _ c.in-Some.is c.factor.ensures (lacking _ _ c.in_default-factor.is c.factor-2.ensures)
 
 pub returns : goal.returns
 unfolding bond_option_priced state_deviation_of
 returns c =
     let d = c.volatility_parts-parts.ensures in
-    rw (at _ c.in-At.is c.factor.ensures, at _ c.in-At-factor.is c.factor-2.ensures) (c.served.ensures ∙ rw (c.put_or_call.ensures, c.zcb_price_volatility_at-sigma_p.ensures, c.sqrt.ensures.equal, d.0, d.1, c.moneyness_of-moneyness.ensures, zcb_price_volatility_ahead, bond_option_ahead) refl)
+    found_is _ _ c.in-Some.is c.factor.ensures
+    (found_is _ _ c.in-Some-factor.is c.factor-2.ensures
+    (c.served.ensures ∙ rw (c.put_or_call.ensures, c.zcb_price_volatility_at-sigma_p.ensures, c.sqrt.ensures.equal, d.0, d.1, c.moneyness_of-moneyness.ensures, zcb_price_volatility_ahead, bond_option_ahead) refl))

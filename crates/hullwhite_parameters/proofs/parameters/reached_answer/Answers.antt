@@ -2,4 +2,4 @@
 use Rattle.hullwhite_parameters.proofs.parameters.reached_answer.Goals as goal
 
 pub returns : goal.returns
-returns c = rw c.pillar_faults-pillars.ensures at c.volatility_rules.ensures
+returns c = rw c.pillar_faults.ensures at c.volatility_rules.ensures

@@ -1,31 +1,48 @@
--- `hullwhite_parameters::hull_white_piecewise_variance_of` meets its contract: at place i the pieces that are left make up the whole. Assumes nothing.
-use mathlib.Core.Path.{◌≡◌, refl, sym, ◌∙◌}
-use mathlib.Core.Bool.{false}
-use Prim.Native.Nat.{◌+◌}
+-- `hullwhite_parameters::hull_white_piecewise_variance_of` meets its contract: a turn adds the piece of a pillar, and where no pillar is left the sum is whole. Assumes nothing.
+use mathlib.Core.Path.{◌≡◌, refl, sym, ap, ◌∙◌}
+use mathlib.Core.Bool.{Bool, false}
+use mathlib.Core.List.{List, [], ◌∷◌}
+use mathlib.Core.Logic.{◌⊎◌, inl, inr, ⊎_elim}
+use Prim.Native.Nat.{ℕ, ◌+◌}
 use native.Mathlib.Omega.{arith}
-use borrow.Author.Rules.{rules}
 use borrow.Author.Tests.{ne_eqb}
 use lib.Dec.{eqb}
-use lib.ListN.{drop, get_or}
-use lib.Ieee.{nan}
-use Rattle.hullwhite_parameters.specs.Variance.{variance_piece_of, piece_lower_of, piece_upper_of, piecewise_variance_of}
-use Rattle.hullwhite_parameters.proofs.Walks.{pieces_turn, pieces_short, pieces_end}
+use lib.ListN.{length, drop}
+use lib.Ieee.{Float}
+use Rattle.std.proofs.lemmas.List.{drop-drop}
+use Rattle.hullwhite_parameters.specs.Variance.{variance_pieces_of, piecewise_variance_of}
 use Rattle.hullwhite_parameters.proofs.variance.hull_white_piecewise_variance_of.Goals as goal
+
+-- what is left behind the first of those that are left
+behind : (xs : List Float) (i : ℕ) {x : Float} {rest : List Float} → x ∷ rest ≡ drop i xs → rest ≡ drop (i + 1) xs
+behind xs i h = ap (drop 1) h ∙ drop-drop 1 i xs
+
+none_left : (alpha start end : Float) (first : Bool) (v : Float) (ts ss : List Float) → (length ts ≡ 0) ⊎ (length ss ≡ 0) → variance_pieces_of alpha first v ts ss start end ≡ v
+unfolding variance_pieces_of
+none_left alpha start end first v [] ss e = refl
+none_left alpha start end first v (t ∷ ts) [] e = refl
+none_left alpha start end first v (t ∷ ts) (s ∷ ss) e = absurd (⊎_elim (λ h. let z : ⊥ = omega arith in z) (λ h. let z : ⊥ = omega arith in z) e)
 
 pub loop-i-init : goal.loop-i-init
 unfolding piecewise_variance_of
-loop-i-init c = (search rules, refl)
-
-pub returns-then-sigmas-i : goal.returns-then-sigmas-i
-returns-then-sigmas-i c = sym (pieces_short _ _ _ _ _ _ _ _ c.loop-i-test.true c.if-sigmas-i.true) ∙ c.loop-i.invariant.1
+loop-i-init c =
+    let z = c.zip.ensures in
+    let e = c.enumerate-i-items.ensures in
+    rw (c.into_iter-i-iterator.ensures.into_iter_gives, e.count, e.source, z.first, z.second.0, c.iter.ensures.rest) (refl, refl)
 
 pub loop-i-preserved : goal.loop-i-preserved
+unfolding variance_pieces_of
 loop-i-preserved c =
     let l = c.loop-i in
     let a = c.args in
-    let w : c.piece-variance.result ≡ variance_piece_of a.alpha a.end (piece_lower_of (eqb l.i 0) a.start (get_or a.times.now l.i nan)) (piece_upper_of a.end (drop (l.i + 1) a.times.now)) (get_or a.sigmas.now l.i nan) l.variance = rw (c.piece_lower-lower.ensures, c.piece_upper-upper.ensures) at c.piece-variance.ensures in
-    let f : eqb (l.i + 1) 0 ≡ false = ne_eqb (l.i + 1) 0 (λ q. omega arith) in
-    (search rules, rw (f, w) (sym (pieces_turn _ _ _ _ _ _ _ _ c.loop-i-test.true c.if-sigmas-i.false) ∙ l.invariant.1))
+    let s = c.in-Some.ensures.steps in
+    let left = c.next.new.self.iter.a.rest.now in
+    let n = l.i-iterator.count in
+    let t : left ≡ drop (n + 1) a.times.now = behind a.times.now n (sym s.0.0 ∙ l.invariant.0) in
+    let f : eqb (n + 1) 0 ≡ false = ne_eqb (n + 1) 0 (λ q. omega arith) in
+    let w = rw (c.piece_lower-lower.ensures, c.piece_upper-upper.ensures, s.1, ← t) at c.piece-variance.ensures in
+    (rw s.2 t, rw (s.2, f, w) (rw (s.0.0, s.0.1) at l.invariant.1))
 
 pub returns : goal.returns
-returns c = sym (pieces_end _ _ _ _ _ _ _ _ c.loop-i-test.false) ∙ c.loop-i.invariant.1
+returns c =
+    sym (none_left _ _ _ _ _ _ _ (⊎_elim (λ e. inl e.1.0) (λ e. inr e.1.0) c.in-None.ensures.steps.0)) ∙ c.loop-i.invariant.1

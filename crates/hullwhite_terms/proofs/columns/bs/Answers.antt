@@ -1,15 +1,7 @@
--- `bs` meets its contract: each turn of its loop writes the next entry of the list.
-use Rattle.refusals.proofs.Filling.{start, turn, end}
-use Rattle.hullwhite_terms.proofs.Entries.{bs_length, bs_at}
+-- `bs` meets its contract: each entry that it writes is the one of specs/.
+use borrow.Author.Rules.{rules}
+use Rattle.hullwhite_terms.proofs.Entries.{written, bs_length, bs_at}
 use Rattle.hullwhite_terms.proofs.columns.bs.Goals as goal
 
-pub loop-i-init : goal.loop-i-init
-loop-i-init c = start c.requires
-
-pub loop-i-preserved : goal.loop-i-preserved
-loop-i-preserved c =
-    turn (bs_length _ _ _) c.requires c.loop-i-test.true (bs_at _ _ _ _ c.loop-i-test.true) c.b_of.ensures c.loop-i.invariant
-
 pub returns : goal.returns
-returns c =
-    end (bs_length _ _ _) c.requires c.loop-i-test.false c.loop-i.invariant
+returns c = written _ c.fill.auto.out c.requires (bs_length _ _ _) (λ i l h. let k = c.fill.ensures i l in rw (bs_at _ _ _ i h) (search rules))

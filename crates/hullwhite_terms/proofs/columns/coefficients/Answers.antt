@@ -1,15 +1,7 @@
--- `coefficients` meets its contract: each turn of its loop writes the next entry of the list.
-use Rattle.refusals.proofs.Filling.{start, turn, end}
-use Rattle.hullwhite_terms.proofs.Entries.{coefficients_length, coefficients_at}
+-- `coefficients` meets its contract: each entry that it writes is the one of specs/.
+use borrow.Author.Rules.{rules}
+use Rattle.hullwhite_terms.proofs.Entries.{written, coefficients_length, coefficients_at}
 use Rattle.hullwhite_terms.proofs.columns.coefficients.Goals as goal
 
-pub loop-i-init : goal.loop-i-init
-loop-i-init c = start c.requires
-
-pub loop-i-preserved : goal.loop-i-preserved
-loop-i-preserved c =
-    turn (coefficients_length _ _) c.requires c.loop-i-test.true (coefficients_at _ _ _ c.loop-i-test.true) c.coefficient.ensures c.loop-i.invariant
-
 pub returns : goal.returns
-returns c =
-    end (coefficients_length _ _) c.requires c.loop-i-test.false c.loop-i.invariant
+returns c = written _ c.fill.auto.out c.requires (coefficients_length _ _) (λ i l h. let k = c.fill.ensures i l in rw (coefficients_at _ _ i h) (search rules))

@@ -7,12 +7,11 @@ pub loop-i-init : goal.loop-i-init
 loop-i-init c = start c.requires.0
 
 pub returns-in_default : goal.returns-in_default
-returns-in_default c =
-    stop c.loop-i-test.true (missing _ c.in_default.is c.factor.ensures) c.loop-i.invariant
+returns-in_default c = stop c.loop-i-test.true (missing _ c.in_default.is c.factor.ensures) c.loop-i.invariant
 
 pub loop-i-preserved : goal.loop-i-preserved
 loop-i-preserved c =
-    turn c.loop-i-test.true (at _ c.in-At.is c.factor.ensures) c.loop-i.invariant
+    turn c.loop-i-test.true (at _ c.in-Some.is c.factor.ensures) c.loop-i.invariant
 
 pub returns : goal.returns
 returns c = end c.loop-i-test.false c.loop-i.invariant

@@ -1,4 +1,4 @@
--- `ieee_chains::fixed::packed` meets its contract: by what `kept` gives, and the pattern is that of a number put together again. Assumes nothing.
+-- `ieee_chains::fixed::packed` meets its contract: by what `rounded` gives, and the pattern is that of a number put together again. Assumes nothing.
 use mathlib.Core.Path.{sym, ◌∙◌, subst}
 use mathlib.Core.Bool.{Bool, not}
 use lib.Dec.{T}
@@ -8,15 +8,15 @@ use Rattle.ieee_chains.proofs.fixed.packed.Goals as goal
 
 pub float_from_bits-result : goal.float_from_bits-result
 float_from_bits-result c =
-    let k = c.kept-k.ensures in
-    let a = c.args in
+    let k = c.rounded-k.ensures in
+    let a = c.args.s in
     rw (k.0, k.1)
-    (subst (λ (b : Bool). T (not b)) (sym (closed_no_nan _ _ (digits a.h a.s c.requires.0 c.requires.1 c.requires.2) (settled_place a.h a.s c.requires.0 c.requires.1 c.requires.2 a.places))) tt)
+    (subst (λ (b : Bool). T (not b)) (sym (closed_no_nan _ _ (digits a.whole a.sticky a.over a.under a.digit) (settled_place a.whole a.sticky a.over a.under a.digit c.args.places))) tt)
 
 pub returns : goal.returns
 returns c =
-    let k = c.kept-k.ensures in
-    let a = c.args in
+    let k = c.rounded-k.ensures in
+    let a = c.args.s in
     rw (k.0, k.1)
-    (closed_is _ _ (digits a.h a.s c.requires.0 c.requires.1 c.requires.2) (settled_place a.h a.s c.requires.0 c.requires.1 c.requires.2 a.places)
-    ∙ settled_is a.h a.s c.requires.0 c.requires.1 c.requires.2 a.places c.requires.3)
+    (closed_is _ _ (digits a.whole a.sticky a.over a.under a.digit) (settled_place a.whole a.sticky a.over a.under a.digit c.args.places)
+    ∙ settled_is a.whole a.sticky a.over a.under a.digit c.args.places c.requires)

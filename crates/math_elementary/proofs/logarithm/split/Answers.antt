@@ -4,12 +4,14 @@ use native.Mathlib.Omega.{arith}
 use Prim.Native.Nat.{ℕ, ◌<◌}
 use lib.Dec.{T}
 use lib.IntN.{pos, ◌-ℤ◌}
+use lib.Ieee.{binary64, fits}
 use mir.Syntax.{w32}
 use mir.Val.{SFits, to_z}
 use mir.ValLaws.{to_z-of_z}
 use Rattle.math_elementary.proofs.Ints.{mag_less}
 use Rattle.math_elementary.proofs.Splits.{low_split, high_split, pattern_no_nan}
 use Rattle.math_elementary.proofs.logarithm.split.Goals as goal
+use Rattle.math_elementary.proofs.logarithm.split.Goals.{then-full-lt-ONE_AND_A_HALF, else-full-lt-ONE_AND_A_HALF}
 
 -- the number of digits, as the machine keeps it, less a number of at most four digits
 less_fits : (d : ℕ) → d < 5000 → (k : ℕ) → k < 5000 → SFits w32 (pos d -ℤ pos k)
@@ -45,12 +47,15 @@ float_from_bits-result-else-full-lt-ONE_AND_A_HALF c = let w = c.widen-w.ensures
 pub overflow_sub-result-else-full-lt-ONE_AND_A_HALF : goal.overflow_sub-result-else-full-lt-ONE_AND_A_HALF
 overflow_sub-result-else-full-lt-ONE_AND_A_HALF c = rw (d_is _ c.widen-w.ensures.1) (less_fits _ c.widen-w.ensures.1 1074 (omega arith))
 
-pub returns-then-full-lt-ONE_AND_A_HALF : goal.returns-then-full-lt-ONE_AND_A_HALF
-returns-then-full-lt-ONE_AND_A_HALF c =
-    let s = low_split c.args.x c.widen-w.result.full c.widen-w.result.size (subst T (sym c.well_formed.0.1) tt) c.requires c.widen-w.ensures.0 c.if-full-lt-ONE_AND_A_HALF.true in
-    (s.0, simp (d_is _ c.widen-w.ensures.1, to_z-of_z w32 _ (less_fits _ c.widen-w.ensures.1 1075 (omega arith))) s.1, simp (d_is _ c.widen-w.ensures.1, to_z-of_z w32 _ (less_fits _ c.widen-w.ensures.1 1075 (omega arith))) (omega (arith, c.widen-w.ensures.1, mag_less c.widen-w.result.size 1075)))
-
-pub returns-else-full-lt-ONE_AND_A_HALF : goal.returns-else-full-lt-ONE_AND_A_HALF
-returns-else-full-lt-ONE_AND_A_HALF c =
-    let s = high_split c.args.x c.widen-w.result.full c.widen-w.result.size (subst T (sym c.well_formed.0.1) tt) c.requires c.widen-w.ensures.0 c.if-full-lt-ONE_AND_A_HALF.false in
-    (s.0, simp (d_is _ c.widen-w.ensures.1, to_z-of_z w32 _ (less_fits _ c.widen-w.ensures.1 1074 (omega arith))) s.1, simp (d_is _ c.widen-w.ensures.1, to_z-of_z w32 _ (less_fits _ c.widen-w.ensures.1 1074 (omega arith))) (omega (arith, c.widen-w.ensures.1, mag_less c.widen-w.result.size 1074)))
+pub returns : goal.returns
+returns c =
+    let W = c.widen-w.ensures in
+    let held : T (fits binary64 c.args.x) = subst T (sym c.well_formed.0.1) tt in
+    elim c.if-full-lt-ONE_AND_A_HALF.branch [
+      | then-full-lt-ONE_AND_A_HALF w ↦
+          let s = low_split c.args.x c.widen-w.result.full c.widen-w.result.size held c.requires W.0 w.if-full-lt-ONE_AND_A_HALF.true in
+          rw w.result-is (s.0, simp (d_is _ W.1, to_z-of_z w32 _ (less_fits _ W.1 1075 (omega arith))) s.1)
+      | else-full-lt-ONE_AND_A_HALF w ↦
+          let s = high_split c.args.x c.widen-w.result.full c.widen-w.result.size held c.requires W.0 w.if-full-lt-ONE_AND_A_HALF.false in
+          rw w.result-is (s.0, simp (d_is _ W.1, to_z-of_z w32 _ (less_fits _ W.1 1074 (omega arith))) s.1)
+    ]

@@ -3,12 +3,6 @@ use Rattle.std.proofs.Common.{sym, ◌∙◌}
 use Rattle.math_exponential.proofs.Limits.{from_parts}
 use Rattle.math_exponential.proofs.exponential.exp_two.Goals as goal
 
-pub reduce-d-requires : goal.reduce-d-requires
-reduce-d-requires c = sym c.within_limits.ensures ∙ c.if-within_limits.true
-
-pub reduce-e-requires : goal.reduce-e-requires
-reduce-e-requires c = sym c.within_limits-then-within_limits.ensures ∙ c.if-within_limits-2.true
-
 pub returns-then-within_limits-2 : goal.returns-then-within_limits-2
 returns-then-within_limits-2 c = (
   from_parts _ (sym c.within_limits.ensures ∙ c.if-within_limits.true) _ _ _ _ c.reduce-d.ensures.0 c.reduce-d.ensures.1 c.series_two-p.ensures.0 c.scale.ensures,

@@ -47,8 +47,8 @@ returns-then-d-2 c = (
   ap (λ (z : ℤ). to_z w32 (of_z w32 z)) (k_is c) ∙ to_z-of_z w32 _ (k_fits c) ∙ found_nearest c,
 )
 
-pub returns : goal.returns
-returns c =
+pub returns-else-d : goal.returns-else-d
+returns-else-d c =
     let k : to_z w32 (of_z w32 c.by_halves-k.result) ≡ nearest_whole c.args.p =
     ap (λ (z : ℤ). to_z w32 (of_z w32 z)) c.by_halves-k.ensures ∙ to_z-of_z w32 (nearest_whole c.args.p) (record { sfits = omega (arith, nearest_mag c.args.p c.requires) }) in
     (ap (λ (z : ℤ). of_int binary64 z) k, k)

@@ -1,26 +1,23 @@
 -- `pricer_critical_rate::find::find_critical_rate` meets its contract: turned down by its rules, or what its search comes to; the root is where the outcome defined has it, and it wants a bracket where that one does. Assumes nothing.
-use mathlib.Core.Path.{ap}
+use mathlib.Core.Path.{refl, ◌∙◌}
 use native.Mathlib.Omega.{arith}
-use Rattle.refusals.specs.Refusals.{reported}
-use Rattle.search.specs.Values.{no_values}
+use Rattle.refusals.proofs.Outcomes.{handed_on}
 use Rattle.pricer_critical_rate.proofs.Outcomes.{lists_fit, rate_refused, rate_searched}
-use Rattle.pricer_critical_rate.proofs.Demand3.{rate_rooted, rate_refused_so}
+use Rattle.pricer_critical_rate.proofs.Demand3.{rate_promised}
 use Rattle.pricer_critical_rate.proofs.find.find_critical_rate.Goals as goal
 
-pub returns-in-Refused : goal.returns-in-Refused
-returns-in-Refused c =
-    let s = c.args in
-    let o = rate_refused s.coefficients.now s.affines.now s.b.now c.search_rules-answer.ensures c.in-Refused.is in
-    record { answer = o; rooted = rate_rooted s.coefficients.now s.affines.now s.b.now o; bracket = rate_refused_so s.coefficients.now s.affines.now s.b.now o; report = ap (reported no_values) o }
+pub returns-in_err-search_rules : goal.returns-in_err-search_rules
+returns-in_err-search_rules c =
+    rate_promised _ _ _ (handed_on c.from_residual.ensures.1 ∙ rate_refused _ _ _ c.in_err-search_rules.ensures refl)
 
 pub find_critical_rate_of-requires : goal.find_critical_rate_of-requires
 find_critical_rate_of-requires c =
-    let s = c.args in
-    let fit = lists_fit s.coefficients.now s.affines.now s.b.now c.search_rules-answer.ensures c.in_default.is in
+    let fit = lists_fit _ _ _ c.in_ok-search_rules.ensures refl in
     (fit.0, omega (arith, fit.1, fit.2))
 
+pub returns-in_err-root : goal.returns-in_err-root
+returns-in_err-root c =
+    rate_promised _ _ _ (rate_searched _ _ _ c.in_ok-search_rules.ensures refl c.in_err-root.ensures (handed_on c.from_residual-in_err-root.ensures.1))
+
 pub returns : goal.returns
-returns c =
-    let s = c.args in
-    let o = rate_searched s.coefficients.now s.affines.now s.b.now c.search_rules-answer.ensures c.in_default.is c.find_critical_rate_of.ensures c.finished.ensures in
-    record { answer = o; rooted = rate_rooted s.coefficients.now s.affines.now s.b.now o; bracket = rate_refused_so s.coefficients.now s.affines.now s.b.now o; report = ap (reported no_values) o }
+returns c = rate_promised _ _ _ (rate_searched _ _ _ c.in_ok-search_rules.ensures refl c.in_ok-root.ensures c.finished.ensures)

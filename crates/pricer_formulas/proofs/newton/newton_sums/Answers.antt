@@ -1,5 +1,4 @@
 -- `pricer_formulas::newton_sums` meets its contract. The loop's invariant: the terms left, added to the two sums so far, give the whole sums. Assumes nothing.
-use borrow.Author.Rules.{rules}
 use mathlib.Core.Path.{refl, ◌∙◌}
 use Rattle.pricer_formulas.specs.Newton.{sums_of}
 use Rattle.pricer_formulas.proofs.Walks.{sums_turn, sums_end}
@@ -7,11 +6,11 @@ use Rattle.pricer_formulas.proofs.newton.newton_sums.Goals as goal
 
 pub loop-i-init : goal.loop-i-init
 unfolding sums_of
-loop-i-init c = (search rules, refl)
+loop-i-init c = refl
 
 pub loop-i-preserved : goal.loop-i-preserved
 loop-i-preserved c =
-    (search rules, sums_turn _ _ _ _ _ _ _ c.loop-i-test.true c.requires.0 c.requires.1 c.sums_after-total.ensures ∙ c.loop-i.invariant.1)
+    sums_turn _ _ _ _ _ _ _ c.loop-i-test.true c.requires.0 c.requires.1 c.sums_after-total.ensures ∙ c.loop-i.invariant
 
 pub returns : goal.returns
-returns c = sums_end _ _ _ _ _ _ c.loop-i-test.false ∙ c.loop-i.invariant.1
+returns c = sums_end _ _ _ _ _ _ c.loop-i-test.false ∙ c.loop-i.invariant

@@ -1,5 +1,4 @@
 -- `pricer_formulas::affine_a_list` meets its contract: each turn of its loop writes the next entry of the list. Assumes nothing.
-use Prim.Native.Nat.{◌-◌}
 use lib.ListN.{length}
 use Rattle.refusals.proofs.Filling.{Filling}
 use Rattle.pricer_formulas.specs.Affine.{affine_aList_of}
@@ -7,6 +6,3 @@ use Rattle.pricer_formulas.proofs.variance.affine_a_list.Given as goal
 
 abbrev pub invariant-loop-i : goal.invariant-loop-i
 invariant-loop-i l = Filling (affine_aList_of l.variance l.forward l.p_t l.b l.p) l.initial.out (length l.b) l.i l.out
-
-abbrev pub decreases-loop-i : goal.decreases-loop-i
-decreases-loop-i l = length l.b - l.i

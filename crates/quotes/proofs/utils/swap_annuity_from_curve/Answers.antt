@@ -1,16 +1,18 @@
 -- `quotes::swap_annuity_from_curve` meets its contract: turned down by its rules, or what `annuity_priced` finds. Assumes nothing.
-use Rattle.quotes.specs.Utils.{annuity_outcome}
-use Rattle.refusals.proofs.Outcomes.{priced_refused, priced_served}
+use Rattle.refusals.proofs.Outcomes.{priced, after_refusal, after_served}
 use Rattle.refusals.proofs.Refusing.{rises}
+use Rattle.quotes.specs.Utils.{annuity_outcome}
 use Rattle.quotes.proofs.utils.swap_annuity_from_curve.Goals as goal
 
 pub annuity_priced-requires : goal.annuity_priced-requires
-annuity_priced-requires c = rises _ _ _ _ _ c.curve_faults-curve.ensures c.in-Served.is c.annuity_rules-answer.ensures (λ n. n.1.1.0)
+annuity_priced-requires c = rises _ _ _ _ _ c.curve_faults-curve.ensures c.in_ok-annuity_rules.was c.annuity_rules.ensures (λ n. n.1.1.0)
 
-pub returns-in-Refused : goal.returns-in-Refused
+pub returns-in_err-annuity_rules : goal.returns-in_err-annuity_rules
 unfolding annuity_outcome
-returns-in-Refused c = priced_refused _ _ c.in-Refused.is (rw (c.curve_faults-curve.ensures, c.coupon_faults-coupons.ensures) at c.annuity_rules-answer.ensures)
+returns-in_err-annuity_rules c =
+    priced _ (after_refusal _ (rw (c.curve_faults-curve.ensures, c.coupon_faults-coupons.ensures) at c.in_err-annuity_rules.ensures) c.from_residual.ensures.1)
 
-pub returns-in-Served : goal.returns-in-Served
+pub returns : goal.returns
 unfolding annuity_outcome
-returns-in-Served c = priced_served _ _ c.in-Served.is (rw (c.curve_faults-curve.ensures, c.coupon_faults-coupons.ensures) at c.annuity_rules-answer.ensures) c.annuity_priced.ensures
+returns c =
+    priced _ (after_served _ (rw (c.curve_faults-curve.ensures, c.coupon_faults-coupons.ensures) at c.in_ok-annuity_rules.ensures) c.annuity_priced.ensures)

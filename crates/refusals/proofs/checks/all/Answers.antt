@@ -1,20 +1,13 @@
--- `all` meets its contract. The loop's invariant: the numbers from place i on pass where all do.
-use borrow.Author.Rules.{rules}
-use mathlib.Core.Path.{sym, ◌∙◌}
+-- `all` meets its contract: each number passes, or one does not.
+use Rattle.std.proofs.Common.{sym, ◌∙◌}
 use Rattle.refusals.proofs.Walks.{all_turn, all_stop, all_end}
 use Rattle.refusals.proofs.checks.all.Goals as goal
 
-pub loop-i-preserved : goal.loop-i-preserved
-loop-i-preserved c =
-    let h = c.loop-i-test.true in
-    let l = c.loop-i in
-    (search rules, sym (all_turn _ _ _ h (sym c.passes.ensures ∙ c.if-passes.true)) ∙ l.invariant.1)
+pub loop-x-preserved : goal.loop-x-preserved
+loop-x-preserved c = sym (all_turn _ _ _ c.loop-x-test.true (sym c.passes.ensures ∙ c.if-not-passes.false)) ∙ c.loop-x.invariant
 
-pub returns-else-passes : goal.returns-else-passes
-returns-else-passes c =
-    let h = c.loop-i-test.true in
-    let l = c.loop-i in
-    sym (all_stop _ _ _ h (sym c.passes.ensures ∙ c.if-passes.false)) ∙ l.invariant.1
+pub returns-then-not-passes : goal.returns-then-not-passes
+returns-then-not-passes c = sym (all_stop _ _ _ c.loop-x-test.true (sym c.passes.ensures ∙ c.if-not-passes.true)) ∙ c.loop-x.invariant
 
 pub returns : goal.returns
-returns c = sym (all_end _ _ _ c.loop-i-test.false) ∙ c.loop-i.invariant.1
+returns c = sym (all_end _ _ _ c.loop-x-test.false) ∙ c.loop-x.invariant

@@ -2,8 +2,5 @@
 use Rattle.file_layout.proofs.Kept.{kept}
 use Rattle.test_details.proofs.serve.one_job.Goals as goal
 
-pub nth_job-j-requires : goal.nth_job-j-requires
-nth_job-j-requires g c = record {
-  jobs_in_bounds = (kept c.args.file.now c.args.l c.requires.file_value.0).jobs.inside;
-  i_bound = c.requires.file_value.1;
-}
+pub nth_job-j-requires-clause-jobs_in_bounds : goal.nth_job-j-requires-clause-jobs_in_bounds
+nth_job-j-requires-clause-jobs_in_bounds g c = (kept c.args.file.now c.args.l c.requires.file_value.0).jobs.inside

@@ -1,7 +1,0 @@
--- `math_hart::num_dual` meets its contract: its steps over the literals are the definition's. Assumes nothing.
-use Rattle.math_hart.specs.Polynomials.{product_then_sum}
-use Rattle.math_hart.proofs.Coefficients.{num_is}
-use Rattle.math_hart.proofs.num_dual.Goals as goal
-
-pub returns : goal.returns
-returns c = num_is product_then_sum _
