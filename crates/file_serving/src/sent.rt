@@ -69,7 +69,7 @@ pub fn send<W: Write>(sent: Sent, due: &mut usize, text: &[u8], output: &mut W) 
 }
 
 // Hands all of the text to the writer, or stops at the first write that takes nothing or fails, and answers whether
-// one did.
+// one did. How far it has come only the writes tell, so that no range or chunk could stand for the loop.
 fn hand<W: Write>(text: &[u8], output: &mut W) -> bool
     ensures { Handed (W.contents output.old) (W.contents output.new) text.now result }
 {

@@ -80,14 +80,12 @@ fn each_job<W: Write>(
     let n_jobs = (l.jobs.length / 40) as usize;
     let mut out = [0u8; 131072];
     let mut last = sent;
-    let mut k = 0;
-    while k < n_jobs {
+    for k in 0..n_jobs {
         let n = file_output::lines_on(file, l, floats, curve, k, &mut out);
         last = sent::send(last, due, &out[..n], output);
         if sent::failed(last) {
             return last;
         }
-        k += 1;
     }
     last
 }

@@ -14,7 +14,7 @@ pub overflow_cast-n_jobs : goal.overflow_cast-n_jobs
 overflow_cast-n_jobs g c = omega (arith, (kept c.args.file.now c.args.l c.requires.0).jobs.few)
 
 pub loop-k-init : goal.loop-k-init
-loop-k-init g c = record { in_range = search rules; room = search rules; due = c.requires.2; number = c.requires.3; handed = begun _ _ }
+loop-k-init g c = record { room = search rules; due = c.requires.2; number = c.requires.3; handed = begun _ _ }
 
 pub slice_bounds-lines_on-end : goal.slice_bounds-lines_on-end
 slice_bounds-lines_on-end g c = let h = c.loop-k.invariant.room in search (rules, h)
@@ -52,7 +52,6 @@ loop-k-preserved g c =
     let e = c.send-last.ensures.next in
     let goes = sym c.failed.ensures ∙ c.if-failed.false in
     record {
-      in_range = omega (arith, c.loop-k-test.true);
       room = c.lines_on-n.auto.out ∙ l.invariant.room;
       due = next_due a.file.now l.last _ l.due _ l.invariant.due e goes;
       number = omega (arith, e.1, e.2, l.invariant.due.2, l.invariant.number);
@@ -64,6 +63,6 @@ returns g c =
     let a = c.args in
     let l = c.loop-k in
     record {
-      done = (l.invariant.due.0, inr (all_sent a.file.now a.l c.requires.0 l.k _ (l.invariant.due.2 ∙ l.invariant.number) (omega (arith, l.invariant.in_range, c.loop-k-test.false))));
+      done = (l.invariant.due.0, inr (all_sent a.file.now a.l c.requires.0 l.k _ (l.invariant.due.2 ∙ l.invariant.number) (omega (arith, l.auto.k-end, c.loop-k-test.false))));
       handed = handed_all _ _ (pieces_of a.file.now) (l.k + 1) _ l.invariant.handed (omega (arith, count_is a.file.now a.l c.requires.0, c.loop-k-test.false)) l.invariant.due.3;
     }
