@@ -1,6 +1,5 @@
 -- The bumped fits of a basket, one after another, as its fits are: one entry's, and what stands in the lent lists after i turns. Assumes nothing.
 use Rattle.std.specs.Prelude.{Ok, Err}
-use Rattle.std.specs.Result.{IsErrAnd}
 use mathlib.Core.Path.{◌≡◌, refl, ◌∙◌}
 use mathlib.Core.Bool.{Bool, true, false}
 use mathlib.Core.List.{List, [], ◌∷◌, ◌++◌, append-nil}
@@ -23,7 +22,6 @@ use Rattle.basket_entries.proofs.Walks.{from, entry_at, next_entry, no_entries}
 use Rattle.basket.specs.Lent.{entry_of}
 use Rattle.basket.specs.Basket.{diagonal_of, status_of, Bumps, bump_of, with_bump, bumps_of}
 use Rattle.basket.proofs.Literals.{bump_is}
-use Rattle.refusals.proofs.Outcomes.{handed_on}
 use Rattle.refusals.proofs.Walks.{next, longer}
 
 -- ---- one entry's bumped fit
@@ -31,18 +29,19 @@ module _ (alpha : Float) (xs fs : List Float) (quote : Quote) (caplet : Optionle
   abbrev bumped_fit : Outcome Fit
   bumped_fit = caplet_fitted quote.vol_type alpha xs fs caplet.strike caplet.start caplet.end (quote.volatility ⊕ of_bits binary64 0x3eb0_c6f7_a0b5_ed8d)
 
-  pub bump_refused : {r : Refusal} {gave : Outcome Fit} → Err r ≡ bumped_fit → IsErrAnd gave (λ q. q ≡ r) → gave ≡ bump_of alpha xs fs (entry_of quote caplet) sigma
-  unfolding bump_of
-  bump_refused h i = handed_on i ∙ rw (← bump_is, ← h)
-
-  module _ {fit : Fit} (h : Ok fit ≡ bumped_fit) {d : Float} {b : Bool} (p : d ≡ diagonal_of fit.sigma sigma) (z : b ≡ finite d) where
-    pub bump_kept : b ≡ true → Ok fit ≡ bump_of alpha xs fs (entry_of quote caplet) sigma
+  module _ {fitted : Outcome Fit} (h : fitted ≡ bumped_fit) where
+    pub bump_refused : {r : Refusal} → fitted ≡ Err r → fitted ≡ bump_of alpha xs fs (entry_of quote caplet) sigma
     unfolding bump_of
-    bump_kept w = rw (← bump_is, ← h, ← p, ← z, w)
+    bump_refused e = rw (← bump_is, ← h, e)
 
-    pub bump_lost : b ≡ false → Err R.Overflow ≡ bump_of alpha xs fs (entry_of quote caplet) sigma
-    unfolding bump_of
-    bump_lost w = rw (← bump_is, ← h, ← p, ← z, w)
+    module _ {fit : Fit} (e : fitted ≡ Ok fit) {d : Float} {b : Bool} (p : d ≡ diagonal_of fit.sigma sigma) (z : b ≡ finite d) where
+      pub bump_kept : b ≡ true → Ok fit ≡ bump_of alpha xs fs (entry_of quote caplet) sigma
+      unfolding bump_of
+      bump_kept w = rw (← bump_is, ← h, e, ← p, ← z, w)
+
+      pub bump_lost : b ≡ false → Err R.Overflow ≡ bump_of alpha xs fs (entry_of quote caplet) sigma
+      unfolding bump_of
+      bump_lost w = rw (← bump_is, ← h, e, ← p, ← z, w)
 
 -- ---- as the walk takes it apart
 pub bump_is_of : (alpha : Float) (xs fs : List Float) (sigma : Float) {quote asked : Quote} {caplet named : Optionlet} → quote ≡ asked → caplet ≡ named → {o : Outcome Fit} → o ≡ bump_of alpha xs fs (entry_of quote caplet) sigma

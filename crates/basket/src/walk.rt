@@ -67,9 +67,12 @@ fn bumped(
         vol_type,
         volatility: quote.volatility + 1e-6,
     };
-    let fit = fit::caplet_fitted(moved, alpha, times, factors, caplet)?;
+    let fitted = fit::caplet_fitted(moved, alpha, times, factors, caplet);
+    let Ok(fit) = fitted else {
+        return fitted;
+    };
     if math_elementary::is_finite(diagonal_of(fit.sigma, sigma)) {
-        Ok(fit)
+        fitted
     } else {
         Err(Refusal::Overflow)
     }

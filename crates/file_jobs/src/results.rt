@@ -1,5 +1,5 @@
 // What a job is worked to, and what is told of it: document 01's number, the value or +0, and the note.
-ghost use Rattle.std.specs.Prelude.{◌≡◌};
+ghost use Rattle.std.specs.Prelude.{◌≡◌, Err};
 ghost use Rattle.file_jobs.specs.Results.{result_of_price, result_of_fit, model_value, pricer_value, note_of};
 ghost use Rattle.file_jobs.specs.Worked.{result_from};
 
@@ -23,6 +23,17 @@ pub struct JobResult {
     pub note: u64,
 }
 
+// A refused job of any kind has the value +0.
+fn turned_down(refusal: Refusal) -> JobResult
+    ensures { result ≡ result_of_price (Err refusal) }
+{
+    JobResult {
+        answer: refusal.into(),
+        value: 0.0,
+        note: 0,
+    }
+}
+
 impl From<Result<f64, Refusal>> for JobResult {
     ghost from_gives = { λ price told. told ≡ result_of_price price };
 
@@ -33,11 +44,7 @@ impl From<Result<f64, Refusal>> for JobResult {
                 value,
                 note: 0,
             },
-            Err(refusal) => JobResult {
-                answer: refusal.into(),
-                value: 0.0,
-                note: 0,
-            },
+            Err(refusal) => turned_down(refusal),
         }
     }
 }
@@ -72,11 +79,7 @@ impl From<Result<Fit, Refusal>> for JobResult {
                 value: fit.sigma,
                 note: note_of(fit),
             },
-            Err(refusal) => JobResult {
-                answer: refusal.into(),
-                value: 0.0,
-                note: 0,
-            },
+            Err(refusal) => turned_down(refusal),
         }
     }
 }

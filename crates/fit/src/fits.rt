@@ -136,8 +136,8 @@ fn caplet_worked(
         curve_part: empty,
         p: empty,
     };
-    let fit = fit_solver::solve(objective)?;
-    math_bisection::finished(fit)
+    let fitted = fit_solver::solve(objective);
+    math_bisection::finished(fitted)
 }
 
 // Kinds 10 and 11: strike and option time; the coupons are payment times and accruals.
@@ -280,6 +280,6 @@ fn terms_fitted(
         curve_part: &curve_part[..n],
         p,
     };
-    let fit = fit_solver::solve(objective)?;
-    math_bisection::finished(fit)
+    let fitted = fit_solver::solve(objective);
+    math_bisection::finished(fitted)
 }

@@ -5,3 +5,4 @@
 mod price;
 
 pub use price::{Swaption, SwaptionAhead, ahead_of, price_at};
+pub use search::Root;

@@ -3,7 +3,7 @@ ghost use Rattle.std.specs.Prelude.{◌≡◌, ◌≤◌, length};
 ghost use Rattle.hullwhite_jamshidian.specs.Ahead.{ahead_of, put_ahead, puts_ahead, price_ahead};
 
 use refusals::Refusal;
-use search::Root;
+use search::{Root, Unfound};
 
 // What no sigma changes of a swaption's price, beside its lists of terms: alpha, and of the option time the
 // stationary share, the state's deviation and the factor.
@@ -87,7 +87,14 @@ pub fn price_at(
     let mut a = [0.0; 64];
     let half_variance = hullwhite_formulas::half_variance_of(ahead.alpha, sigma, ahead.share);
     hullwhite_terms::a_list_at(half_variance, b, curve_part, &mut a[..n]);
-    let root = hullwhite_terms::find_critical_rate_of(c, &a[..n], b)?;
+    // Document 01 has the answer of a search taken apart by let .. else.
+    let found = hullwhite_terms::find_critical_rate_of(c, &a[..n], b);
+    if let Err(Unfound::NotANumber) = found {
+        return Err(Refusal::NanReached);
+    }
+    let Ok(root) = found else {
+        return Err(Refusal::NoBracket);
+    };
     let value = puts(ahead, sigma, root.rate, c, &a[..n], b, p);
     Ok(Swaption { value, root })
 }

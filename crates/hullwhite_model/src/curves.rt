@@ -77,9 +77,15 @@ fn a_found(
     requires { in_order true times.now ≡ true }
     ensures { FoundA alpha times.now factors.now t bond sigma b result }
 {
-    let p_t = curve::factor(times, factors, t)?;
-    let p_bond = curve::factor(times, factors, bond)?;
-    let p_plus = curve::factor(times, factors, t + hullwhite_formulas::day())?;
+    let Some(p_t) = curve::factor(times, factors, t) else {
+        return None;
+    };
+    let Some(p_bond) = curve::factor(times, factors, bond) else {
+        return None;
+    };
+    let Some(p_plus) = curve::factor(times, factors, t + hullwhite_formulas::day()) else {
+        return None;
+    };
     let forward = hullwhite_formulas::forward_of(p_t, p_plus);
     Some(hullwhite_formulas::a_of(alpha, t, sigma, b, forward, p_t, p_bond))
 }

@@ -25,12 +25,17 @@ fn volatility_found(times: &[f64], sigmas: &[f64], t: f64) -> Result<f64, Refusa
     refusals::served(sigma)
 }
 
-// The pillar times at or before t, as a part of the caller's own list; refused where `volatility` is on the same lists.
+// The pillar times at or before t, as a part of the caller's own list; refused where `volatility` is on the same lists:
+// `reached_answer` and `reached_part`, as one.
 pub fn pillars_reached<'a>(times: &'a [f64], sigmas: &[f64], t: f64) -> Result<&'a [f64], Refusal>
     ensures { ReachedIs (answer_of (lent result)) (value_or [] (lent result)) times.now sigmas.now t }
 {
-    reached_answer(times, sigmas, t)?;
-    Ok(curve::reached(times, t))
+    let answer = reached_answer(times, sigmas, t);
+    let part = reached_part(times, answer, t);
+    match answer {
+        Ok(()) => Ok(part),
+        Err(refusal) => Err(refusal),
+    }
 }
 
 // The answer by itself.

@@ -65,8 +65,13 @@ fn forward_near(times: &[f64], factors: &[f64], hint: &mut usize, t: f64) -> Opt
     requires { in_order true times.now ≡ true }
     ensures { result ≡ forward_at times.now factors.now t }
 {
-    let p = curve::factor_near(times, factors, hint, t)?;
-    let p_plus = curve::factor_near(times, factors, hint, t + hullwhite_formulas::day())?;
+    let Some(p) = curve::factor_near(times, factors, hint, t) else {
+        return None;
+    };
+    let Some(p_plus) = curve::factor_near(times, factors, hint, t + hullwhite_formulas::day())
+    else {
+        return None;
+    };
     Some(hullwhite_formulas::forward_of(p, p_plus))
 }
 

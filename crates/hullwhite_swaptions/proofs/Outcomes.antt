@@ -91,9 +91,9 @@ module _ (alpha : Float) (ts fs payments accruals : List Float) (strike t sigma 
 abbrev pub all_finite : Float → Root → Bool
 all_finite v r = finite v && root_finite r.rate r.bracket
 
-module _ (s : Swaption) where
-  pub finishes : all_finite s.value s.root ≡ true → Ok s ≡ finishing_swaption s
-  finishes h = rw (← and_root (finite s.value) s.root.rate s.root.bracket, h)
+module _ (priced : Outcome Swaption) (s : Swaption) (e : priced ≡ Ok s) where
+  pub finishes : all_finite s.value s.root ≡ true → Ok s ≡ following priced finishing_swaption
+  finishes h = rw (e, ← and_root (finite s.value) s.root.rate s.root.bracket, h)
 
-  pub overflows : all_finite s.value s.root ≡ false → Err R.Overflow ≡ finishing_swaption s
-  overflows h = rw (← and_root (finite s.value) s.root.rate s.root.bracket, h)
+  pub overflows : all_finite s.value s.root ≡ false → Err R.Overflow ≡ following priced finishing_swaption
+  overflows h = rw (e, ← and_root (finite s.value) s.root.rate s.root.bracket, h)

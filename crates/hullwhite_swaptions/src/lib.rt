@@ -4,5 +4,5 @@
 
 mod model;
 
-pub use hullwhite_jamshidian::Swaption;
+pub use hullwhite_jamshidian::{Root, Swaption};
 pub use model::{swaption_price, swaption_price_on};

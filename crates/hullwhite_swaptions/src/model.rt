@@ -140,15 +140,19 @@ fn model_price_on_terms(
     let mut curve_part = [0.0; 64];
     hullwhite_terms::curve_parts(forward, p_t, b, p, &mut curve_part[..n]);
     let ahead = hullwhite_jamshidian::ahead_of(alpha, t, p_t);
-    finished(hullwhite_jamshidian::price_at(ahead, sigma, c, b, &curve_part[..n], p)?)
+    let priced = hullwhite_jamshidian::price_at(ahead, sigma, c, b, &curve_part[..n], p);
+    finished(priced)
 }
 
 // Rule 13 looks at every float of the answer.
-fn finished(swaption: Swaption) -> Result<Swaption, Refusal>
-    ensures { result ≡ finishing_swaption swaption }
+fn finished(priced: Result<Swaption, Refusal>) -> Result<Swaption, Refusal>
+    ensures { result ≡ following priced finishing_swaption }
 {
+    let Ok(swaption) = priced else {
+        return priced;
+    };
     if math_elementary::is_finite(swaption.value) & swaption.root.is_finite() {
-        Ok(swaption)
+        priced
     } else {
         Err(Refusal::Overflow)
     }

@@ -1,5 +1,6 @@
 // What a fit gives back.
 ghost use Rattle.std.specs.Prelude.{◌≡◌};
+ghost use Rattle.refusals.specs.Refusals.{following};
 ghost use Rattle.math_bisection.specs.Result.{finishing_fit};
 
 use super::halving::Ends;
@@ -18,9 +19,12 @@ pub struct Fit {
 
 // Rule 13 looks at every float of the answer. A fit has no root of a search in it, so `search::Root::is_finite` does
 // not serve here: its ends bear residuals, not coupon sums.
-pub fn finished(fit: Fit) -> Result<Fit, Refusal>
-    ensures { result ≡ finishing_fit fit }
+pub fn finished(fitted: Result<Fit, Refusal>) -> Result<Fit, Refusal>
+    ensures { result ≡ following fitted finishing_fit }
 {
+    let Ok(fit) = fitted else {
+        return fitted;
+    };
     let ends = fit.ends;
     let finite = math_elementary::is_finite(fit.sigma)
         & math_elementary::is_finite(fit.residual)
@@ -29,7 +33,7 @@ pub fn finished(fit: Fit) -> Result<Fit, Refusal>
         & math_elementary::is_finite(ends.low_residual)
         & math_elementary::is_finite(ends.high_residual);
     if finite {
-        Ok(fit)
+        fitted
     } else {
         Err(Refusal::Overflow)
     }

@@ -7,7 +7,7 @@ ghost use Rattle.pricer_critical_rate.specs.Demand3.{RateRootLocated, RateNoBrac
 
 use super::rules;
 use refusals::Refusal;
-use search::Root;
+use search::{Root, Unfound};
 
 // The critical rate of terms, at most 64: an entry of each list a term. No terms have the sum 0 at every rate, and the
 // lower ladder no good one.
@@ -18,7 +18,14 @@ pub fn find_critical_rate(coefficients: &[f64], affines: &[f64], b: &[f64]) -> R
     ensures report { reported no_root result ≡ reported no_root (find_outcome coefficients.now affines.now b.now) }
 {
     rules::search_rules(coefficients, affines, b)?;
-    let root = hullwhite_terms::find_critical_rate_of(coefficients, affines, b)?;
+    // Document 01 has the answer of a search taken apart by let .. else.
+    let found = hullwhite_terms::find_critical_rate_of(coefficients, affines, b);
+    if let Err(Unfound::NotANumber) = found {
+        return Err(Refusal::NanReached);
+    }
+    let Ok(root) = found else {
+        return Err(Refusal::NoBracket);
+    };
     finished(root)
 }
 

@@ -7,7 +7,7 @@ ghost use Rattle.pricer_value.specs.Value.{priced_by, swaption_priced, finishing
 use hullwhite_terms::TermsAhead;
 use pricer_formulas::{Decomposition, Trade};
 use refusals::Refusal;
-use search::Root;
+use search::{Root, Unfound};
 
 // The value, the critical rate after the Newton step, and where the root lies: the rate before the step, the final bracket, and
 // the rungs.
@@ -101,7 +101,14 @@ fn priced_by(
     requires { (length c.now ≤ 64) × (length a.now ≡ length c.now) × (length b.now ≡ length c.now) × (length p.now ≡ length c.now) × (length own_dfs.now ≡ length c.now) }
     ensures { result ≡ priced_by trade.option deviation p_t c.now a.now b.now p.now own_dfs.now trade.notional trade.side }
 {
-    let root = hullwhite_terms::find_critical_rate_of(c, a, b)?;
+    // Document 01 has the answer of a search taken apart by let .. else.
+    let found = hullwhite_terms::find_critical_rate_of(c, a, b);
+    if let Err(Unfound::NotANumber) = found {
+        return Err(Refusal::NanReached);
+    }
+    let Ok(root) = found else {
+        return Err(Refusal::NoBracket);
+    };
     let after_step = pricer_formulas::implicit_critical_rate_of(root.rate, c, a, b)?;
     let option = trade.option;
     let common = Decomposition {

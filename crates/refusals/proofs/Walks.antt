@@ -9,12 +9,12 @@ use native.Mathlib.Numerals.{add-one}
 use lib.ListN.{length, get_or, drop, take, set}
 use lib.Seq.{drop-cons, append_snoc, take-suc-set}
 use lib.Ieee.{Float, nan}
-use Rattle.std.specs.Prelude.{Ok, Err}
 use Rattle.std.proofs.lemmas.List.{drop_more}
 use Rattle.std.proofs.Math.ListN.{drop_of_length-le}
 use Rattle.refusals.specs.declared.refusals.Refusal.TheVariants as R
 use Rattle.refusals.specs.declared.refusals.Rule.{Rule}
-use Rattle.refusals.specs.Refusals.{first_of}
+use Rattle.refusals.specs.Refusals.{and_rule, Answer}
+use Rattle.refusals.specs.Order.{in_turn}
 use Rattle.refusals.specs.declared.checks.Test.{Test}
 use Rattle.refusals.specs.Checks.{passes_of, all_of, follows_of, in_order_from, in_order}
 
@@ -69,19 +69,15 @@ unfolding in_order
 order_first strictly [] h = absurd (h refl)
 order_first strictly (x ∷ xs) h = refl
 
--- ---- the first of the rules that applies; past the end of them stands one that applies to nothing
+-- ---- the rules asked in turn, each on the answer of those before it; past the end of them stands one that applies to nothing
 abbrev none : Rule
 none = record { refusal = R.Size; applies = false }
 
-module _ (rules : List Rule) (i : ℕ) where
-  pub rule_stop : i < length rules → (get_or rules i none).applies ≡ true → first_of (drop i rules) ≡ Err (get_or rules i none).refusal
-  unfolding first_of
-  rule_stop h q = rw (drop_more rules i none h, q)
-
-  pub rule_turn : i < length rules → (get_or rules i none).applies ≡ false → first_of (drop i rules) ≡ first_of (drop (i + 1) rules)
-  unfolding first_of
+module _ (rules : List Rule) (i : ℕ) (before : Answer) where
+  pub rule_turn : {answer : Answer} → i < length rules → answer ≡ and_rule before (get_or rules i none) → in_turn answer (drop (i + 1) rules) ≡ in_turn before (drop i rules)
+  unfolding in_turn
   rule_turn h q = rw (drop_more rules i none h, q)
 
-  pub rules_end : length rules ≤ i → first_of (drop i rules) ≡ Ok tt
-  unfolding first_of
+  pub rules_end : length rules ≤ i → in_turn before (drop i rules) ≡ before
+  unfolding in_turn
   rules_end h = rw (drop_of_length-le rules h)

@@ -9,4 +9,4 @@ pub use checks::{Test, all, follows, in_order};
 pub use curves::{
     Faults, coupon_faults, curve_faults, grid_faults, pillar_faults, seeded_grid_faults,
 };
-pub use refusals::{PriceReport, Refusal, Rule, first_of, served};
+pub use refusals::{PriceReport, Refusal, Rule, and_rule, first_of, served};

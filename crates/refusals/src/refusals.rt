@@ -1,6 +1,6 @@
 // How a call is turned down: the refusals of documents 01 and 02, each under its number.
 ghost use Rattle.std.specs.Prelude.{◌≡◌};
-ghost use Rattle.refusals.specs.Refusals.{number_of, rule, first_of, reported_price, finishing};
+ghost use Rattle.refusals.specs.Refusals.{number_of, rule, and_rule, first_of, reported_price, finishing};
 
 // Why a call is turned down, in the order in which it is met.
 #[derive(Clone, Copy, Debug, PartialEq, Eq)]
@@ -66,16 +66,29 @@ impl Refusal {
     }
 }
 
-// The first of the rules that applies turns the call down.
+// One rule more, after those that came to `earlier`: the first that applies is the answer.
+pub fn and_rule(
+    earlier: Result<(), Refusal>,
+    refusal: Refusal,
+    applies: bool,
+) -> Result<(), Refusal>
+    ensures { result ≡ and_rule earlier (rule refusal applies) }
+{
+    match earlier {
+        Err(first) => Err(first),
+        Ok(()) => { if applies { Err(refusal) } else { Ok(()) } }
+    }
+}
+
+// The rules of a call, asked one after the other: the first that applies turns the call down.
 pub fn first_of(rules: &[Rule]) -> Result<(), Refusal>
     ensures { result ≡ first_of rules.now }
 {
+    let mut answer = Ok(());
     for rule in rules {
-        if rule.applies {
-            return Err(rule.refusal);
-        }
+        answer = and_rule(answer, rule.refusal, rule.applies);
     }
-    Ok(())
+    answer
 }
 
 // A value that is not finite is refused, last of all.

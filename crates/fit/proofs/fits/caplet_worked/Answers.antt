@@ -3,17 +3,11 @@ use mathlib.Core.Path.{ap}
 use lib.Ieee.{Float}
 use Rattle.ieee.specs.Rounded.{◌⊘◌}
 use Rattle.ieee.specs.Numbers.{one}
-use Rattle.refusals.proofs.Outcomes.{handed_on}
 use Rattle.hullwhite_formulas.specs.HullWhite.{optionlet_strike_of}
 use Rattle.fit.proofs.Worked.{caplet_fit}
 use Rattle.fit.proofs.fits.caplet_worked.Goals as goal
 
-pub returns-in_err-fit : goal.returns-in_err-fit
-unfolding optionlet_strike_of
-returns-in_err-fit c =
-    caplet_fit _ _ _ _ _ _ _ _ _ c.b_of.ensures c.state_deviation_of.ensures c.growth_of-growth.ensures (ap (λ (g : Float). one ⊘ g) c.growth_of-growth.ensures) c.caplet_market_price-price.ensures c.in_err-fit.ensures (handed_on c.from_residual.ensures.1)
-
 pub returns : goal.returns
 unfolding optionlet_strike_of
 returns c =
-    caplet_fit _ _ _ _ _ _ _ _ _ c.b_of.ensures c.state_deviation_of.ensures c.growth_of-growth.ensures (ap (λ (g : Float). one ⊘ g) c.growth_of-growth.ensures) c.caplet_market_price-price.ensures c.in_ok-fit.ensures c.finished.ensures
+    caplet_fit _ _ _ _ _ _ _ _ _ c.b_of.ensures c.state_deviation_of.ensures c.growth_of-growth.ensures (ap (λ (g : Float). one ⊘ g) c.growth_of-growth.ensures) c.caplet_market_price-price.ensures c.solve-fitted.ensures c.finished.ensures
