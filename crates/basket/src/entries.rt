@@ -17,7 +17,7 @@ pub struct Entries<'a> {
 impl<'a> Entries<'a> {
     ghost use Rattle.basket.specs.Lent.{lent_quote, lent_caplet};
 
-    // The quote of the entry at place i.
+    // The quote of the entry at place i. A caller walks over the entries, and asks at the place of one.
     pub fn quote(self, i: usize) -> Quote
         requires { i < length self.normals.now }
         ensures { result ≡ lent_quote self.entry.normals.now self.entry.vols.now i }
@@ -28,7 +28,7 @@ impl<'a> Entries<'a> {
         }
     }
 
-    // The caplet of the entry at place i.
+    // The caplet of the entry at place i. A caller asks at the place of one in the same way.
     pub fn caplet(self, i: usize) -> Optionlet
         requires { i < length self.normals.now }
         ensures { result ≡ lent_caplet self.entry.strikes.now self.entry.starts.now self.entry.ends.now i }

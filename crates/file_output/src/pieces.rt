@@ -63,7 +63,8 @@ fn job_piece(file: &[u8], l: Layout, k: usize, out: &mut [u8]) -> usize
     lines_on(file, l, &floats, curve, k, out)
 }
 
-// The faults of the file's curve, on its lists.
+// The faults of the file's curve, on its lists. The layout is the one that `lay_out` gave of this file; a caller has
+// the lists from `read_lists`.
 pub fn file_curve_faults(file: &[u8], l: Layout, floats: &[f64]) -> Faults
     requires { (layout_of file.now ≡ Some l) × HoldsLists file.now l floats.now }
     ensures { result ≡ curve_faults (list_of (request_of file.now l) 2) (list_of (request_of file.now l) 3) }
